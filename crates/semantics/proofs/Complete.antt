@@ -1,0 +1,129 @@
+-- The search is complete: over a whole search, the rows found are the plan list, and a cut run is found exactly where some choice is cut.
+use Prim.Native.Nat.{ℕ, zero, suc, _+_, _≤_, _<_}
+use mathlib.Core.Path.{_≡_, refl, sym, ap, ap₂, _∙_, subst}
+use mathlib.Core.Bool.{Bool, true, false, not, cond, _&&_, _||_, or-assoc, or-comm}
+use mathlib.Core.Option.{Option, none, some}
+use mathlib.Core.List.{List, [], _∷_, _++_, map}
+use native.Mathlib.Omega.{arith}
+use lib.ListN.{length, getD}
+use lib.IntN.{ℤ, pos}
+use lib.Dec.{T, leb·zero}
+use Rattle.semantics.specs.Int.{arith as work32}
+use Rattle.semantics.specs.Does.{Does, within, does}
+use Rattle.semantics.specs.Run.{Window, Ending, returns, fails, cuts, Ran, Choice, adding, belonging, before, insert, sorted, Row, rowOf, rowsOf, isCut, run, lists, Job, meaning, choices, plans, someCut}
+use Rattle.semantics.specs.Search.{Value, known, work, all32, Move, plain, found, probe, meets, paths, moves, settled, search, rowsIn, cutIn}
+use Rattle.semantics.proofs.Order.{_≼_, cond-cases}
+use Rattle.semantics.proofs.Range.{In, Sub, Within}
+use Rattle.semantics.proofs.Keep.{keep, keep-all, all-of}
+use Rattle.semantics.proofs.Ends.{ends, runs, sorted-ends}
+use Rattle.semantics.proofs.Natural.{natural}
+use Rattle.semantics.proofs.Settings.{rising-lists}
+use Rattle.semantics.proofs.Trace.{seenIn, seenOf, Keeps, search-good, in-32, seenEnd}
+
+-- ---- what is seen, in the words of the definitions
+
+rows-in : (ms : List Move) → seenIn ms .rows ≡ rowsIn ms
+unfolding seenIn rowsIn
+rows-in [] = refl
+rows-in (plain k ∷ ms) = rows-in ms
+rows-in (found r ∷ ms) = ap (λ l. r ∷ l) (rows-in ms)
+rows-in (probe o ∷ ms) = rows-in ms
+
+cut-in : (ms : List Move) → seenIn ms .cut ≡ cutIn ms
+unfolding seenIn cutIn
+cut-in [] = refl
+cut-in (plain k ∷ ms) = cut-in ms
+cut-in (found r ∷ ms) = cut-in ms
+cut-in (probe o ∷ ms) = ap (λ b. o || b) (cut-in ms)
+
+row-step : (e : Ending) (vs : List ℤ) (l : List Row) → seenEnd e vs .rows ++ l ≡ rowOf e vs l
+row-step (returns z) vs l = refl
+row-step fails vs l = refl
+row-step cuts vs l = refl
+
+rows-of : (cs : List Choice) → seenOf cs .rows ≡ rowsOf cs
+unfolding seenOf rowsOf
+rows-of [] = refl
+rows-of (c ∷ cs) = row-step (c .ran .ending) (c .values) (seenOf cs .rows) ∙ ap (rowOf (c .ran .ending) (c .values)) (rows-of cs)
+
+cut-step : (e : Ending) (vs : List ℤ) → seenEnd e vs .cut ≡ isCut e
+cut-step (returns z) vs = refl
+cut-step fails vs = refl
+cut-step cuts vs = refl
+
+cut-of : (cs : List Choice) → seenOf cs .cut ≡ someCut cs
+unfolding seenOf someCut
+cut-of [] = refl
+cut-of (c ∷ cs) = ap₂ (λ a b. a || b) (cut-step (c .ran .ending) (c .values)) (cut-of cs)
+
+-- ---- once a cut run is found, no further is looked for
+
+rows-settled : (h : Bool) (ms : List Move) → rowsIn (settled h ms) ≡ rowsIn ms
+unfolding settled rowsIn
+rows-settled h [] = refl
+rows-settled h (plain k ∷ ms) = rows-settled h ms
+rows-settled h (found r ∷ ms) = ap (λ l. r ∷ l) (rows-settled h ms)
+rows-settled false (probe o ∷ ms) = rows-settled o ms
+rows-settled true (probe o ∷ ms) = rows-settled true ms
+
+cut-settled : (ms : List Move) → cutIn (settled false ms) ≡ cutIn ms
+unfolding settled cutIn
+cut-settled [] = refl
+cut-settled (plain k ∷ ms) = cut-settled ms
+cut-settled (found r ∷ ms) = cut-settled ms
+cut-settled (probe false ∷ ms) = cut-settled ms
+cut-settled (probe true ∷ ms) = refl
+
+-- ---- sorting loses no choice that is cut
+
+swap : (a b c : Bool) → (a || (b || c)) ≡ (b || (a || c))
+swap true true c = refl
+swap true false c = refl
+swap false true c = refl
+swap false false c = refl
+
+cut-insert : (c : Choice) (cs : List Choice) → someCut (insert c cs) ≡ someCut (c ∷ cs)
+unfolding someCut insert
+cut-insert c [] = refl
+cut-insert c (d ∷ cs) = cond-cases (before c d) (λ l. someCut l ≡ someCut (c ∷ d ∷ cs)) (λ t. refl) (λ t. ap (λ b. isCut (d .ran .ending) || b) (cut-insert c cs) ∙ swap (isCut (d .ran .ending)) (isCut (c .ran .ending)) (someCut cs))
+
+cut-sorted : (cs : List Choice) → someCut (sorted cs) ≡ someCut cs
+unfolding someCut sorted
+cut-sorted [] = refl
+cut-sorted (c ∷ cs) = cut-insert c (sorted cs) ∙ ap (λ b. isCut (c .ran .ending) || b) (cut-sorted cs)
+
+-- ---- the theorem
+
+same-choices : (f g : List ℤ → Option Ran) → ((s : List ℤ) → f s ≡ g s) → (ss : List (List ℤ)) → belonging f ss ≡ belonging g ss
+unfolding belonging
+same-choices f g h [] = refl
+same-choices f g h (s ∷ ss) = ap₂ (λ r l. adding r s l) (h s) (same-choices f g h ss)
+
+module _ (j : Job) (small : Sub (j .window) all32) where
+  -- what the program of the job does over open values
+  abbrev tree : Does Value
+  tree = within (j .steps) 8 (does known work (j .steps) (j .program))
+
+  abbrev all-moves : List Move
+  all-moves = moves (paths (j .window) tree [] [])
+
+  sorted-choices : sorted (choices j) ≡ ends 0 tree (lists 8 (j .window))
+  unfolding choices meaning
+  sorted-choices =
+      ap sorted (same-choices _ _ (λ s. sym (natural (j .steps) (j .steps) (j .program) s)) (lists 8 (j .window)))
+      ∙ sorted-ends 0 tree (lists 8 (j .window)) (rising-lists (j .window) 8)
+
+  seen : seenIn all-moves ≡ seenOf (sorted (choices j))
+  unfolding meets
+  seen =
+      search-good (j .window) small (does known work (j .steps) (j .program)) (j .steps) 8 .good [] [] (omega arith) (λ i l. absurd (omega arith)) (record { keeps = λ s i l m. in-32 (j .window) small s i })
+      ∙ ap (λ l. seenOf (ends 0 tree l)) (keep-all _ (all-of (λ s. ap (λ b. b && true) (leb·zero (length s))) (lists 8 (j .window))))
+      ∙ ap seenOf (sym sorted-choices)
+
+  pub search-rows : rowsIn (search j) ≡ plans j
+  unfolding search plans
+  search-rows = rows-settled false all-moves ∙ sym (rows-in all-moves) ∙ ap (λ s. s .rows) seen ∙ rows-of (sorted (choices j))
+
+  pub search-cut : cutIn (search j) ≡ someCut (choices j)
+  unfolding search
+  search-cut = cut-settled all-moves ∙ sym (cut-in all-moves) ∙ ap (λ s. s .cut) seen ∙ cut-of (sorted (choices j)) ∙ cut-sorted (choices j)

@@ -1,0 +1,158 @@
+-- The choices of a job, sorted, are the leaves of what its program does over open values, from left to right: at each test, first the choices for which it holds.
+use Prim.Native.Nat.{ℕ, zero, suc, _≤_, _<_}
+use mathlib.Core.Path.{_≡_, refl, sym, ap, ap₂, _∙_, subst}
+use mathlib.Core.Bool.{Bool, true, false, not, cond, _&&_}
+use mathlib.Core.Option.{Option, none, some, Option·map}
+use mathlib.Core.List.{List, [], _∷_, _++_, map}
+use lib.ListN.{length}
+use lib.IntN.{ℤ}
+use lib.Dec.{T, eqb, ltb}
+use Rattle.semantics.specs.Int.{Cmp, holds}
+use Rattle.semantics.specs.Does.{Does, returned, failed, cut, step, free, test}
+use Rattle.semantics.specs.Run.{Ending, returns, fails, cuts, Ran, noting, Choice, adding, belonging, smaller, sooner, before, insert, sorted}
+use Rattle.semantics.specs.Search.{Value, unknown, under}
+use Rattle.semantics.proofs.Keep.{All, anil, acons, keep, all-keep}
+
+abbrev pub leaf : (List ℤ → Ending) → List ℤ → Choice
+leaf e s = record { ran = record { tests = []; ending = e s }; values = s }
+
+abbrev pub noted : Bool → Choice → Choice
+noted o c = record { ran = noting o (c .ran); values = c .values }
+
+abbrev pub sized : ℕ → List ℤ → Bool
+sized n s = eqb (length s) n
+
+abbrev pub longer : ℕ → List ℤ → Bool
+longer n s = ltb n (length s)
+
+abbrev pub passes : Cmp → Value → Value → List ℤ → Bool
+passes c a b s = holds c (under s a) (under s b)
+
+-- the run of a tree over open values under a whole setting, n of whose values were reached
+unfoldable pub runs : ℕ → Does Value → List ℤ → Option Ran
+runs n (returned v) s = cond (sized n s) (some (record { tests = []; ending = returns (under s v) })) none
+runs n failed s = cond (sized n s) (some (record { tests = []; ending = fails })) none
+runs n cut s = cond (sized n s) (some (record { tests = []; ending = cuts })) none
+runs n (step t) s = runs n t s
+runs n (free k) s = cond (longer n s) (runs (suc n) (k (unknown n)) s) none
+runs n (test c a b k) s = Option·map (noting (passes c a b s)) (runs n (k (passes c a b s)) s)
+
+-- the leaves, for the settings of a list
+unfoldable pub ends : ℕ → Does Value → List (List ℤ) → List Choice
+ends n (returned v) ss = map (leaf (λ s. returns (under s v))) (keep (sized n) ss)
+ends n failed ss = map (leaf (λ s. fails)) (keep (sized n) ss)
+ends n cut ss = map (leaf (λ s. cuts)) (keep (sized n) ss)
+ends n (step t) ss = ends n t ss
+ends n (free k) ss = ends (suc n) (k (unknown n)) (keep (longer n) ss)
+ends n (test c a b k) ss = map (noted true) (ends n (k true) (keep (passes c a b) ss)) ++ map (noted false) (ends n (k false) (keep (λ s. not (passes c a b s)) ss))
+
+-- ---- a list of settings in their order
+
+pub data Rising : List (List ℤ) → Type 0 where
+  rnil : Rising []
+  rcons : {s : List ℤ} {ss : List (List ℤ)} → All (λ u. T (smaller s u)) ss → Rising ss → Rising (s ∷ ss)
+
+pub rising-keep : (p : List ℤ → Bool) {ss : List (List ℤ)} → Rising ss → Rising (keep p ss)
+unfolding keep
+rising-keep p rnil = rnil
+rising-keep p (rcons {s} {ss} h r) = go (p s) (rising-keep p r)
+  where
+    go : (b : Bool) → Rising (keep p ss) → Rising (cond b (s ∷ keep p ss) (keep p ss))
+    go true k = rcons (all-keep p h) k
+    go false k = k
+
+-- ---- sorting
+
+-- settings in their order, all with the same tests, are sorted
+insert-first : (e : List ℤ → Ending) (s : List ℤ) {ss : List (List ℤ)} → All (λ u. T (smaller s u)) ss → insert (leaf e s) (map (leaf e) ss) ≡ leaf e s ∷ map (leaf e) ss
+unfolding insert before sooner
+insert-first e s anil = refl
+insert-first e s (acons {x} {xs} h t) = go (smaller s x) h
+  where
+    go : (b : Bool) → T b → cond b (leaf e s ∷ leaf e x ∷ map (leaf e) xs) (leaf e x ∷ insert (leaf e s) (map (leaf e) xs)) ≡ leaf e s ∷ leaf e x ∷ map (leaf e) xs
+    go true h = refl
+
+sorted-leaves : (e : List ℤ → Ending) {ss : List (List ℤ)} → Rising ss → sorted (map (leaf e) ss) ≡ map (leaf e) ss
+unfolding sorted
+sorted-leaves e rnil = refl
+sorted-leaves e (rcons {s} h r) = ap (insert (leaf e s)) (sorted-leaves e r) ∙ insert-first e s h
+
+-- a choice for which the test held goes among those for which it held
+insert-true : (c : Choice) (l m : List Choice) → insert (noted true c) (map (noted true) l ++ map (noted false) m) ≡ map (noted true) (insert c l) ++ map (noted false) m
+unfolding insert before sooner
+insert-true c [] [] = refl
+insert-true c [] (x ∷ m) = refl
+insert-true c (x ∷ l) m = go (before c x) (insert-true c l m)
+  where
+    go : (b : Bool) → insert (noted true c) (map (noted true) l ++ map (noted false) m) ≡ map (noted true) (insert c l) ++ map (noted false) m
+        → cond b (noted true c ∷ noted true x ∷ (map (noted true) l ++ map (noted false) m)) (noted true x ∷ insert (noted true c) (map (noted true) l ++ map (noted false) m)) ≡ map (noted true) (cond b (c ∷ x ∷ l) (x ∷ insert c l)) ++ map (noted false) m
+    go true h = refl
+    go false h = ap (λ r. noted true x ∷ r) h
+
+insert-false : (c : Choice) (l m : List Choice) → insert (noted false c) (map (noted true) l ++ map (noted false) m) ≡ map (noted true) l ++ map (noted false) (insert c m)
+unfolding insert before sooner
+insert-false c [] [] = refl
+insert-false c [] (x ∷ m) = go (before c x) (insert-false c [] m)
+  where
+    go : (b : Bool) → insert (noted false c) (map (noted false) m) ≡ map (noted false) (insert c m)
+        → cond b (noted false c ∷ noted false x ∷ map (noted false) m) (noted false x ∷ insert (noted false c) (map (noted false) m)) ≡ map (noted false) (cond b (c ∷ x ∷ m) (x ∷ insert c m))
+    go true h = refl
+    go false h = ap (λ r. noted false x ∷ r) h
+insert-false c (x ∷ l) m = ap (λ r. noted true x ∷ r) (insert-false c l m)
+
+-- ---- the choices of a tree, sorted, are its leaves
+
+abbrev among : ℕ → Does Value → List (List ℤ) → List Choice
+among n t ss = belonging (runs n t) ss
+
+among-leaf : (n : ℕ) (e : List ℤ → Ending) (ss : List (List ℤ)) → belonging (λ s. cond (sized n s) (some (record { tests = []; ending = e s })) none) ss ≡ map (leaf e) (keep (sized n) ss)
+unfolding belonging keep
+among-leaf n e [] = refl
+among-leaf n e (s ∷ ss) = go (sized n s) (keep (sized n) ss) (among-leaf n e ss)
+  where
+    go : (b : Bool) {l : List Choice} (m : List (List ℤ)) → l ≡ map (leaf e) m → adding (cond b (some (record { tests = []; ending = e s })) none) s l ≡ map (leaf e) (cond b (s ∷ m) m)
+    go true m h = ap (λ r. leaf e s ∷ r) h
+    go false m h = h
+
+among-free : (n : ℕ) (k : Value → Does Value) (ss : List (List ℤ)) → among n (free k) ss ≡ among (suc n) (k (unknown n)) (keep (longer n) ss)
+unfolding belonging keep runs
+among-free n k [] = refl
+among-free n k (s ∷ ss) = go (longer n s) (keep (longer n) ss) (among-free n k ss)
+  where
+    go : (b : Bool) {l : List Choice} (m : List (List ℤ)) → l ≡ among (suc n) (k (unknown n)) m → adding (cond b (runs (suc n) (k (unknown n)) s) none) s l ≡ among (suc n) (k (unknown n)) (cond b (s ∷ m) m)
+    go true m h = ap (adding (runs (suc n) (k (unknown n)) s) s) h
+    go false m h = h
+
+among-test : (n : ℕ) (c : Cmp) (a b : Value) (k : Bool → Does Value) (ss : List (List ℤ))
+    → sorted (among n (test c a b k) ss) ≡ map (noted true) (sorted (among n (k true) (keep (passes c a b) ss))) ++ map (noted false) (sorted (among n (k false) (keep (λ s. not (passes c a b s)) ss)))
+unfolding belonging keep runs sorted
+among-test n c a b k [] = refl
+among-test n c a b k (s ∷ ss) = go (passes c a b s) (among n (test c a b k) ss) (keep (passes c a b) ss) (keep (λ s. not (passes c a b s)) ss) (among-test n c a b k ss)
+  where
+    held : (o : Option Ran) (l m p : List Choice) → sorted l ≡ map (noted true) (sorted m) ++ map (noted false) (sorted p)
+        → sorted (adding (Option·map (noting true) o) s l) ≡ map (noted true) (sorted (adding o s m)) ++ map (noted false) (sorted p)
+    held none l m p h = h
+    held (some r) l m p h = ap (insert (noted true (record { ran = r; values = s }))) h ∙ insert-true (record { ran = r; values = s }) (sorted m) (sorted p)
+
+    failed′ : (o : Option Ran) (l m p : List Choice) → sorted l ≡ map (noted true) (sorted m) ++ map (noted false) (sorted p)
+        → sorted (adding (Option·map (noting false) o) s l) ≡ map (noted true) (sorted m) ++ map (noted false) (sorted (adding o s p))
+    failed′ none l m p h = h
+    failed′ (some r) l m p h = ap (insert (noted false (record { ran = r; values = s }))) h ∙ insert-false (record { ran = r; values = s }) (sorted m) (sorted p)
+
+    go : (h : Bool) (l : List Choice) (m p : List (List ℤ)) → sorted l ≡ map (noted true) (sorted (among n (k true) m)) ++ map (noted false) (sorted (among n (k false) p))
+        → sorted (adding (Option·map (noting h) (runs n (k h) s)) s l) ≡ map (noted true) (sorted (among n (k true) (cond h (s ∷ m) m))) ++ map (noted false) (sorted (among n (k false) (cond (not h) (s ∷ p) p)))
+    go true l m p h = held (runs n (k true) s) l (among n (k true) m) (among n (k false) p) h
+    go false l m p h = failed′ (runs n (k false) s) l (among n (k true) m) (among n (k false) p) h
+
+pub sorted-ends : (n : ℕ) (t : Does Value) (ss : List (List ℤ)) → Rising ss → sorted (among n t ss) ≡ ends n t ss
+unfolding ends runs
+sorted-ends n (returned v) ss r = ap sorted (among-leaf n (λ s. returns (under s v)) ss) ∙ sorted-leaves (λ s. returns (under s v)) (rising-keep (sized n) r)
+sorted-ends n failed ss r = ap sorted (among-leaf n (λ s. fails) ss) ∙ sorted-leaves (λ s. fails) (rising-keep (sized n) r)
+sorted-ends n cut ss r = ap sorted (among-leaf n (λ s. cuts) ss) ∙ sorted-leaves (λ s. cuts) (rising-keep (sized n) r)
+sorted-ends n (step t) ss r = sorted-ends n t ss r
+sorted-ends n (free k) ss r = ap sorted (among-free n k ss) ∙ sorted-ends (suc n) (k (unknown n)) (keep (longer n) ss) (rising-keep (longer n) r)
+sorted-ends n (test c a b k) ss r =
+    among-test n c a b k ss
+    ∙ ap₂ (λ l m. map (noted true) l ++ map (noted false) m)
+    (sorted-ends n (k true) (keep (passes c a b) ss) (rising-keep (passes c a b) r))
+    (sorted-ends n (k false) (keep (λ s. not (passes c a b s)) ss) (rising-keep (λ s. not (passes c a b s)) r))

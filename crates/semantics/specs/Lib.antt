@@ -1,0 +1,6 @@
+-- What a reader must believe: integers, programs, what they do, runs and the plan list, the search and what list answers.
+pub mod Int
+pub mod Program
+pub mod Does
+pub mod Run
+pub mod Search

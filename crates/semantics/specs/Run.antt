@@ -1,0 +1,141 @@
+-- Runs with chosen values, the choices that belong to a job, and the plan list. Nothing here knows of the search.
+use Prim.Native.Nat.{ℕ, zero, suc}
+use mathlib.Core.Bool.{Bool, true, false, cond, _||_}
+use mathlib.Core.Option.{Option, none, some, Option·map}
+use mathlib.Core.List.{List, [], _∷_, _++_, map}
+use lib.IntN.{ℤ, pos, negsuc, sucℤ, _-ℤ_}
+use lib.Signed.{ltZ, leZ}
+use Rattle.semantics.specs.Int.{arith, holds}
+use Rattle.semantics.specs.Program.{Program}
+use Rattle.semantics.specs.Does.{Does, returned, failed, cut, step, free, test, does, within}
+
+-- ---- a run
+
+pub data Ending : Type 0 where
+  returns : ℤ → Ending
+  fails cuts : Ending
+
+pub record Ran : Type 0 where
+  pub tests : List Bool
+  pub ending : Ending
+
+unfoldable pub exactly : Ending → List ℤ → Option Ran
+exactly e [] = some (record { tests = []; ending = e })
+exactly e (v ∷ vs) = none
+
+abbrev pub noting : Bool → Ran → Ran
+noting o r = record { tests = o ∷ r .tests; ending = r .ending }
+
+-- the run with these values; none if it reaches more or fewer free declarations than there are values
+unfoldable pub run : Does ℤ → List ℤ → Option Ran
+run (returned z) vs = exactly (returns z) vs
+run failed vs = exactly fails vs
+run cut vs = exactly cuts vs
+run (step t) vs = run t vs
+run (free k) [] = none
+run (free k) (v ∷ vs) = run (k v) vs
+run (test c a b k) vs = Option·map (noting (holds c a b)) (run (k (holds c a b)) vs)
+
+-- ---- the choices that belong to a job
+
+pub record Window : Type 0 where
+  pub low : ℤ
+  pub high : ℤ
+
+unfoldable pub counting : ℤ → ℕ → List ℤ
+counting z zero = []
+counting z (suc n) = z ∷ counting (sucℤ z) n
+
+unfoldable pub clamp : ℤ → ℕ
+clamp (pos n) = n
+clamp (negsuc n) = 0
+
+-- the numbers of a window, upward
+unfoldable pub numbers : Window → List ℤ
+numbers w = counting (w .low) (clamp (sucℤ (w .high) -ℤ w .low))
+
+unfoldable pub each : {A B : Type 0} → (A → List B) → List A → List B
+each f [] = []
+each f (x ∷ xs) = f x ++ each f xs
+
+-- all lists of at most n numbers of a window
+unfoldable pub lists : ℕ → Window → List (List ℤ)
+lists zero w = [] ∷ []
+lists (suc n) w = [] ∷ each (λ v. map (λ vs. v ∷ vs) (lists n w)) (numbers w)
+
+pub record Choice : Type 0 where
+  pub ran : Ran
+  pub values : List ℤ
+
+abbrev pub adding : Option Ran → List ℤ → List Choice → List Choice
+adding none vs cs = cs
+adding (some r) vs cs = record { ran = r; values = vs } ∷ cs
+
+unfoldable pub belonging : (List ℤ → Option Ran) → List (List ℤ) → List Choice
+belonging f [] = []
+belonging f (vs ∷ l) = adding (f vs) vs (belonging f l)
+
+-- ---- the plan list
+
+-- a stands before b where the tests first differ; where they are equal, the values decide
+unfoldable pub smaller : List ℤ → List ℤ → Bool
+smaller [] w = true
+smaller (v ∷ vs) [] = false
+smaller (v ∷ vs) (w ∷ ws) = cond (ltZ v w) true (cond (ltZ w v) false (smaller vs ws))
+
+unfoldable pub sooner : List Bool → List Bool → Bool → Bool
+sooner [] t d = d
+sooner (a ∷ s) [] d = d
+sooner (true ∷ s) (true ∷ t) d = sooner s t d
+sooner (true ∷ s) (false ∷ t) d = true
+sooner (false ∷ s) (true ∷ t) d = false
+sooner (false ∷ s) (false ∷ t) d = sooner s t d
+
+unfoldable pub before : Choice → Choice → Bool
+before a b = sooner (a .ran .tests) (b .ran .tests) (smaller (a .values) (b .values))
+
+unfoldable pub insert : Choice → List Choice → List Choice
+insert a [] = a ∷ []
+insert a (b ∷ bs) = cond (before a b) (a ∷ b ∷ bs) (b ∷ insert a bs)
+
+unfoldable pub sorted : List Choice → List Choice
+sorted [] = []
+sorted (a ∷ l) = insert a (sorted l)
+
+pub record Row : Type 0 where
+  pub result : ℤ
+  pub values : List ℤ
+
+abbrev pub rowOf : Ending → List ℤ → List Row → List Row
+rowOf (returns z) vs rs = record { result = z; values = vs } ∷ rs
+rowOf fails vs rs = rs
+rowOf cuts vs rs = rs
+
+unfoldable pub rowsOf : List Choice → List Row
+rowsOf [] = []
+rowsOf (c ∷ cs) = rowOf (c .ran .ending) (c .values) (rowsOf cs)
+
+-- a job: a program, a window and a limit of steps
+pub record Job : Type 0 where
+  pub program : Program
+  pub window : Window
+  pub steps : ℕ
+
+unfoldable pub meaning : Job → Does ℤ
+meaning j = within (j .steps) 8 (does (λ z. z) arith (j .steps) (j .program))
+
+unfoldable pub choices : Job → List Choice
+choices j = belonging (run (meaning j)) (lists 8 (j .window))
+
+unfoldable pub plans : Job → List Row
+plans j = rowsOf (sorted (choices j))
+
+-- whether some choice's run is cut
+abbrev pub isCut : Ending → Bool
+isCut (returns z) = false
+isCut fails = false
+isCut cuts = true
+
+unfoldable pub someCut : List Choice → Bool
+someCut [] = false
+someCut (c ∷ cs) = isCut (c .ran .ending) || someCut cs

@@ -1,0 +1,136 @@
+-- The machine: it works one entry of the code at a time, without recursion.
+-- Only the results of operations and calls are kept among the temporaries, so that there are at most as many as steps were made.
+use Prim.Native.Nat.{ℕ, zero, suc, _+_, _-_}
+use mathlib.Core.Bool.{Bool, true, false}
+use mathlib.Core.List.{List, [], _∷_}
+use lib.ListN.{getD}
+use lib.IntN.{ℤ, pos}
+use Rattle.semantics.specs.Int.{Op, Cmp}
+use Rattle.semantics.specs.Does.{fetch, store, frame}
+use Rattle.simulation.specs.Code.{number, name, Act, Entry, leaf, argument, act, Code}
+
+-- where a caller goes on, with its temporaries and its frame
+pub record Caller (X : Type 0) : Type 0 where
+  pub pc : ℕ
+  pub temps : List X
+  pub frame : List X
+
+pub record Machine (X : Type 0) : Type 0 where
+  pub pc : ℕ
+  -- the outcome of the last comparison or constant
+  pub flag : Bool
+  -- the newest first
+  pub temps : List X
+  pub frame : List X
+  pub callers : List (Caller X)
+  -- the calls that may still nest
+  pub left : ℕ
+
+-- what one entry does; a test is a step and then the comparison
+pub data Doing (X : Type 0) : Type 0 where
+  silent step : Machine X → Doing X
+  free : (X → Machine X) → Doing X
+  test : Cmp → X → X → (Bool → Machine X) → Doing X
+  returned : X → Doing X
+  failed cut : Doing X
+
+-- an operand taken, two operands taken, or the arguments of a call, and the temporaries that are left
+pub record Taken (X : Type 0) : Type 0 where
+  pub value : X
+  pub rest : List X
+
+pub record Two (X : Type 0) : Type 0 where
+  pub first : X
+  pub second : X
+  pub rest : List X
+
+pub record Gathered (X : Type 0) : Type 0 where
+  pub values : List X
+  pub rest : List X
+
+module _ {X : Type 0} where
+  abbrev pub machine : ℕ → Bool → List X → List X → List (Caller X) → ℕ → Machine X
+  machine i b ts f cs d = record { pc = i; flag = b; temps = ts; frame = f; callers = cs; left = d }
+
+-- how far apart the ends of two arguments are
+abbrev pub extent : Entry → ℕ
+extent (leaf l) = 0
+extent (argument d) = d
+extent (act a) = 0
+
+abbrev pub before : ℕ → ℕ
+before zero = zero
+before (suc j) = j
+
+abbrev pub landing : Bool → Bool → ℕ → ℕ → ℕ
+landing true true d i = i + d
+landing true false d i = i
+landing false true d i = i
+landing false false d i = i + d
+
+module _ {X : Type 0} (num : ℤ → X) (work : Op → X → X → X) (c : Code) where
+  abbrev pub entryAt : ℕ → Entry
+  entryAt i = getD (c .entries) i (act Act.fail)
+
+  abbrev pub popped : List X → Taken X
+  popped [] = record { value = num (pos 0); rest = [] }
+  popped (v ∷ ts) = record { value = v; rest = ts }
+
+  abbrev pub reading : List X → List X → Entry → Taken X
+  reading f ts (leaf (number z)) = record { value = num z; rest = ts }
+  reading f ts (leaf (name a)) = record { value = fetch (num (pos 0)) f a; rest = ts }
+  reading f ts (argument d) = popped ts
+  reading f ts (act a) = popped ts
+
+  -- the operand that ends just before entry j
+  abbrev pub taken : List X → List X → ℕ → Taken X
+  taken f ts zero = popped ts
+  taken f ts (suc r) = reading f ts (entryAt r)
+
+  -- two operands, the right one of which ends just before entry j and has d entries
+  abbrev pub two : List X → List X → ℕ → ℕ → Two X
+  two f ts j d = let r = taken f ts j in let l = taken f (r .rest) (j - d) in record { first = l .value; second = r .value; rest = l .rest }
+
+  -- n arguments, the last of which ends just before entry j, in front of the arguments vs
+  unfoldable pub gather : List X → List X → ℕ → ℕ → List X → Gathered X
+  gather f ts zero j vs = record { values = vs; rest = ts }
+  gather f ts (suc n) j vs = let r = taken f ts (before j) in gather f (r .rest) n (before j - extent (entryAt (before j))) (r .value ∷ vs)
+
+  -- a call entered, which is cut where no more calls may nest
+  abbrev pub entering : ℕ → ℕ → Gathered X → ℕ → Bool → List X → List (Caller X) → Doing X
+  entering zero g a i b f cs = Doing.cut
+  entering (suc d) g a i b f cs = Doing.step (machine (getD (c .starts) g 2) b [] (frame (num (pos 0)) 16 (a .values)) (record { pc = suc i; temps = a .rest; frame = f } ∷ cs) d)
+
+  -- a function left with its value
+  abbrev pub leaving : List (Caller X) → X → Bool → ℕ → Doing X
+  leaving [] v b d = Doing.returned v
+  leaving (r ∷ cs) v b d = Doing.silent (machine (r .pc) b (v ∷ r .temps) (r .frame) cs (suc d))
+
+  module _ (i : ℕ) (b : Bool) (ts f : List X) (cs : List (Caller X)) (d : ℕ) where
+    abbrev pub acting : Act → Doing X
+    acting (Act.operate o n) = let t = two f ts i n in Doing.step (machine (suc i) b (work o (t .first) (t .second) ∷ t .rest) f cs d)
+    acting (Act.compare o n) = let t = two f ts i n in Doing.test o (t .first) (t .second) (λ r. machine (suc i) r (t .rest) f cs d)
+    acting (Act.call g n) = entering d g (gather f ts n i []) i b f cs
+    acting (Act.constant o) = Doing.silent (machine (suc i) o ts f cs d)
+    acting (Act.jump o n) = Doing.silent (machine (landing o b n (suc i)) b ts f cs d)
+    acting (Act.skip n) = Doing.silent (machine (suc i + n) b ts f cs d)
+    acting (Act.again n) = Doing.step (machine (i - n) b ts f cs d)
+    acting Act.begin = Doing.step (machine (suc i) b ts f cs d)
+    acting (Act.clear a) = Doing.step (machine (suc i) b ts (store f a (num (pos 0))) cs d)
+    acting (Act.ask a) = Doing.free (λ v. machine (suc i) b ts (store f a v) cs d)
+    acting (Act.store a) = let t = taken f ts i in Doing.silent (machine (suc i) b (t .rest) (store f a (t .value)) cs d)
+    acting Act.return = leaving cs (taken f ts i .value) b d
+    acting Act.fail = Doing.failed
+
+    abbrev pub working : Entry → Doing X
+    working (leaf l) = Doing.silent (machine (suc i) b ts f cs d)
+    working (argument n) = Doing.silent (machine (suc i) b ts f cs d)
+    working (act a) = acting a
+
+  -- one entry worked
+  unfoldable pub advance : Machine X → Doing X
+  advance m = working (m .pc) (m .flag) (m .temps) (m .frame) (m .callers) (m .left) (entryAt (m .pc))
+
+  -- where a run starts
+  abbrev pub start : Machine X
+  start = machine 0 false [] (frame (num (pos 0)) 16 []) [] 32

@@ -1,0 +1,2 @@
+-- Tokens, syntax trees and the table that holds a tree.
+pub mod Token

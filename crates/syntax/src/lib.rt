@@ -1,0 +1,1 @@
+// Tokens, syntax trees and the table that holds a tree.
