@@ -1,0 +1,46 @@
+-- Abstract syntax trees: the concrete ones without the grammar's ranks. The rules of a text speak of these.
+-- A number in a tree is that of a token in the token list; a comment says of which.
+use Prim.Native.Nat.{ℕ}
+use mathlib.Core.List.{List}
+use Rattle.syntax.specs.Tree.{Cmp}
+
+pub data Sort : Type 0 where
+  expr args mark cond stmt stmts body params fun prog : Sort
+
+pub data Ast : Sort → Type 0 where
+  -- an expression: the first token of its own (the minus, the name, the opening bracket)
+  number : ℕ → Ast expr
+  negative : ℕ → Ast expr
+  name : ℕ → Ast expr
+  call : ℕ → Ast args → Ast expr
+  bracket : ℕ → Ast expr → Ast expr
+  times plus minus : Ast expr → Ast expr → Ast expr
+  -- arguments, left to right
+  noArgs : Ast args
+  moreArgs : Ast args → Ast expr → Ast args
+  -- a condition
+  cmpMark : Cmp → Ast mark
+  always never : Ast cond
+  compare : Ast expr → Ast mark → Ast expr → Ast cond
+  both either : Ast cond → Ast cond → Ast cond
+  -- a statement: its first token (the name of a declaration is the token after it)
+  empty : ℕ → Ast stmt
+  declare : ℕ → Ast stmt
+  declareFree : ℕ → Ast stmt
+  assign : ℕ → Ast expr → Ast stmt
+  eval : Ast expr → Ast stmt
+  block : ℕ → Ast body → Ast stmt
+  ifElse : ℕ → Ast cond → Ast stmt → Ast stmt → Ast stmt
+  while : ℕ → Ast cond → Ast stmt → Ast stmt
+  return : ℕ → Ast expr → Ast stmt
+  fail : ℕ → Ast stmt
+  -- statements, left to right; in braces: the closing brace
+  noStmts : Ast stmts
+  moreStmts : Ast stmts → Ast stmt → Ast stmts
+  braced : Ast stmts → ℕ → Ast body
+  -- parameters, left to right: the names; a function: its name; the functions of a program
+  noParams : Ast params
+  moreParams : Ast params → ℕ → Ast params
+  function : ℕ → Ast params → Ast body → Ast fun
+  noFuns : Ast prog
+  moreFuns : Ast prog → Ast fun → Ast prog
