@@ -133,12 +133,12 @@ pub record Row (l : List ℕ) (i k t a b c : ℕ) : Type 0 where
 
 -- ---- trees
 
--- node i, of kind k, is the root of a tree. Of a name, a call, a declaration and an assignment the last word is left open: the checker writes there which variable or function is meant
+-- node i, of kind k, is the root of a tree
 pub data At (l : List ℕ) : (s : Sort) → ℕ → ℕ → Ast s → Type 0 where
   at-number : {i t : ℕ} → Row l i nNumber t 0 0 0 → At l A.expr i nNumber (A.number t)
   at-negative : {i t : ℕ} → Row l i nNegative t 0 0 0 → At l A.expr i nNegative (A.negative t)
-  at-name : {i t w : ℕ} → Row l i nName t 0 0 w → At l A.expr i nName (A.name t)
-  at-call : {i t a k w : ℕ} {x : Ast A.args} → Row l i nCall t a 0 w → a < i → At l A.args a k x → At l A.expr i nCall (A.call t x)
+  at-name : {i t : ℕ} → Row l i nName t 0 0 0 → At l A.expr i nName (A.name t)
+  at-call : {i t a k : ℕ} {x : Ast A.args} → Row l i nCall t a 0 0 → a < i → At l A.args a k x → At l A.expr i nCall (A.call t x)
   at-bracket : {i t a k : ℕ} {x : Ast A.expr} → Row l i nBracket t a 0 0 → a < i → At l A.expr a k x → At l A.expr i nBracket (A.bracket t x)
   at-times : {i a b j k : ℕ} {x y : Ast A.expr} → Row l i nTimes 0 a b 0 → a < i → b < i → At l A.expr a j x → At l A.expr b k y → At l A.expr i nTimes (A.times x y)
   at-plus : {i a b j k : ℕ} {x y : Ast A.expr} → Row l i nPlus 0 a b 0 → a < i → b < i → At l A.expr a j x → At l A.expr b k y → At l A.expr i nPlus (A.plus x y)
@@ -151,9 +151,9 @@ pub data At (l : List ℕ) : (s : Sort) → ℕ → ℕ → Ast s → Type 0 whe
   at-both : {i a b j k : ℕ} {x y : Ast A.cond} → Row l i nBoth 0 a b 0 → a < i → b < i → At l A.cond a j x → At l A.cond b k y → At l A.cond i nBoth (A.both x y)
   at-either : {i a b j k : ℕ} {x y : Ast A.cond} → Row l i nEither 0 a b 0 → a < i → b < i → At l A.cond a j x → At l A.cond b k y → At l A.cond i nEither (A.either x y)
   at-empty : {i t : ℕ} → Row l i nEmpty t 0 0 0 → At l A.stmt i nEmpty (A.empty t)
-  at-declare : {i t w : ℕ} → Row l i nDeclare t 0 0 w → At l A.stmt i nDeclare (A.declare t)
-  at-declare-free : {i t w : ℕ} → Row l i nDeclareFree t 0 0 w → At l A.stmt i nDeclareFree (A.declareFree t)
-  at-assign : {i t a k w : ℕ} {x : Ast A.expr} → Row l i nAssign t a 0 w → a < i → At l A.expr a k x → At l A.stmt i nAssign (A.assign t x)
+  at-declare : {i t : ℕ} → Row l i nDeclare t 0 0 0 → At l A.stmt i nDeclare (A.declare t)
+  at-declare-free : {i t : ℕ} → Row l i nDeclareFree t 0 0 0 → At l A.stmt i nDeclareFree (A.declareFree t)
+  at-assign : {i t a k : ℕ} {x : Ast A.expr} → Row l i nAssign t a 0 0 → a < i → At l A.expr a k x → At l A.stmt i nAssign (A.assign t x)
   at-eval : {i a k : ℕ} {x : Ast A.expr} → Row l i nEval 0 a 0 0 → a < i → At l A.expr a k x → At l A.stmt i nEval (A.eval x)
   at-block : {i t a k : ℕ} {x : Ast A.body} → Row l i nBlock t a 0 0 → a < i → At l A.body a k x → At l A.stmt i nBlock (A.block t x)
   at-if-else : {i t a b c h j k : ℕ} {x : Ast A.cond} {y z : Ast A.stmt} → Row l i nIfElse t a b c → a < i → b < i → c < i → At l A.cond a h x → At l A.stmt b j y → At l A.stmt c k z → At l A.stmt i nIfElse (A.ifElse t x y z)

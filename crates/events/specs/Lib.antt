@@ -1,0 +1,3 @@
+-- What the rules of a text speak of.
+pub mod Event
+pub mod Stored
