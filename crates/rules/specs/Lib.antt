@@ -1,0 +1,5 @@
+-- The rules of a text.
+pub mod Scan
+pub mod Rules
+pub mod Names
+pub mod Resolve
