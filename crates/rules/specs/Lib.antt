@@ -1,5 +1,6 @@
 -- The rules of a text.
 pub mod Scan
+pub mod Spelling
 pub mod Rules
 pub mod Names
 pub mod Resolve

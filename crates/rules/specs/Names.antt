@@ -56,10 +56,10 @@ abbrev pub asFound : Option ℕ → ℕ → List Meaning
 asFound none i = []
 asFound (some n) i = meaning i n ∷ []
 
--- the meaning of token i (0 if it has none)
-unfoldable pub meant : List Meaning → ℕ → ℕ
-meant [] i = 0
-meant (m ∷ ms) i = cond (eqb (m .token) i) (m .means) (meant ms i)
+-- what each token means after some meanings; f says what it meant before
+unfoldable pub meant : (ℕ → ℕ) → List Meaning → ℕ → ℕ
+meant f [] i = f i
+meant f (m ∷ ms) i = meant (λ j. cond (eqb (m .token) j) (m .means) (f j)) ms i
 
 -- `same i j`: the tokens i and j spell the same name
 module _ (same : ℕ → ℕ → Bool) where

@@ -1,0 +1,207 @@
+-- From bytes to tokens: document 01, "The text", and "Check", numbers 1 to 3. A text is the list of its bytes.
+use Prim.Native.Nat.{ℕ, zero, suc, _+_, _-_, _*_}
+use mathlib.Core.Bool.{Bool, true, false, _&&_, _||_}
+use mathlib.Core.List.{List, [], _∷_, _++_}
+use lib.ListN.{length, take}
+use lib.Dec.{eqb, leb, ltb}
+use Rattle.syntax.specs.Token.{
+  kEnd,
+  kName,
+  kNumber,
+  kInt,
+  kFree,
+  kIf,
+  kElse,
+  kWhile,
+  kReturn,
+  kFail,
+  kTrue,
+  kFalse,
+  kOpen,
+  kClose,
+  kLbrace,
+  kRbrace,
+  kSemi,
+  kComma,
+  kAssign,
+  kLess,
+  kLessEq,
+  kGreater,
+  kGreaterEq,
+  kEqual,
+  kUnequal,
+  kAnd,
+  kOr,
+  kPlus,
+  kMinus,
+  kTimes,
+}
+
+-- "Bytes: letters, digits, underscore, blank, tab, LF, CR and the marks .."
+abbrev pub between : ℕ → ℕ → ℕ → Bool
+between a z b = leb a b && leb b z
+
+-- 0 to 9
+abbrev pub isDigit : ℕ → Bool
+isDigit b = between 48 57 b
+
+-- A to Z, a to z
+abbrev pub isLetter : ℕ → Bool
+isLetter b = between 65 90 b || between 97 122 b
+
+-- a byte of a name after its first: a letter, a digit or an underscore
+abbrev pub isWord : ℕ → Bool
+isWord b = isDigit b || isLetter b || eqb b 95
+
+-- blank, tab, LF, CR
+abbrev pub isBlank : ℕ → Bool
+isBlank b = eqb b 32 || eqb b 9 || eqb b 10 || eqb b 13
+
+-- every byte has p
+unfoldable pub all : (ℕ → Bool) → List ℕ → Bool
+all p [] = true
+all p (b ∷ bs) = elim (p b) [ true ↦ all p bs | false ↦ false ]
+
+-- two lists of bytes are the same
+unfoldable pub same : List ℕ → List ℕ → Bool
+same [] [] = true
+same [] (y ∷ ys) = false
+same (x ∷ xs) [] = false
+same (x ∷ xs) (y ∷ ys) = eqb x y && same xs ys
+
+-- "Reserved: int free if else while return fail true false."
+abbrev pub words : List (List ℕ × ℕ)
+words =
+    (105 ∷ 110 ∷ 116 ∷ [], kInt)
+    ∷ (102 ∷ 114 ∷ 101 ∷ 101 ∷ [], kFree)
+    ∷ (105 ∷ 102 ∷ [], kIf)
+    ∷ (101 ∷ 108 ∷ 115 ∷ 101 ∷ [], kElse)
+    ∷ (119 ∷ 104 ∷ 105 ∷ 108 ∷ 101 ∷ [], kWhile)
+    ∷ (114 ∷ 101 ∷ 116 ∷ 117 ∷ 114 ∷ 110 ∷ [], kReturn)
+    ∷ (102 ∷ 97 ∷ 105 ∷ 108 ∷ [], kFail)
+    ∷ (116 ∷ 114 ∷ 117 ∷ 101 ∷ [], kTrue)
+    ∷ (102 ∷ 97 ∷ 108 ∷ 115 ∷ 101 ∷ [], kFalse)
+    ∷ []
+
+-- single marks ( ) { } ; , = < > + - * and the pairs <= >= == != && ||
+abbrev pub marks : List (List ℕ × ℕ)
+marks =
+    (40 ∷ [], kOpen)
+    ∷ (41 ∷ [], kClose)
+    ∷ (123 ∷ [], kLbrace)
+    ∷ (125 ∷ [], kRbrace)
+    ∷ (59 ∷ [], kSemi)
+    ∷ (44 ∷ [], kComma)
+    ∷ (61 ∷ [], kAssign)
+    ∷ (60 ∷ [], kLess)
+    ∷ (62 ∷ [], kGreater)
+    ∷ (43 ∷ [], kPlus)
+    ∷ (45 ∷ [], kMinus)
+    ∷ (42 ∷ [], kTimes)
+    ∷ (60 ∷ 61 ∷ [], kLessEq)
+    ∷ (62 ∷ 61 ∷ [], kGreaterEq)
+    ∷ (61 ∷ 61 ∷ [], kEqual)
+    ∷ (33 ∷ 61 ∷ [], kUnequal)
+    ∷ (38 ∷ 38 ∷ [], kAnd)
+    ∷ (124 ∷ 124 ∷ [], kOr)
+    ∷ []
+
+-- the kind of these bytes in a table, or another
+unfoldable pub kindIn : List (List ℕ × ℕ) → ℕ → List ℕ → ℕ
+kindIn [] other bytes = other
+kindIn (w ∷ ws) other bytes = elim (same bytes (w .0)) [ true ↦ w .1 | false ↦ kindIn ws other bytes ]
+
+-- The kind of the token that these bytes are; kEnd if they are none.
+-- "names (a letter, then letters, digits, underscores), decimal numbers, single marks, `<= >= == != && ||`"
+unfoldable pub kindOf : List ℕ → ℕ
+kindOf [] = kEnd
+kindOf (b ∷ bs) =
+    elim (isLetter b) [
+      true ↦ elim (all isWord bs) [ true ↦ kindIn words kName (b ∷ bs) | false ↦ kEnd ]
+    | false ↦ elim (isDigit b) [
+        true ↦ elim (all isDigit bs) [ true ↦ kNumber | false ↦ kEnd ]
+      | false ↦ kindIn marks kEnd (b ∷ bs)
+      ]
+    ]
+
+-- "Tokens by longest match": the size of the longest token that l begins with, of at most n bytes; 0 if it begins with none
+unfoldable pub longestWithin : ℕ → List ℕ → ℕ
+longestWithin zero l = zero
+longestWithin (suc n) l = elim (eqb (kindOf (take (suc n) l)) kEnd) [ true ↦ longestWithin n l | false ↦ suc n ]
+
+abbrev pub longest : List ℕ → ℕ
+longest l = longestWithin (length l) l
+
+-- the decimal value of digits, after digits of the value v
+unfoldable pub decimal : ℕ → List ℕ → ℕ
+decimal v [] = v
+decimal v (b ∷ bs) = decimal (10 * v + (b - 48)) bs
+
+-- a token's value: of a number the number, of any other its size in bytes
+unfoldable pub valueOf : List ℕ → ℕ
+valueOf bytes = elim (eqb (kindOf bytes) kNumber) [ true ↦ decimal 0 bytes | false ↦ length bytes ]
+
+-- a token: its kind, its place ("a token's place being its first byte") and its value
+pub record Token : Type 0 where
+  pub kind : ℕ
+  pub place : ℕ
+  pub value : ℕ
+
+-- what stands at the front of some bytes: a blank byte, a byte that begins no token, or a token
+pub data Front : Type 0 where
+  blank nothing : Front
+  token : (kind size value : ℕ) → Front
+
+unfoldable pub front : List ℕ → Front
+front [] = nothing
+front (b ∷ bs) =
+    elim (isBlank b) [
+      true ↦ blank
+    | false ↦ elim (longest (b ∷ bs)) [
+        zero ↦ nothing
+      | suc n ↦ token (kindOf (take (suc n) (b ∷ bs))) (suc n) (valueOf (take (suc n) (b ∷ bs)))
+      ]
+    ]
+
+-- the tokens found, or the place of the first byte that begins none
+pub data Scanned : Type 0 where
+  found : List Token → Scanned
+  stray : ℕ → Scanned
+
+abbrev pub before : Token → Scanned → Scanned
+before t (found ts) = found (t ∷ ts)
+before t (stray p) = stray p
+
+-- The tokens of the bytes from place p on, of which the first k belong to a token that has begun before.
+-- "the end being a token at the text's length"
+unfoldable pub scan : ℕ → ℕ → List ℕ → Scanned
+scan p k [] = found (record { kind = kEnd; place = p; value = 0 } ∷ [])
+scan p (suc k) (b ∷ bs) = scan (suc p) k bs
+scan p zero (b ∷ bs) =
+    elim (front (b ∷ bs)) [
+      blank ↦ scan (suc p) zero bs
+    | nothing ↦ stray p
+    | token k n v ↦ before (record { kind = k; place = p; value = v }) (scan (suc p) (n - 1) bs)
+    ]
+
+-- "3 a name over 16 bytes or a number above 2,147,483,647"
+abbrev pub isLarge : Token → Bool
+isLarge t = eqb (t .kind) kName && ltb 16 (t .value) || eqb (t .kind) kNumber && ltb 2147483647 (t .value)
+
+-- the tokens of a text, or a refusal: its number and its place
+pub data Answer : Type 0 where
+  tokens : List Token → Answer
+  refused : (number place : ℕ) → Answer
+
+-- number 3 at the first large one of the tokens ts, else all the tokens (their places ascend, so the first is the smallest place)
+unfoldable pub noneLarge : List Token → List Token → Answer
+noneLarge every [] = tokens every
+noneLarge every (t ∷ ts) = elim (isLarge t) [ true ↦ refused 3 (t .place) | false ↦ noneLarge every ts ]
+
+-- "each over the whole text before the next": 1 over 2,048 bytes (place 2,048); 2 a byte that begins no token; 3
+unfoldable pub lexed : List ℕ → Answer
+lexed text =
+    elim (ltb 2048 (length text)) [
+      true ↦ refused 1 2048
+    | false ↦ elim (scan 0 0 text) [ stray p ↦ refused 2 p | found ts ↦ noneLarge ts ts ]
+    ]
