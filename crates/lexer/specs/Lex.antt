@@ -1,5 +1,8 @@
 -- From bytes to tokens: document 01, "The text", and "Check", numbers 1 to 3. A text is the list of its bytes.
 use Prim.Native.Nat.{ℕ, zero, suc, _+_, _-_, _*_}
+use Prim.Native.Char.{code}
+use Prim.Native.String as S
+use Prim.Native.String.{String}
 use mathlib.Core.Bool.{Bool, true, false, _&&_, _||_}
 use mathlib.Core.List.{List, [], _∷_, _++_}
 use lib.ListN.{length, take}
@@ -69,41 +72,46 @@ same [] (y ∷ ys) = false
 same (x ∷ xs) [] = false
 same (x ∷ xs) (y ∷ ys) = eqb x y && same xs ys
 
+-- the bytes of a text in quotes
+abbrev pub bytes : String → List ℕ
+bytes S.[] = []
+bytes (S._∷_ c cs) = code c ∷ bytes cs
+
 -- "Reserved: int free if else while return fail true false."
 abbrev pub words : List (List ℕ × ℕ)
 words =
-    (105 ∷ 110 ∷ 116 ∷ [], kInt)
-    ∷ (102 ∷ 114 ∷ 101 ∷ 101 ∷ [], kFree)
-    ∷ (105 ∷ 102 ∷ [], kIf)
-    ∷ (101 ∷ 108 ∷ 115 ∷ 101 ∷ [], kElse)
-    ∷ (119 ∷ 104 ∷ 105 ∷ 108 ∷ 101 ∷ [], kWhile)
-    ∷ (114 ∷ 101 ∷ 116 ∷ 117 ∷ 114 ∷ 110 ∷ [], kReturn)
-    ∷ (102 ∷ 97 ∷ 105 ∷ 108 ∷ [], kFail)
-    ∷ (116 ∷ 114 ∷ 117 ∷ 101 ∷ [], kTrue)
-    ∷ (102 ∷ 97 ∷ 108 ∷ 115 ∷ 101 ∷ [], kFalse)
+    (bytes "int", kInt)
+    ∷ (bytes "free", kFree)
+    ∷ (bytes "if", kIf)
+    ∷ (bytes "else", kElse)
+    ∷ (bytes "while", kWhile)
+    ∷ (bytes "return", kReturn)
+    ∷ (bytes "fail", kFail)
+    ∷ (bytes "true", kTrue)
+    ∷ (bytes "false", kFalse)
     ∷ []
 
--- single marks ( ) { } ; , = < > + - * and the pairs <= >= == != && ||
+-- "the marks `( ) { } ; , = < > ! & | + - *`", "single marks, `<= >= == != && ||`", "A lone `!`, `&` or `|` begins no token."
 abbrev pub marks : List (List ℕ × ℕ)
 marks =
-    (40 ∷ [], kOpen)
-    ∷ (41 ∷ [], kClose)
-    ∷ (123 ∷ [], kLbrace)
-    ∷ (125 ∷ [], kRbrace)
-    ∷ (59 ∷ [], kSemi)
-    ∷ (44 ∷ [], kComma)
-    ∷ (61 ∷ [], kAssign)
-    ∷ (60 ∷ [], kLess)
-    ∷ (62 ∷ [], kGreater)
-    ∷ (43 ∷ [], kPlus)
-    ∷ (45 ∷ [], kMinus)
-    ∷ (42 ∷ [], kTimes)
-    ∷ (60 ∷ 61 ∷ [], kLessEq)
-    ∷ (62 ∷ 61 ∷ [], kGreaterEq)
-    ∷ (61 ∷ 61 ∷ [], kEqual)
-    ∷ (33 ∷ 61 ∷ [], kUnequal)
-    ∷ (38 ∷ 38 ∷ [], kAnd)
-    ∷ (124 ∷ 124 ∷ [], kOr)
+    (bytes "(", kOpen)
+    ∷ (bytes ")", kClose)
+    ∷ (bytes "{", kLbrace)
+    ∷ (bytes "}", kRbrace)
+    ∷ (bytes ";", kSemi)
+    ∷ (bytes ",", kComma)
+    ∷ (bytes "=", kAssign)
+    ∷ (bytes "<", kLess)
+    ∷ (bytes ">", kGreater)
+    ∷ (bytes "+", kPlus)
+    ∷ (bytes "-", kMinus)
+    ∷ (bytes "*", kTimes)
+    ∷ (bytes "<=", kLessEq)
+    ∷ (bytes ">=", kGreaterEq)
+    ∷ (bytes "==", kEqual)
+    ∷ (bytes "!=", kUnequal)
+    ∷ (bytes "&&", kAnd)
+    ∷ (bytes "||", kOr)
     ∷ []
 
 -- the kind of these bytes in a table, or another
@@ -117,10 +125,10 @@ unfoldable pub kindOf : List ℕ → ℕ
 kindOf [] = kEnd
 kindOf (b ∷ bs) =
     elim (isLetter b) [
-      true ↦ elim (all isWord bs) [ true ↦ kindIn words kName (b ∷ bs) | false ↦ kEnd ]
-    | false ↦ elim (isDigit b) [
-        true ↦ elim (all isDigit bs) [ true ↦ kNumber | false ↦ kEnd ]
-      | false ↦ kindIn marks kEnd (b ∷ bs)
+      | true ↦ elim (all isWord bs) [ true ↦ kindIn words kName (b ∷ bs) | false ↦ kEnd ]
+      | false ↦ elim (isDigit b) [
+        | true ↦ elim (all isDigit bs) [ true ↦ kNumber | false ↦ kEnd ]
+        | false ↦ kindIn marks kEnd (b ∷ bs)
       ]
     ]
 
@@ -156,10 +164,10 @@ unfoldable pub front : List ℕ → Front
 front [] = nothing
 front (b ∷ bs) =
     elim (isBlank b) [
-      true ↦ blank
-    | false ↦ elim (longest (b ∷ bs)) [
-        zero ↦ nothing
-      | suc n ↦ token (kindOf (take (suc n) (b ∷ bs))) (suc n) (valueOf (take (suc n) (b ∷ bs)))
+      | true ↦ blank
+      | false ↦ elim (longest (b ∷ bs)) [
+        | zero ↦ nothing
+        | suc n ↦ token (kindOf (take (suc n) (b ∷ bs))) (suc n) (valueOf (take (suc n) (b ∷ bs)))
       ]
     ]
 
@@ -179,9 +187,9 @@ scan p k [] = found (record { kind = kEnd; place = p; value = 0 } ∷ [])
 scan p (suc k) (b ∷ bs) = scan (suc p) k bs
 scan p zero (b ∷ bs) =
     elim (front (b ∷ bs)) [
-      blank ↦ scan (suc p) zero bs
-    | nothing ↦ stray p
-    | token k n v ↦ before (record { kind = k; place = p; value = v }) (scan (suc p) (n - 1) bs)
+      | blank ↦ scan (suc p) zero bs
+      | nothing ↦ stray p
+      | token k n v ↦ before (record { kind = k; place = p; value = v }) (scan (suc p) (n - 1) bs)
     ]
 
 -- "3 a name over 16 bytes or a number above 2,147,483,647"
@@ -202,6 +210,6 @@ noneLarge every (t ∷ ts) = elim (isLarge t) [ true ↦ refused 3 (t .place) | 
 unfoldable pub lexed : List ℕ → Answer
 lexed text =
     elim (ltb 2048 (length text)) [
-      true ↦ refused 1 2048
-    | false ↦ elim (scan 0 0 text) [ stray p ↦ refused 2 p | found ts ↦ noneLarge ts ts ]
+      | true ↦ refused 1 2048
+      | false ↦ elim (scan 0 0 text) [ stray p ↦ refused 2 p | found ts ↦ noneLarge ts ts ]
     ]
