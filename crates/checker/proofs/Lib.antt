@@ -1,0 +1,2 @@
+-- Theorems about check.
+pub mod Texts

@@ -1,0 +1,36 @@
+-- Texts of document 01 and what check answers, in one table under one proof.
+use Prim.Native.Nat.{ℕ}
+use Prim.Native.String.{String}
+use mathlib.Core.Path.{_≡_, refl}
+use mathlib.Core.List.{List, [], _∷_, map}
+use Rattle.lexer.specs.Lex.{bytes, lexed, noneLarge, scan, front, valueOf, decimal, longestWithin, kindOf, kindIn, same, all}
+use Rattle.syntax.specs.Abstract.{ast}
+use Rattle.grammar.specs.Parse.{readText, moreProg, readFun, readParams, moreParams, readStmt, readDecl, readAssign, readEval, readReturn, readIf, readWhile, moreBody, readCond, moreCond, readConj, moreConj, readAtom, readCmp, readSum, moreSum, readTerm, moreTerm, readOperand, readBracket, readCall, readArgs, moreArgs}
+use Rattle.events.specs.Event.{events, eventsAt, stops, count, first}
+use Rattle.rules.specs.Scan as R
+use Rattle.rules.specs.Scan.{on, least, lesser}
+use Rattle.rules.specs.Rules.{deep, parameters, heads, functionOf, arityOf, wrong, miscounted, mains, withParameters, badMain, unended, counted, over}
+use Rattle.rules.specs.Names.{declared, outer, entered, inBlock, sought, misnamed, uncalled, repeated}
+use Rattle.checker.specs.Check.{Verdict, accepted, refused, rules, firstBroken, checkedTokens, checked}
+
+pub record Case : Type 0 where
+  pub text : String
+  pub answer : Verdict
+
+abbrev case : String → Verdict → Case
+case t v = record { text = t; answer = v }
+
+abbrev pub table : List Case
+table =
+    case "int main() { int y free; if (y < 2) return y; else fail; }" accepted
+    ∷ case "" (refused 8 0)
+    ∷ case "int f(int a) { return a; } int main() { return f(1, 2); }" (refused 7 47)
+    ∷ case "int main() { int x; { int x; } return 1; }" (refused 6 26)
+    ∷ []
+
+unfoldable pub given : Case → Verdict
+given c = checked (bytes (c .text))
+
+pub right : map given table ≡ map (λ c. c .answer) table
+unfolding given checked lexed noneLarge scan front valueOf decimal longestWithin kindOf kindIn same all ast readText moreProg readFun readParams moreParams readStmt readDecl readAssign readEval readReturn readIf readWhile moreBody readCond moreCond readConj moreConj readAtom readCmp readSum moreSum readTerm moreTerm readOperand readBracket readCall readArgs moreArgs events eventsAt stops count first on R.scan least lesser deep parameters heads functionOf arityOf wrong miscounted mains withParameters badMain unended counted over declared outer entered inBlock sought misnamed uncalled repeated rules firstBroken checkedTokens
+right = refl

@@ -1,0 +1,81 @@
+-- Check (document 01, "The three operations and the program"): what it answers for every text.
+use Prim.Native.Nat.{ℕ, _-_}
+use mathlib.Core.Bool.{Bool}
+use mathlib.Core.List.{List, [], _∷_, map}
+use mathlib.Core.Option.{Option, none, some}
+use lib.ListN.{length, getD}
+use Rattle.lexer.specs.Lex as L
+use Rattle.lexer.specs.Lex.{Token, lexed}
+use Rattle.syntax.specs.Tree.{Tree, prog}
+use Rattle.syntax.specs.Ast.{Ast}
+use Rattle.syntax.specs.Ast as A
+use Rattle.syntax.specs.Abstract.{ast}
+use Rattle.grammar.specs.Parse.{parsed, ok, bad}
+use Rattle.events.specs.Event.{Event, events}
+use Rattle.rules.specs.Scan.{least}
+use Rattle.rules.specs.Spelling.{sameName, isMain}
+use Rattle.rules.specs.Rules.{Head, heads, tooDeep, miscalls, mainless, openEnds, tooMany}
+use Rattle.rules.specs.Names.{badNames, meanings, meant}
+use Rattle.rules.specs.Resolve.{resolved}
+use Rattle.semantics.specs.Program.{Program}
+
+-- "It answers accepted, or number and place, a byte offset from 0."
+pub data Verdict : Type 0 where
+  accepted : Verdict
+  refused : (number place : ℕ) → Verdict
+
+-- the kinds, places and values of tokens
+abbrev pub kinds : List Token → List ℕ
+kinds ts = map (λ t. t .kind) ts
+
+abbrev pub places : List Token → List ℕ
+places ts = map (λ t. t .place) ts
+
+abbrev pub values : List Token → List ℕ
+values ts = map (λ t. t .value) ts
+
+-- the place of token i
+abbrev pub placeOf : List Token → ℕ → ℕ
+placeOf ts i = getD (places ts) i 0
+
+-- a rule's number, and the tokens that break it
+pub record Rule : Type 0 where
+  pub number : ℕ
+  pub broken : List ℕ
+
+abbrev pub rule : ℕ → List ℕ → Rule
+rule n is = record { number = n; broken = is }
+
+-- rules 5 to 10 of a text with these tokens and events; the last token is the end, at the text's length
+unfoldable pub rules : List ℕ → List Token → List Event → List Rule
+rules text ts es =
+    let same = sameName text (places ts) (values ts) in
+    rule 5 (tooDeep es)
+    ∷ rule 6 (badNames same es)
+    ∷ rule 7 (miscalls same es)
+    ∷ rule 8 (mainless (isMain text (places ts) (values ts)) (length ts - 1) es)
+    ∷ rule 9 (openEnds es)
+    ∷ rule 10 (tooMany es)
+    ∷ []
+
+-- "each over the whole text before the next, the smallest place within a number winning" (the places of tokens ascend with their numbers)
+unfoldable pub firstBroken : List Token → List Rule → Verdict
+firstBroken ts [] = accepted
+firstBroken ts (r ∷ rs) = elim (least (r .broken)) [ none ↦ firstBroken ts rs | some i ↦ refused (r .number) (placeOf ts i) ]
+
+-- "4 the first token that no program could have there", and then the other rules
+unfoldable pub checkedTokens : List ℕ → List Token → Verdict
+checkedTokens text ts = elim (parsed (kinds ts)) [ bad m ↦ refused 4 (placeOf ts m) | ok t m ↦ firstBroken ts (rules text ts (events (ast t))) ]
+
+-- numbers 1 to 3 are the lexer's
+unfoldable pub checked : List ℕ → Verdict
+checked text = elim (lexed text) [ L.refused n p ↦ refused n p | L.tokens ts ↦ checkedTokens text ts ]
+
+-- ---- the program of a text
+
+-- the tree with names resolved, of tokens that the grammar accepts
+unfoldable pub programOf : List ℕ → List Token → Tree prog → Program
+programOf text ts t =
+    let es = events (ast t) in
+    let means = meant (λ i. 0) (meanings (sameName text (places ts) (values ts)) es) in
+    resolved (λ i. getD (values ts) i 0) means (isMain text (places ts) (values ts)) (heads es) (ast t)

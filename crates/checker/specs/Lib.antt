@@ -1,0 +1,3 @@
+-- Check and remarks.
+pub mod Check
+pub mod Remarks

@@ -1,0 +1,5 @@
+-- Theorems about the readers' definition, and laws for the proofs of the readers.
+pub mod Machine
+pub mod Accept
+pub mod Right
+pub mod Place

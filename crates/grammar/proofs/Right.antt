@@ -1,0 +1,487 @@
+-- The parser is right. What a reader took are the tokens of its tree; where it stops, the machine is stuck, and what was read so far can be completed.
+use Prim.Native.Nat.{ℕ, zero, suc, _+_, _*_, _-_, _≤_, _<_}
+use mathlib.Core.Path.{_≡_, refl, sym, ap, _∙_, subst}
+use mathlib.Core.Bool.{Bool, true, false}
+use mathlib.Core.List.{List, [], _∷_, _++_, append-assoc}
+use mathlib.Core.Option.{Option, none, some}
+use native.Mathlib.Numerals.{add-one}
+use native.Mathlib.Nat.{le-trans, le-refl}
+use native.Mathlib.Omega.{arith}
+use native.Mathlib.Decide.{decLt}
+use lib.ListN.{length, getD, take, drop, List·getD-eq-default, length-append}
+use lib.Seq.{take-suc, drop-cons, length-take-le}
+use lib.Dec.{eqb, ltb}
+use borrow.Author.Tests.{eqb-true, ltb-true, eqb-false, eq-eqb}
+use Rattle.syntax.specs.Token.{kEnd, kName, kNumber, kOpen, kClose, kComma, kPlus, kMinus, kTimes, kTrue, kFalse, kAnd, kOr, kLess, kEqual, kLessEq, kGreater, kGreaterEq, kUnequal, kSemi, kAssign, kLbrace, kRbrace, kInt, kFree, kIf, kElse, kWhile, kReturn, kFail}
+use Rattle.syntax.specs.Tree.{Cat, Tree, Cmp, onto}
+use Rattle.syntax.specs.Tree.{operand, term, sum, args, argList, cmp, atom, conj, cond, less, equal, lessEq, greater, greaterEq, unequal, stmt, stmts, body, params, paramList, fun, prog}
+use Rattle.syntax.specs.Tree.{number, negative, name, call, bracket, noArgs, someArgs, firstArg, nextArg, factor, times, addend, plus, minus, cmpMark, always, never, compare, oneAtom, both, oneConj, either, empty, declare, declareFree, assign, eval, block, ifElse, while, return, fail, noStmts, moreStmts, braced, noParams, someParams, firstParam, nextParam, function, noFuns, moreFuns}
+use Rattle.grammar.proofs.Machine.{Sym, Stack, Out, fine, stuck, step, run, goOn, on}
+use Rattle.grammar.proofs.Machine.{tok, sOperand, sTerm, sTerms, sSum, sSums, sCall, sArgs, sMore, sCmp, sAtom, sConj, sConjs, sCond, sConds, sStmt, sDecl, sNamed, sBody, sParams, sParamMore, sFuns}
+use Rattle.grammar.specs.Parse.{Res, ok, bad, andThen, peek, expect, readOperand, readBracket, readCall, readArgs, moreArgs, readTerm, moreTerm, readSum, moreSum, readCmp, readAtom, moreConj, readConj, moreCond, readCond, readEval, readAssign, readDecl, readReturn, readStmt, readIf, readWhile, moreBody, moreParams, readParams, readFun, moreProg}
+
+-- a tree has tokens, or none
+grows : {c : Cat} (t : Tree c) (ks : List ℕ) → length ks ≤ length (onto t ks)
+unfolding onto
+grows (number i) ks = omega arith
+grows (negative i) ks = omega arith
+grows (name i) ks = omega arith
+grows (call i a) ks = omega (arith, grows a ks)
+grows (bracket i e) ks = omega (arith, grows e (kClose ∷ ks))
+grows noArgs ks = omega arith
+grows (someArgs l) ks = omega (arith, grows l (kClose ∷ ks))
+grows (firstArg e) ks = omega (arith, grows e ks)
+grows (nextArg l e) ks = omega (arith, grows l (kComma ∷ onto e ks), grows e ks)
+grows (factor o) ks = omega (arith, grows o ks)
+grows (times t o) ks = omega (arith, grows t (kTimes ∷ onto o ks), grows o ks)
+grows (addend t) ks = omega (arith, grows t ks)
+grows (plus s t) ks = omega (arith, grows s (kPlus ∷ onto t ks), grows t ks)
+grows (minus s t) ks = omega (arith, grows s (kMinus ∷ onto t ks), grows t ks)
+grows (cmpMark o) ks = omega arith
+grows always ks = omega arith
+grows never ks = omega arith
+grows (compare a o b) ks = omega (arith, grows a (onto o (onto b ks)), grows o (onto b ks), grows b ks)
+grows (oneAtom a) ks = omega (arith, grows a ks)
+grows (both c a) ks = omega (arith, grows c (kAnd ∷ onto a ks), grows a ks)
+grows (oneConj c) ks = omega (arith, grows c ks)
+grows (either b c) ks = omega (arith, grows b (kOr ∷ onto c ks), grows c ks)
+grows (empty i) ks = omega arith
+grows (declare i) ks = omega arith
+grows (declareFree i) ks = omega arith
+grows (assign i e) ks = omega (arith, grows e (kSemi ∷ ks))
+grows (eval e) ks = omega (arith, grows e (kSemi ∷ ks))
+grows (block i b) ks = omega (arith, grows b ks)
+grows (ifElse i c s t) ks = omega (arith, grows c (kClose ∷ onto s (kElse ∷ onto t ks)), grows s (kElse ∷ onto t ks), grows t ks)
+grows (while i c s) ks = omega (arith, grows c (kClose ∷ onto s ks), grows s ks)
+grows (return i e) ks = omega (arith, grows e (kSemi ∷ ks))
+grows (fail i) ks = omega arith
+grows noStmts ks = omega arith
+grows (moreStmts l s) ks = omega (arith, grows l (onto s ks), grows s ks)
+grows (braced l i) ks = omega (arith, grows l (kRbrace ∷ ks))
+grows noParams ks = omega arith
+grows (someParams l) ks = omega (arith, grows l (kClose ∷ ks))
+grows (firstParam i) ks = omega arith
+grows (nextParam l i) ks = omega (arith, grows l (kComma ∷ kInt ∷ kName ∷ ks))
+grows (function i p b) ks = omega (arith, grows p (kLbrace ∷ onto b ks), grows b ks)
+grows noFuns ks = omega arith
+grows (moreFuns p f) ks = omega (arith, grows p (onto f ks), grows f ks)
+
+stmt-grows : (t : Tree stmt) (ks : List ℕ) → length ks < length (onto t ks)
+unfolding onto
+stmt-grows (empty i) ks = omega arith
+stmt-grows (declare i) ks = omega arith
+stmt-grows (declareFree i) ks = omega arith
+stmt-grows (assign i e) ks = omega (arith, grows e (kSemi ∷ ks))
+stmt-grows (eval e) ks = omega (arith, grows e (kSemi ∷ ks))
+stmt-grows (block i b) ks = omega (arith, grows b ks)
+stmt-grows (ifElse i c s t) ks = omega (arith, grows c (kClose ∷ onto s (kElse ∷ onto t ks)), grows s (kElse ∷ onto t ks), grows t ks)
+stmt-grows (while i c s) ks = omega (arith, grows c (kClose ∷ onto s ks), grows s ks)
+stmt-grows (return i e) ks = omega (arith, grows e (kSemi ∷ ks))
+stmt-grows (fail i) ks = omega arith
+
+module _ (ks : List ℕ) (ends : (a : ℕ) → suc a ≡ length ks → getD ks a 0 ≡ 0) where
+  -- the first a tokens, then r
+  abbrev pub upto : ℕ → List ℕ → List ℕ
+  upto a r = take a ks ++ r
+
+  pub record Ok {c : Cat} (b : ℕ) (S : Stack → Stack) (at : ℕ) (t : Tree c) (m : ℕ) : Type 0 where
+    pub past : at ≤ m
+    pub inside : m < length ks
+    pub read : (r : List ℕ) → upto m r ≡ upto b (onto t r)
+    pub ran : (ss : Stack) → run (S ss) (drop at ks) ≡ run ss (drop m ks)
+
+  pub record Bad (c : Cat) (b : ℕ) (S : Stack → Stack) (at m : ℕ) : Type 0 where
+    pub inside : m < length ks
+    pub whole : Tree c
+    pub rest : List ℕ → List ℕ
+    pub read : (r : List ℕ) → upto m (rest r) ≡ upto b (onto whole r)
+    pub ran : (ss : Stack) → run (S ss) (drop at ks) ≡ stuck (drop m ks)
+
+  -- b is where the tree begins, at where the reader does; S is what the machine expects there
+  pub data Reads {c : Cat} (b : ℕ) (S : Stack → Stack) (at : ℕ) : Res c → Type 0 where
+    good : {t : Tree c} {m : ℕ} → Ok b S at t m → Reads b S at (ok t m)
+    wrong : {m : ℕ} → Bad c b S at m → Reads b S at (bad m)
+
+  -- the token k stands at a, and it is not the end
+  record Eat (a k : ℕ) : Type 0 where
+    inside : a + 1 < length ks
+    read : (r : List ℕ) → upto (a + 1) r ≡ upto a (k ∷ r)
+    ahead : drop a ks ≡ k ∷ drop (a + 1) ks
+
+  pub head : (a : ℕ) → a < length ks → drop a ks ≡ peek ks a ∷ drop (a + 1) ks
+  head a h = rw (add-one, drop-cons ks a 0)
+
+  not-last : (a : ℕ) → a < length ks → (peek ks a ≡ 0 → ⊥) → a + 1 < length ks
+  not-last a h f = go (decLt (a + 1) (length ks))
+    where
+      go : Dec (a + 1 < length ks) → a + 1 < length ks
+      go (yes p) = p
+      go (no p) = absurd (f (ends a (omega (arith, p))))
+
+  eat : (a k : ℕ) → a < length ks → eqb (peek ks a) k ≡ true → eqb k 0 ≡ false → Eat a k
+  eat a k h e z =
+      let q : peek ks a ≡ k = eqb-true _ _ e in
+      record {
+        inside = not-last a h (λ p. eqb-false k 0 z (sym q ∙ p));
+        read = λ r. rw (add-one, take-suc ks a 0, append-assoc, q);
+        ahead = head a h ∙ ap (λ (x : ℕ). x ∷ drop (a + 1) ks) q;
+      }
+
+  move : {c : Cat} {b at m : ℕ} {S S′ : Stack → Stack} {r : Res c} → at ≤ m → ((ss : Stack) → run (S ss) (drop at ks) ≡ run (S′ ss) (drop m ks)) → Reads b S′ m r → Reads b S at r
+  move l e (good k) = good (record { past = le-trans l (k .past); inside = k .inside; read = k .read; ran = λ ss. e ss ∙ k .ran ss })
+  move l e (wrong k) = wrong (record { inside = k .inside; whole = k .whole; rest = k .rest; read = k .read; ran = λ ss. e ss ∙ k .ran ss })
+
+  eatThen : {c : Cat} {b at k : ℕ} {S S′ : Stack → Stack} {r : Res c} → Eat at k → ((ss : Stack) (r : List ℕ) → run (S ss) (k ∷ r) ≡ run (S′ ss) r) → Reads b S′ (at + 1) r → Reads b S at r
+  eatThen {at = at} {S = S} x e k = move (omega arith) (λ ss. ap (run (S ss)) (x .ahead) ∙ e ss (drop (at + 1) ks)) k
+
+  done : {c : Cat} {b m : ℕ} {t : Tree c} → m < length ks → ((r : List ℕ) → upto m r ≡ upto b (onto t r)) → Reads b (λ ss. ss) m (ok t m)
+  done i e = good (record { past = le-refl _; inside = i; read = e; ran = λ ss. refl })
+
+  -- a symbol that the next token leaves out
+  skip : {c : Cat} {b m : ℕ} {S S′ : Stack → Stack} {r : Res c} → m < length ks → ((ss : Stack) → step (peek ks m) (S ss) ≡ step (peek ks m) (S′ ss)) → Reads b S′ m r → Reads b S m r
+  unfolding run
+  skip {m = m} {S = S} {S′ = S′} i e k = move (le-refl _) (λ ss. ap (run (S ss)) (head m i) ∙ ap (λ o. goOn o (stuck (peek ks m ∷ drop (m + 1) ks)) (λ s. run s (drop (m + 1) ks))) (e ss) ∙ sym (ap (run (S′ ss)) (head m i))) k
+
+  stop : {c : Cat} {b m : ℕ} {S : Stack → Stack} → m < length ks → (t : Tree c) (w : List ℕ → List ℕ) → ((r : List ℕ) → upto m (w r) ≡ upto b (onto t r)) → ((ss : Stack) → step (peek ks m) (S ss) ≡ none) → Reads {c = c} b S m (bad m)
+  unfolding run
+  stop {m = m} {S = S} i t w e n = wrong (record { inside = i; whole = t; rest = w; read = e; ran = λ ss. ap (run (S ss)) (head m i) ∙ ap (λ o. goOn o (stuck (peek ks m ∷ drop (m + 1) ks)) (λ s. run s (drop (m + 1) ks))) (n ss) ∙ sym (ap stuck (head m i)) })
+
+  split : {c : Cat} {b at : ℕ} {S : Stack → Stack} (t : Bool) {x y : Res c} → (t ≡ true → Reads b S at x) → (t ≡ false → Reads b S at y) → Reads {c = c} b S at (elim t [ true ↦ x | false ↦ y ])
+  split true f g = f refl
+  split false f g = g refl
+
+  join : {c e : Cat} {b₁ b at m : ℕ} {S₁ S₂ : Stack → Stack} {t : Tree e} {r : Res c} → Ok b₁ S₁ at t m → Reads b S₂ m r → Reads b (λ ss. S₁ (S₂ ss)) at r
+  join {S₂ = S₂} h (good k) = good (record { past = le-trans (h .past) (k .past); inside = k .inside; read = k .read; ran = λ ss. h .ran (S₂ ss) ∙ k .ran ss })
+  join {S₂ = S₂} h (wrong k) = wrong (record { inside = k .inside; whole = k .whole; rest = k .rest; read = k .read; ran = λ ss. h .ran (S₂ ss) ∙ k .ran ss })
+
+  -- one reader, and another after it. Where the first stops, its tree is wrapped, and `tail` is what is then missing
+  after : {c e : Cat} {b₁ b₂ at : ℕ} {S₁ S₂ : Stack → Stack} {r : Res c} {f : Tree c → ℕ → Res e}
+      → (wrap : Tree c → Tree e) (tail : List ℕ → List ℕ) → ((t : Tree c) (r : List ℕ) → upto b₁ (onto t (tail r)) ≡ upto b₂ (onto (wrap t) r))
+      → Reads b₁ S₁ at r
+      → ((t : Tree c) (m : ℕ) → Ok b₁ S₁ at t m → Reads b₂ S₂ m (f t m))
+      → Reads b₂ (λ ss. S₁ (S₂ ss)) at (andThen r f)
+  after wrap tail w (good {t} {m} h) g = join h (g t m h)
+  after {S₂ = S₂} wrap tail w (wrong h) g = wrong (record {
+    inside = h .inside;
+    whole = wrap (h .whole);
+    rest = λ r. h .rest (tail r);
+    read = λ r. h .read (tail r) ∙ w (h .whole) r;
+    ran = λ ss. h .ran (S₂ ss);
+  })
+
+  abbrev pub Fuel : ℕ → ℕ → ℕ → Type 0
+  Fuel c d at = 8 * length ks + c ≤ d + 8 * at
+
+  mutual
+    unfolding readOperand onto run step
+
+    pub operand-right : (d at : ℕ) → at < length ks → Fuel 2 d at → Reads at (λ ss. sOperand ∷ ss) at (readOperand ks d at)
+    operand-right zero at i f = absurd (omega arith)
+    operand-right (suc d) at i f =
+        split (eqb (peek ks at) kNumber)
+        (λ e. let x = eat at kNumber i e refl in eatThen x (λ ss r. refl) (done (x .inside) (x .read)))
+        (λ e₁. split (eqb (peek ks at) kMinus)
+        (λ e. let x = eat at kMinus i e refl in eatThen {S′ = λ ss. tok kNumber ∷ ss} x (λ ss r. refl)
+        (split (eqb (peek ks (at + 1)) kNumber)
+        (λ e′. let y = eat (at + 1) kNumber (x .inside) e′ refl in eatThen y (λ ss r. refl) (done (y .inside) (λ r. y .read r ∙ x .read (kNumber ∷ r))))
+        (λ e′. stop (x .inside) (negative 0) (λ r. kNumber ∷ r) (λ r. x .read (kNumber ∷ r)) (λ ss. rw e′))))
+        (λ e₂. split (eqb (peek ks at) kName)
+        (λ e. let x = eat at kName i e refl in eatThen {S′ = λ ss. sCall ∷ ss} x (λ ss r. refl) (call-right d at x (omega arith)))
+        (λ e₃. split (eqb (peek ks at) kOpen)
+        (λ e. let x = eat at kOpen i e refl in eatThen {S′ = λ ss. sSum ∷ tok kClose ∷ ss} x (λ ss r. refl) (bracket-right d at x (omega arith)))
+        (λ e₄. stop i (number 0) (λ r. kNumber ∷ r) (λ r. refl) (λ ss. rw (e₁, e₂, e₃, e₄))))))
+
+    bracket-right : (d at : ℕ) → Eat at kOpen → Fuel 1 d at → Reads at (λ ss. sSum ∷ tok kClose ∷ ss) (at + 1) (readBracket ks d at)
+    bracket-right zero at x f = absurd (omega (arith, x .inside))
+    bracket-right (suc d) at x f =
+        after (bracket at) (λ r. kClose ∷ r) (λ t r. x .read (onto t (kClose ∷ r))) (sum-right d (at + 1) (x .inside) (omega arith))
+        (λ t m h. split (eqb (peek ks m) kClose)
+        (λ e′. let y = eat m kClose (h .inside) e′ refl in eatThen y (λ ss r. refl) (done (y .inside) (λ r. y .read r ∙ h .read (kClose ∷ r) ∙ x .read (onto t (kClose ∷ r)))))
+        (λ e′. stop (h .inside) (bracket at t) (λ r. kClose ∷ r) (λ r. h .read (kClose ∷ r) ∙ x .read (onto t (kClose ∷ r))) (λ ss. rw e′)))
+
+    call-right : (d at : ℕ) → Eat at kName → Fuel 1 d at → Reads at (λ ss. sCall ∷ ss) (at + 1) (readCall ks d at)
+    call-right zero at x f = absurd (omega (arith, x .inside))
+    call-right (suc d) at x f =
+        split (eqb (peek ks (at + 1)) kOpen)
+        (λ e. let y = eat (at + 1) kOpen (x .inside) e refl in eatThen {S′ = λ ss. sArgs ∷ ss} y (λ ss r. refl)
+        (after (call 0) (λ r. r) (λ t r. y .read (onto t r) ∙ x .read (kOpen ∷ onto t r)) (args-right d (at + 1 + 1) (y .inside) (omega arith))
+        (λ t m h. done (h .inside) (λ r. h .read r ∙ y .read (onto t r) ∙ x .read (kOpen ∷ onto t r)))))
+        (λ e. skip (x .inside) (λ ss. rw e) (done (x .inside) (x .read)))
+
+    args-right : (d at : ℕ) → at < length ks → Fuel 5 d at → Reads at (λ ss. sArgs ∷ ss) at (readArgs ks d at)
+    args-right zero at i f = absurd (omega arith)
+    args-right (suc d) at i f =
+        split (eqb (peek ks at) kClose)
+        (λ e. let x = eat at kClose i e refl in eatThen x (λ ss r. refl) (done (x .inside) (x .read)))
+        (λ e. skip {S′ = λ ss. sSum ∷ sMore ∷ ss} i (λ ss. rw e)
+        (after (λ t. someArgs (firstArg t)) (λ r. kClose ∷ r) (λ t r. refl) (sum-right d at i (omega arith))
+        (λ t m h. more-args d (firstArg t) at m (h .inside) (h .read) (omega (arith, h .past)))))
+
+    more-args : (d : ℕ) (l : Tree argList) (b at : ℕ) → at < length ks → ((r : List ℕ) → upto at r ≡ upto b (onto l r)) → Fuel 1 d at → Reads b (λ ss. sMore ∷ ss) at (moreArgs ks d l at)
+    more-args zero l b at i w f = absurd (omega arith)
+    more-args (suc d) l b at i w f =
+        split (eqb (peek ks at) kComma)
+        (λ e. let x = eat at kComma i e refl in eatThen {S′ = λ ss. sSum ∷ sMore ∷ ss} x (λ ss r. refl)
+        (after (λ t. someArgs (nextArg l t)) (λ r. kClose ∷ r) (λ t r. x .read _ ∙ w _) (sum-right d (at + 1) (x .inside) (omega arith))
+        (λ t m h. more-args d (nextArg l t) b m (h .inside) (λ r. h .read r ∙ x .read _ ∙ w _) (omega (arith, h .past)))))
+        (λ e₁. split (eqb (peek ks at) kClose)
+        (λ e. let x = eat at kClose i e refl in eatThen x (λ ss r. refl) (done (x .inside) (λ r. x .read r ∙ w _)))
+        (λ e₂. stop i (someArgs l) (λ r. kClose ∷ r) (λ r. w _) (λ ss. rw (e₁, e₂))))
+
+    pub term-right : (d at : ℕ) → at < length ks → Fuel 3 d at → Reads at (λ ss. sTerm ∷ ss) at (readTerm ks d at)
+    term-right zero at i f = absurd (omega arith)
+    term-right (suc d) at i f = skip {S′ = λ ss. sOperand ∷ sTerms ∷ ss} i (λ ss. refl)
+        (after factor (λ r. r) (λ t r. refl) (operand-right d at i (omega arith))
+        (λ t m h. more-term d (factor t) at m (h .inside) (h .read) (omega (arith, h .past))))
+
+    more-term : (d : ℕ) (l : Tree term) (b at : ℕ) → at < length ks → ((r : List ℕ) → upto at r ≡ upto b (onto l r)) → Fuel 1 d at → Reads b (λ ss. sTerms ∷ ss) at (moreTerm ks d l at)
+    more-term zero l b at i w f = absurd (omega arith)
+    more-term (suc d) l b at i w f =
+        split (eqb (peek ks at) kTimes)
+        (λ e. let x = eat at kTimes i e refl in eatThen {S′ = λ ss. sOperand ∷ sTerms ∷ ss} x (λ ss r. refl)
+        (after (times l) (λ r. r) (λ t r. x .read _ ∙ w _) (operand-right d (at + 1) (x .inside) (omega arith))
+        (λ t m h. more-term d (times l t) b m (h .inside) (λ r. h .read r ∙ x .read _ ∙ w _) (omega (arith, h .past)))))
+        (λ e. skip i (λ ss. rw e) (done i w))
+
+    pub sum-right : (d at : ℕ) → at < length ks → Fuel 4 d at → Reads at (λ ss. sSum ∷ ss) at (readSum ks d at)
+    sum-right zero at i f = absurd (omega arith)
+    sum-right (suc d) at i f = skip {S′ = λ ss. sTerm ∷ sSums ∷ ss} i (λ ss. refl)
+        (after addend (λ r. r) (λ t r. refl) (term-right d at i (omega arith))
+        (λ t m h. more-sum d (addend t) at m (h .inside) (h .read) (omega (arith, h .past))))
+
+    more-sum : (d : ℕ) (l : Tree sum) (b at : ℕ) → at < length ks → ((r : List ℕ) → upto at r ≡ upto b (onto l r)) → Fuel 1 d at → Reads b (λ ss. sSums ∷ ss) at (moreSum ks d l at)
+    more-sum zero l b at i w f = absurd (omega arith)
+    more-sum (suc d) l b at i w f =
+        split (eqb (peek ks at) kPlus)
+        (λ e. let x = eat at kPlus i e refl in eatThen {S′ = λ ss. sTerm ∷ sSums ∷ ss} x (λ ss r. refl)
+        (after (plus l) (λ r. r) (λ t r. x .read _ ∙ w _) (term-right d (at + 1) (x .inside) (omega arith))
+        (λ t m h. more-sum d (plus l t) b m (h .inside) (λ r. h .read r ∙ x .read _ ∙ w _) (omega (arith, h .past)))))
+        (λ e₁. split (eqb (peek ks at) kMinus)
+        (λ e. let x = eat at kMinus i e refl in eatThen {S′ = λ ss. sTerm ∷ sSums ∷ ss} x (λ ss r. refl)
+        (after (minus l) (λ r. r) (λ t r. x .read _ ∙ w _) (term-right d (at + 1) (x .inside) (omega arith))
+        (λ t m h. more-sum d (minus l t) b m (h .inside) (λ r. h .read r ∙ x .read _ ∙ w _) (omega (arith, h .past)))))
+        (λ e₂. skip i (λ ss. rw (e₁, e₂)) (done i w)))
+
+  cmp-right : (at : ℕ) → at < length ks → Reads at (λ ss. sCmp ∷ ss) at (readCmp ks at)
+  unfolding readCmp onto run step
+  cmp-right at i =
+      split (eqb (peek ks at) kLess)
+      (λ e. let x = eat at kLess i e refl in eatThen x (λ ss r. refl) (done (x .inside) (x .read)))
+      (λ e1. split (eqb (peek ks at) kLessEq)
+      (λ e. let x = eat at kLessEq i e refl in eatThen x (λ ss r. refl) (done (x .inside) (x .read)))
+      (λ e2. split (eqb (peek ks at) kGreater)
+      (λ e. let x = eat at kGreater i e refl in eatThen x (λ ss r. refl) (done (x .inside) (x .read)))
+      (λ e3. split (eqb (peek ks at) kGreaterEq)
+      (λ e. let x = eat at kGreaterEq i e refl in eatThen x (λ ss r. refl) (done (x .inside) (x .read)))
+      (λ e4. split (eqb (peek ks at) kEqual)
+      (λ e. let x = eat at kEqual i e refl in eatThen x (λ ss r. refl) (done (x .inside) (x .read)))
+      (λ e5. split (eqb (peek ks at) kUnequal)
+      (λ e. let x = eat at kUnequal i e refl in eatThen x (λ ss r. refl) (done (x .inside) (x .read)))
+      (λ e6. stop i (cmpMark less) (λ r. kLess ∷ r) (λ r. refl) (λ ss. rw (e1, e2, e3, e4, e5, e6))))))))
+
+  atom-right : (d at : ℕ) → at < length ks → Fuel 4 d at → Reads at (λ ss. sAtom ∷ ss) at (readAtom ks d at)
+  unfolding readAtom onto run step
+  atom-right d at i f =
+      split (eqb (peek ks at) kTrue)
+      (λ e. let x = eat at kTrue i e refl in eatThen x (λ ss r. refl) (done (x .inside) (x .read)))
+      (λ e₁. split (eqb (peek ks at) kFalse)
+      (λ e. let x = eat at kFalse i e refl in eatThen x (λ ss r. refl) (done (x .inside) (x .read)))
+      (λ e₂. skip {S′ = λ ss. sSum ∷ sCmp ∷ sSum ∷ ss} i (λ ss. rw (e₁, e₂))
+      (after (λ a. compare a (cmpMark less) (addend (factor (number 0)))) (λ r. kLess ∷ kNumber ∷ r) (λ t r. refl) (sum-right d at i f)
+      (λ a m h. after (λ o. compare a o (addend (factor (number 0)))) (λ r. kNumber ∷ r) (λ t r. h .read _) (cmp-right m (h .inside))
+      (λ o n h₂. after (λ b. compare a o b) (λ r. r) (λ t r. h₂ .read _ ∙ h .read _) (sum-right d n (h₂ .inside) (omega (arith, h .past, h₂ .past)))
+      (λ b p h₃. done (h₃ .inside) (λ r. h₃ .read r ∙ h₂ .read _ ∙ h .read _)))))))
+
+  more-conj : (d : ℕ) (l : Tree conj) (b at : ℕ) → at < length ks → ((r : List ℕ) → upto at r ≡ upto b (onto l r)) → Fuel 1 d at → Reads b (λ ss. sConjs ∷ ss) at (moreConj ks d l at)
+  unfolding moreConj onto run step
+  more-conj zero l b at i w f = absurd (omega arith)
+  more-conj (suc d) l b at i w f =
+      split (eqb (peek ks at) kAnd)
+      (λ e. let x = eat at kAnd i e refl in eatThen {S′ = λ ss. sAtom ∷ sConjs ∷ ss} x (λ ss r. refl)
+      (after (both l) (λ r. r) (λ t r. x .read _ ∙ w _) (atom-right d (at + 1) (x .inside) (omega arith))
+      (λ t m h. more-conj d (both l t) b m (h .inside) (λ r. h .read r ∙ x .read _ ∙ w _) (omega (arith, h .past)))))
+      (λ e. skip i (λ ss. rw e) (done i w))
+
+  conj-right : (d at : ℕ) → at < length ks → Fuel 5 d at → Reads at (λ ss. sConj ∷ ss) at (readConj ks d at)
+  unfolding readConj onto run step
+  conj-right zero at i f = absurd (omega arith)
+  conj-right (suc d) at i f = skip {S′ = λ ss. sAtom ∷ sConjs ∷ ss} i (λ ss. refl)
+      (after oneAtom (λ r. r) (λ t r. refl) (atom-right d at i (omega arith))
+      (λ t m h. more-conj d (oneAtom t) at m (h .inside) (h .read) (omega (arith, h .past))))
+
+  more-cond : (d : ℕ) (l : Tree cond) (b at : ℕ) → at < length ks → ((r : List ℕ) → upto at r ≡ upto b (onto l r)) → Fuel 1 d at → Reads b (λ ss. sConds ∷ ss) at (moreCond ks d l at)
+  unfolding moreCond onto run step
+  more-cond zero l b at i w f = absurd (omega arith)
+  more-cond (suc d) l b at i w f =
+      split (eqb (peek ks at) kOr)
+      (λ e. let x = eat at kOr i e refl in eatThen {S′ = λ ss. sConj ∷ sConds ∷ ss} x (λ ss r. refl)
+      (after (either l) (λ r. r) (λ t r. x .read _ ∙ w _) (conj-right d (at + 1) (x .inside) (omega arith))
+      (λ t m h. more-cond d (either l t) b m (h .inside) (λ r. h .read r ∙ x .read _ ∙ w _) (omega (arith, h .past)))))
+      (λ e. skip i (λ ss. rw e) (done i w))
+
+  pub cond-right : (d at : ℕ) → at < length ks → Fuel 6 d at → Reads at (λ ss. sCond ∷ ss) at (readCond ks d at)
+  unfolding readCond onto run step
+  cond-right zero at i f = absurd (omega arith)
+  cond-right (suc d) at i f = skip {S′ = λ ss. sConj ∷ sConds ∷ ss} i (λ ss. refl)
+      (after oneConj (λ r. r) (λ t r. refl) (conj-right d at i (omega arith))
+      (λ t m h. more-cond d (oneConj t) at m (h .inside) (h .read) (omega (arith, h .past))))
+
+  -- a statement has at least one token
+  strict : {at m : ℕ} {S : Stack → Stack} {t : Tree stmt} → Ok at S at t m → at < m
+  strict {at} {m} {t = t} h =
+      let e : m + 0 ≡ at + length (onto t []) = lengths m (omega (arith, h .inside)) [] ∙ ap length (h .read []) ∙ sym (lengths at (omega (arith, h .inside, h .past)) (onto t [])) in
+      omega (arith, e, stmt-grows t [])
+    where
+      lengths : (a : ℕ) → a ≤ length ks → (r : List ℕ) → a + length r ≡ length (upto a r)
+      lengths a i r = sym (length-append (take a ks) r ∙ ap (λ (k : ℕ). k + length r) (length-take-le a ks i))
+
+  -- a token that must come
+  expects : {c : Cat} {b at : ℕ} {S′ : Stack → Stack} {r : Res c} (k : ℕ) (t : Tree c) (w : List ℕ → List ℕ) → at < length ks → eqb k 0 ≡ false → ((q : List ℕ) → upto at (w q) ≡ upto b (onto t q))
+      → (Eat at k → Reads b S′ (at + 1) r) → Reads b (λ ss. tok k ∷ S′ ss) at (expect ks k at r)
+  unfolding run step
+  expects {at = at} k t w i z e f =
+      split (eqb (peek ks at) k)
+      (λ q. let x = eat at k i q z in eatThen x (λ ss r. rw (eq-eqb k k refl)) (f x))
+      (λ q. stop i t w e (λ ss. rw q))
+
+  sum-semi : (d b at : ℕ) (wrap : Tree sum → Tree stmt) → at < length ks → Fuel 4 d at → ((t : Tree sum) (r : List ℕ) → upto at (onto t (kSemi ∷ r)) ≡ upto b (onto (wrap t) r))
+      → Reads b (λ ss. sSum ∷ tok kSemi ∷ ss) at (andThen (readSum ks d at) (λ e m. expect ks kSemi m (ok (wrap e) (m + 1))))
+  sum-semi d b at wrap i f w =
+      after wrap (λ r. kSemi ∷ r) w (sum-right d at i f)
+      (λ t m h. expects kSemi (wrap t) (λ r. kSemi ∷ r) (h .inside) refl (λ r. h .read _ ∙ w t r) (λ y. done (y .inside) (λ r. y .read r ∙ h .read _ ∙ w t r)))
+
+  eval-right : (d at : ℕ) → at < length ks → Fuel 4 d at → Reads at (λ ss. sSum ∷ tok kSemi ∷ ss) at (readEval ks d at)
+  unfolding readEval onto
+  eval-right d at i f = sum-semi d at at eval i f (λ t r. refl)
+
+  assign-right : (d at : ℕ) → Eat at kName → Eat (at + 1) kAssign → Fuel 4 d at → Reads at (λ ss. sSum ∷ tok kSemi ∷ ss) (at + 1 + 1) (readAssign ks d at)
+  unfolding readAssign onto
+  assign-right d at x y f = sum-semi d at (at + 1 + 1) (assign at) (y .inside) (omega arith) (λ t r. y .read _ ∙ x .read _)
+
+  return-right : (d at : ℕ) → Eat at kReturn → Fuel 4 d at → Reads at (λ ss. sSum ∷ tok kSemi ∷ ss) (at + 1) (readReturn ks d at)
+  unfolding readReturn onto
+  return-right d at x f = sum-semi d at (at + 1) (return at) (x .inside) (omega arith) (λ t r. x .read _)
+
+  decl-right : (at : ℕ) → Eat at kInt → Reads at (λ ss. tok kName ∷ sDecl ∷ ss) (at + 1) (readDecl ks at)
+  unfolding readDecl onto run step
+  decl-right at x =
+      expects kName (declare 0) (λ r. kName ∷ kSemi ∷ r) (x .inside) refl (λ r. x .read _)
+      (λ y. split (eqb (peek ks (at + 1 + 1)) kSemi)
+      (λ e. let z = eat (at + 1 + 1) kSemi (y .inside) e refl in eatThen z (λ ss r. refl) (done (z .inside) (λ r. z .read _ ∙ y .read _ ∙ x .read _)))
+      (λ e. skip {S′ = λ ss. tok kFree ∷ tok kSemi ∷ ss} (y .inside) (λ ss. rw e)
+      (expects kFree (declare 0) (λ r. kSemi ∷ r) (y .inside) refl (λ r. y .read _ ∙ x .read _)
+      (λ z. expects kSemi (declareFree 0) (λ r. kSemi ∷ r) (z .inside) refl (λ r. z .read _ ∙ y .read _ ∙ x .read _)
+      (λ u. done (u .inside) (λ r. u .read _ ∙ z .read _ ∙ y .read _ ∙ x .read _)))))
+      )
+
+  -- a statement that begins with a name which is not assigned to goes on as a sum
+  named-run : (k : ℕ) (ss : Stack) (r : List ℕ) → eqb k kAssign ≡ false → run (sStmt ∷ ss) (kName ∷ k ∷ r) ≡ run (sSum ∷ tok kSemi ∷ ss) (kName ∷ k ∷ r)
+  unfolding run step
+  named-run k ss r e = rw e
+
+  two-ahead : (at : ℕ) → (x : Eat at kName) → drop at ks ≡ kName ∷ peek ks (at + 1) ∷ drop (at + 1 + 1) ks
+  two-ahead at x = x .ahead ∙ ap (λ l. kName ∷ l) (head (at + 1) (x .inside))
+
+  abbrev someCond : Tree cond
+  someCond = oneConj (oneAtom always)
+
+  mutual
+    unfolding readStmt onto run step
+
+    pub stmt-right : (d at : ℕ) → at < length ks → Fuel 5 d at → Reads at (λ ss. sStmt ∷ ss) at (readStmt ks d at)
+    stmt-right zero at i f = absurd (omega arith)
+    stmt-right (suc d) at i f =
+        split (eqb (peek ks at) kSemi)
+        (λ e. let x = eat at kSemi i e refl in eatThen x (λ ss r. refl) (done (x .inside) (x .read)))
+        (λ e₁. split (eqb (peek ks at) kInt)
+        (λ e. let x = eat at kInt i e refl in eatThen {S′ = λ ss. tok kName ∷ sDecl ∷ ss} x (λ ss r. refl) (decl-right at x))
+        (λ e₂. split (eqb (peek ks at) kName)
+        (λ e. let x = eat at kName i e refl in split (eqb (peek ks (at + 1)) kAssign)
+        (λ e′. let y = eat (at + 1) kAssign (x .inside) e′ refl in eatThen {S′ = λ ss. sNamed ∷ ss} x (λ ss r. refl) (eatThen {S′ = λ ss. sSum ∷ tok kSemi ∷ ss} y (λ ss r. refl) (assign-right d at x y (omega arith))))
+        (λ e′. let z = two-ahead at x in move (le-refl _) (λ ss. ap (run (sStmt ∷ ss)) z ∙ named-run (peek ks (at + 1)) ss (drop (at + 1 + 1) ks) e′ ∙ sym (ap (run (sSum ∷ tok kSemi ∷ ss)) z)) (eval-right d at i (omega arith))))
+        (λ e₃. split (eqb (peek ks at) kLbrace)
+        (λ e. let x = eat at kLbrace i e refl in eatThen {S′ = λ ss. sBody ∷ ss} x (λ ss r. refl)
+        (after (block at) (λ r. r) (λ t r. x .read _) (body-right d noStmts (at + 1) (at + 1) (x .inside) (λ r. refl) (omega arith))
+        (λ t m h. done (h .inside) (λ r. h .read r ∙ x .read _))))
+        (λ e₄. split (eqb (peek ks at) kIf)
+        (λ e. let x = eat at kIf i e refl in eatThen {S′ = λ ss. tok kOpen ∷ sCond ∷ tok kClose ∷ sStmt ∷ tok kElse ∷ sStmt ∷ ss} x (λ ss r. refl) (if-right d at x (omega arith)))
+        (λ e₅. split (eqb (peek ks at) kWhile)
+        (λ e. let x = eat at kWhile i e refl in eatThen {S′ = λ ss. tok kOpen ∷ sCond ∷ tok kClose ∷ sStmt ∷ ss} x (λ ss r. refl) (while-right d at x (omega arith)))
+        (λ e₆. split (eqb (peek ks at) kReturn)
+        (λ e. let x = eat at kReturn i e refl in eatThen {S′ = λ ss. sSum ∷ tok kSemi ∷ ss} x (λ ss r. refl) (return-right d at x (omega arith)))
+        (λ e₇. split (eqb (peek ks at) kFail)
+        (λ e. let x = eat at kFail i e refl in eatThen {S′ = λ ss. tok kSemi ∷ ss} x (λ ss r. refl)
+        (expects kSemi (fail at) (λ r. kSemi ∷ r) (x .inside) refl (λ r. x .read _) (λ y. done (y .inside) (λ r. y .read r ∙ x .read _))))
+        (λ e₈. skip {S′ = λ ss. sSum ∷ tok kSemi ∷ ss} i (λ ss. rw (e₁, e₂, e₃, e₄, e₅, e₆, e₇, e₈)) (eval-right d at i (omega arith))))))))))
+
+    if-right : (d at : ℕ) → Eat at kIf → Fuel 1 d at → Reads at (λ ss. tok kOpen ∷ sCond ∷ tok kClose ∷ sStmt ∷ tok kElse ∷ sStmt ∷ ss) (at + 1) (readIf ks d at)
+    if-right zero at x f = absurd (omega (arith, x .inside))
+    if-right (suc d) at x f =
+        expects kOpen (ifElse at someCond (empty 0) (empty 0)) (λ r. kOpen ∷ kTrue ∷ kClose ∷ kSemi ∷ kElse ∷ kSemi ∷ r) (x .inside) refl (λ r. x .read _)
+        (λ y. after (λ c. ifElse at c (empty 0) (empty 0)) (λ r. kClose ∷ kSemi ∷ kElse ∷ kSemi ∷ r) (λ t r. y .read _ ∙ x .read _) (cond-right d (at + 1 + 1) (y .inside) (omega arith))
+        (λ c m h. expects kClose (ifElse at c (empty 0) (empty 0)) (λ r. kClose ∷ kSemi ∷ kElse ∷ kSemi ∷ r) (h .inside) refl (λ r. h .read _ ∙ y .read _ ∙ x .read _)
+        (λ z. after (λ s. ifElse at c s (empty 0)) (λ r. kElse ∷ kSemi ∷ r) (λ t r. z .read _ ∙ h .read _ ∙ y .read _ ∙ x .read _) (stmt-right d (m + 1) (z .inside) (omega (arith, h .past)))
+        (λ s n g. expects kElse (ifElse at c s (empty 0)) (λ r. kElse ∷ kSemi ∷ r) (g .inside) refl (λ r. g .read _ ∙ z .read _ ∙ h .read _ ∙ y .read _ ∙ x .read _)
+        (λ u. after (λ t. ifElse at c s t) (λ r. r) (λ t r. u .read _ ∙ g .read _ ∙ z .read _ ∙ h .read _ ∙ y .read _ ∙ x .read _) (stmt-right d (n + 1) (u .inside) (omega (arith, h .past, g .past)))
+        (λ t p o. done (o .inside) (λ r. o .read r ∙ u .read _ ∙ g .read _ ∙ z .read _ ∙ h .read _ ∙ y .read _ ∙ x .read _)))))))
+
+    while-right : (d at : ℕ) → Eat at kWhile → Fuel 1 d at → Reads at (λ ss. tok kOpen ∷ sCond ∷ tok kClose ∷ sStmt ∷ ss) (at + 1) (readWhile ks d at)
+    while-right zero at x f = absurd (omega (arith, x .inside))
+    while-right (suc d) at x f =
+        expects kOpen (while at someCond (empty 0)) (λ r. kOpen ∷ kTrue ∷ kClose ∷ kSemi ∷ r) (x .inside) refl (λ r. x .read _)
+        (λ y. after (λ c. while at c (empty 0)) (λ r. kClose ∷ kSemi ∷ r) (λ t r. y .read _ ∙ x .read _) (cond-right d (at + 1 + 1) (y .inside) (omega arith))
+        (λ c m h. expects kClose (while at c (empty 0)) (λ r. kClose ∷ kSemi ∷ r) (h .inside) refl (λ r. h .read _ ∙ y .read _ ∙ x .read _)
+        (λ z. after (λ s. while at c s) (λ r. r) (λ t r. z .read _ ∙ h .read _ ∙ y .read _ ∙ x .read _) (stmt-right d (m + 1) (z .inside) (omega (arith, h .past)))
+        (λ s n g. done (g .inside) (λ r. g .read r ∙ z .read _ ∙ h .read _ ∙ y .read _ ∙ x .read _)))))
+
+    pub body-right : (d : ℕ) (l : Tree stmts) (b at : ℕ) → at < length ks → ((r : List ℕ) → upto at r ≡ upto b (onto l r)) → Fuel 6 d at → Reads b (λ ss. sBody ∷ ss) at (moreBody ks d l at)
+    body-right zero l b at i w f = absurd (omega arith)
+    body-right (suc d) l b at i w f =
+        split (eqb (peek ks at) kRbrace)
+        (λ e. let x = eat at kRbrace i e refl in eatThen x (λ ss r. refl) (done (x .inside) (λ r. x .read r ∙ w _)))
+        (λ e. skip {S′ = λ ss. sStmt ∷ sBody ∷ ss} i (λ ss. rw e)
+        (after (λ s. braced (moreStmts l s) 0) (λ r. kRbrace ∷ r) (λ t r. w _) (stmt-right d at i (omega arith))
+        (λ s m h. body-right d (moreStmts l s) b m (h .inside) (λ r. h .read r ∙ w _) (omega (arith, strict h)))))
+
+  more-params : (d : ℕ) (l : Tree paramList) (b at : ℕ) → at < length ks → ((r : List ℕ) → upto at r ≡ upto b (onto l r)) → Fuel 1 d at → Reads b (λ ss. sParamMore ∷ ss) at (moreParams ks d l at)
+  unfolding moreParams onto run step
+  more-params zero l b at i w f = absurd (omega arith)
+  more-params (suc d) l b at i w f =
+      split (eqb (peek ks at) kComma)
+      (λ e. let x = eat at kComma i e refl in eatThen {S′ = λ ss. tok kInt ∷ tok kName ∷ sParamMore ∷ ss} x (λ ss r. refl)
+      (expects kInt (someParams (nextParam l 0)) (λ r. kInt ∷ kName ∷ kClose ∷ r) (x .inside) refl (λ r. x .read _ ∙ w _)
+      (λ y. expects kName (someParams (nextParam l 0)) (λ r. kName ∷ kClose ∷ r) (y .inside) refl (λ r. y .read _ ∙ x .read _ ∙ w _)
+      (λ z. more-params d (nextParam l (at + 1 + 1)) b (at + 1 + 1 + 1) (z .inside) (λ r. z .read _ ∙ y .read _ ∙ x .read _ ∙ w _) (omega arith)))))
+      (λ e₁. split (eqb (peek ks at) kClose)
+      (λ e. let x = eat at kClose i e refl in eatThen x (λ ss r. refl) (done (x .inside) (λ r. x .read r ∙ w _)))
+      (λ e₂. stop i (someParams l) (λ r. kClose ∷ r) (λ r. w _) (λ ss. rw (e₁, e₂))))
+
+  params-right : (d at : ℕ) → at < length ks → Fuel 1 d at → Reads at (λ ss. sParams ∷ ss) at (readParams ks d at)
+  unfolding readParams onto run step
+  params-right d at i f =
+      split (eqb (peek ks at) kClose)
+      (λ e. let x = eat at kClose i e refl in eatThen x (λ ss r. refl) (done (x .inside) (x .read)))
+      (λ e. skip {S′ = λ ss. tok kInt ∷ tok kName ∷ sParamMore ∷ ss} i (λ ss. rw e)
+      (expects kInt noParams (λ r. kClose ∷ r) i refl (λ r. refl)
+      (λ y. expects kName (someParams (firstParam 0)) (λ r. kName ∷ kClose ∷ r) (y .inside) refl (λ r. y .read _)
+      (λ z. more-params d (firstParam (at + 1)) at (at + 1 + 1) (z .inside) (λ r. z .read _ ∙ y .read _) (omega arith)))))
+
+  fun-right : (d at : ℕ) → Eat at kInt → Fuel 0 d at → Reads at (λ ss. tok kName ∷ tok kOpen ∷ sParams ∷ tok kLbrace ∷ sBody ∷ ss) (at + 1) (readFun ks d at)
+  unfolding readFun onto run step
+  fun-right d at x f =
+      expects kName (function 0 noParams (braced noStmts 0)) (λ r. kName ∷ kOpen ∷ kClose ∷ kLbrace ∷ kRbrace ∷ r) (x .inside) refl (λ r. x .read _)
+      (λ y. expects kOpen (function 0 noParams (braced noStmts 0)) (λ r. kOpen ∷ kClose ∷ kLbrace ∷ kRbrace ∷ r) (y .inside) refl (λ r. y .read _ ∙ x .read _)
+      (λ z. after (λ p. function 0 p (braced noStmts 0)) (λ r. kLbrace ∷ kRbrace ∷ r) (λ t r. z .read _ ∙ y .read _ ∙ x .read _) (params-right d (at + 1 + 1 + 1) (z .inside) (omega arith))
+      (λ p m h. expects kLbrace (function 0 p (braced noStmts 0)) (λ r. kLbrace ∷ kRbrace ∷ r) (h .inside) refl (λ r. h .read _ ∙ z .read _ ∙ y .read _ ∙ x .read _)
+      (λ u. after (λ b. function 0 p b) (λ r. r) (λ t r. u .read _ ∙ h .read _ ∙ z .read _ ∙ y .read _ ∙ x .read _) (body-right d noStmts (m + 1) (m + 1) (u .inside) (λ r. refl) (omega (arith, h .past)))
+      (λ b n g. done (g .inside) (λ r. g .read r ∙ u .read _ ∙ h .read _ ∙ z .read _ ∙ y .read _ ∙ x .read _))))))
+
+  pub prog-right : (d : ℕ) (l : Tree prog) (b at : ℕ) → at < length ks → ((r : List ℕ) → upto at r ≡ upto b (onto l r)) → Fuel 1 d at → Reads b (λ ss. sFuns ∷ ss) at (moreProg ks d l at)
+  unfolding moreProg onto run step
+  prog-right zero l b at i w f = absurd (omega arith)
+  prog-right (suc d) l b at i w f =
+      split (eqb (peek ks at) kInt)
+      (λ e. let x = eat at kInt i e refl in eatThen {S′ = λ ss. tok kName ∷ tok kOpen ∷ sParams ∷ tok kLbrace ∷ sBody ∷ sFuns ∷ ss} x (λ ss r. refl)
+      (after {S₁ = λ ss. tok kName ∷ tok kOpen ∷ sParams ∷ tok kLbrace ∷ sBody ∷ ss} (λ t. moreFuns l t) (λ r. r) (λ t r. w _) (fun-right d at x (omega arith))
+      (λ t m h. prog-right d (moreFuns l t) b m (h .inside) (λ r. h .read r ∙ w _) (omega (arith, h .past)))))
+      (λ e. skip i (λ ss. rw e) (done i w))

@@ -1,0 +1,2 @@
+-- The readers: from tokens to the syntax tree.
+pub mod Parse

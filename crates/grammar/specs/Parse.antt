@@ -1,0 +1,328 @@
+-- The readers: recursive descent over the list of the kinds of the tokens; the next kind decides. A tree holds the numbers of its tokens. d bounds how deep the calls go, and `parsed` gives enough of it.
+use Prim.Native.Nat.{ℕ, zero, suc, _+_, _*_}
+use mathlib.Core.Bool.{Bool, true, false}
+use mathlib.Core.List.{List, [], _∷_}
+use lib.ListN.{length, getD}
+use lib.Dec.{eqb}
+use Rattle.syntax.specs.Token.{kEnd, kName, kNumber, kOpen, kClose, kComma, kPlus, kMinus, kTimes, kTrue, kFalse, kAnd, kOr, kLess, kEqual, kLessEq, kGreater, kGreaterEq, kUnequal, kSemi, kAssign, kLbrace, kRbrace, kInt, kFree, kIf, kElse, kWhile, kReturn, kFail}
+use Rattle.syntax.specs.Tree.{Cat, Tree, Cmp}
+use Rattle.syntax.specs.Tree.{operand, term, sum, args, argList, cmp, atom, conj, cond, stmt, stmts, body, params, paramList, fun, prog}
+use Rattle.syntax.specs.Tree.{less, lessEq, greater, greaterEq, equal, unequal}
+use Rattle.syntax.specs.Tree.{number, negative, name, call, bracket, noArgs, someArgs, firstArg, nextArg, factor, times, addend, plus, minus, cmpMark, always, never, compare, oneAtom, both, oneConj, either, empty, declare, declareFree, assign, eval, block, ifElse, while, return, fail, noStmts, moreStmts, braced, noParams, someParams, firstParam, nextParam, function, noFuns, moreFuns}
+
+-- a tree and the number of the token after it, or the number of the first token that does not fit
+pub data Res (c : Cat) : Type 0 where
+  ok : Tree c → ℕ → Res c
+  bad : ℕ → Res c
+
+abbrev pub andThen : {c e : Cat} → Res c → (Tree c → ℕ → Res e) → Res e
+andThen (ok t at) f = f t at
+andThen (bad at) f = bad at
+
+module _ (ks : List ℕ) where
+  abbrev pub peek : ℕ → ℕ
+  peek at = getD ks at 0
+
+  -- the token k and then r
+  abbrev pub expect : {c : Cat} → ℕ → ℕ → Res c → Res c
+  expect k at r = elim (eqb (peek at) k) [ true ↦ r | false ↦ bad at ]
+
+  unfoldable mutual
+    -- "operands are numbers, `-` with a number, names, calls, `( e )`"
+    pub readOperand : ℕ → ℕ → Res operand
+    readOperand zero at = bad at
+    readOperand (suc d) at =
+        elim (eqb (peek at) kNumber) [
+          | true ↦ ok (number at) (at + 1)
+          | false ↦
+              elim (eqb (peek at) kMinus) [
+                | true ↦ expect kNumber (at + 1) (ok (negative at) (at + 1 + 1))
+                | false ↦
+                    elim (eqb (peek at) kName) [
+                      | true ↦ readCall d at
+                      | false ↦
+                          elim (eqb (peek at) kOpen) [
+                            | true ↦ readBracket d at
+                            | false ↦
+                                bad at
+                          ]
+                    ]
+              ]
+        ]
+
+    -- ( e ), whose opening bracket is at `at`
+    pub readBracket : ℕ → ℕ → Res operand
+    readBracket zero at = bad at
+    readBracket (suc d) at = andThen (readSum d (at + 1)) (λ e m. expect kClose m (ok (bracket at e) (m + 1)))
+
+    -- a name, which is at `at`, or a call of it
+    pub readCall : ℕ → ℕ → Res operand
+    readCall zero at = bad at
+    readCall (suc d) at =
+        elim (eqb (peek (at + 1)) kOpen) [
+          | true ↦ andThen (readArgs d (at + 1 + 1)) (λ a m. ok (call at a) m)
+          | false ↦
+              ok (name at) (at + 1)
+        ]
+
+    -- the arguments of a call with the closing bracket
+    pub readArgs : ℕ → ℕ → Res args
+    readArgs zero at = bad at
+    readArgs (suc d) at =
+        elim (eqb (peek at) kClose) [
+          | true ↦ ok noArgs (at + 1)
+          | false ↦
+              andThen (readSum d at) (λ e m. moreArgs d (firstArg e) m)
+        ]
+
+    -- what follows the arguments l: a comma and one more, or the closing bracket
+    pub moreArgs : ℕ → Tree argList → ℕ → Res args
+    moreArgs zero l at = bad at
+    moreArgs (suc d) l at =
+        elim (eqb (peek at) kComma) [
+          | true ↦ andThen (readSum d (at + 1)) (λ e m. moreArgs d (nextArg l e) m)
+          | false ↦
+              elim (eqb (peek at) kClose) [
+                | true ↦ ok (someArgs l) (at + 1)
+                | false ↦
+                    bad at
+              ]
+        ]
+
+    -- "`*` above `+` and `-`, left to right"
+    pub readTerm : ℕ → ℕ → Res term
+    readTerm zero at = bad at
+    readTerm (suc d) at = andThen (readOperand d at) (λ o m. moreTerm d (factor o) m)
+
+    -- what follows the term l
+    pub moreTerm : ℕ → Tree term → ℕ → Res term
+    moreTerm zero l at = bad at
+    moreTerm (suc d) l at =
+        elim (eqb (peek at) kTimes) [
+          | true ↦ andThen (readOperand d (at + 1)) (λ o m. moreTerm d (times l o) m)
+          | false ↦
+              ok l at
+        ]
+
+    -- an expression
+    pub readSum : ℕ → ℕ → Res sum
+    readSum zero at = bad at
+    readSum (suc d) at = andThen (readTerm d at) (λ t m. moreSum d (addend t) m)
+
+    -- what follows the sum l
+    pub moreSum : ℕ → Tree sum → ℕ → Res sum
+    moreSum zero l at = bad at
+    moreSum (suc d) l at =
+        elim (eqb (peek at) kPlus) [
+          | true ↦ andThen (readTerm d (at + 1)) (λ t m. moreSum d (plus l t) m)
+          | false ↦
+              elim (eqb (peek at) kMinus) [
+                | true ↦ andThen (readTerm d (at + 1)) (λ t m. moreSum d (minus l t) m)
+                | false ↦
+                    ok l at
+              ]
+        ]
+
+  -- "one of `< <= > >= == !=`"
+  unfoldable pub readCmp : ℕ → Res cmp
+  readCmp at =
+      elim (eqb (peek at) kLess) [
+        | true ↦ ok (cmpMark less) (at + 1)
+        | false ↦
+            elim (eqb (peek at) kLessEq) [
+              | true ↦ ok (cmpMark lessEq) (at + 1)
+              | false ↦
+                  elim (eqb (peek at) kGreater) [
+                    | true ↦ ok (cmpMark greater) (at + 1)
+                    | false ↦
+                        elim (eqb (peek at) kGreaterEq) [
+                          | true ↦ ok (cmpMark greaterEq) (at + 1)
+                          | false ↦
+                              elim (eqb (peek at) kEqual) [
+                                | true ↦ ok (cmpMark equal) (at + 1)
+                                | false ↦
+                                    elim (eqb (peek at) kUnequal) [
+                                      | true ↦ ok (cmpMark unequal) (at + 1)
+                                      | false ↦
+                                          bad at
+                                    ]
+                              ]
+                        ]
+                  ]
+            ]
+      ]
+
+  -- "operands are true, false or two expressions with one of .. between"
+  unfoldable pub readAtom : ℕ → ℕ → Res atom
+  readAtom d at =
+      elim (eqb (peek at) kTrue) [
+        | true ↦ ok always (at + 1)
+        | false ↦
+            elim (eqb (peek at) kFalse) [
+              | true ↦ ok never (at + 1)
+              | false ↦
+                  andThen (readSum d at) (λ a m. andThen (readCmp m) (λ o n. andThen (readSum d n) (λ b p. ok (compare a o b) p)))
+            ]
+      ]
+
+  -- what follows the conjunction l
+  unfoldable pub moreConj : ℕ → Tree conj → ℕ → Res conj
+  moreConj zero l at = bad at
+  moreConj (suc d) l at =
+      elim (eqb (peek at) kAnd) [
+        | true ↦ andThen (readAtom d (at + 1)) (λ a m. moreConj d (both l a) m)
+        | false ↦
+            ok l at
+      ]
+
+  -- "`&&` above `||`, left to right"
+  unfoldable pub readConj : ℕ → ℕ → Res conj
+  readConj zero at = bad at
+  readConj (suc d) at = andThen (readAtom d at) (λ a m. moreConj d (oneAtom a) m)
+
+  -- what follows the condition l
+  unfoldable pub moreCond : ℕ → Tree cond → ℕ → Res cond
+  moreCond zero l at = bad at
+  moreCond (suc d) l at =
+      elim (eqb (peek at) kOr) [
+        | true ↦ andThen (readConj d (at + 1)) (λ c m. moreCond d (either l c) m)
+        | false ↦
+            ok l at
+      ]
+
+  -- a condition
+  unfoldable pub readCond : ℕ → ℕ → Res cond
+  readCond zero at = bad at
+  readCond (suc d) at = andThen (readConj d at) (λ c m. moreCond d (oneConj c) m)
+
+  -- e ;
+  unfoldable pub readEval : ℕ → ℕ → Res stmt
+  readEval d at = andThen (readSum d at) (λ e m. expect kSemi m (ok (eval e) (m + 1)))
+
+  -- x = e ;
+  unfoldable pub readAssign : ℕ → ℕ → Res stmt
+  readAssign d at = andThen (readSum d (at + 1 + 1)) (λ e m. expect kSemi m (ok (assign at e) (m + 1)))
+
+  -- int x ; or int x free ;
+  unfoldable pub readDecl : ℕ → Res stmt
+  readDecl at =
+      expect kName (at + 1) (elim (eqb (peek (at + 1 + 1)) kSemi) [
+        | true ↦ ok (declare at) (at + 1 + 1 + 1)
+        | false ↦
+            expect kFree (at + 1 + 1) (expect kSemi (at + 1 + 1 + 1) (ok (declareFree at) (at + 1 + 1 + 1 + 1)))
+      ])
+
+  -- return e ;
+  unfoldable pub readReturn : ℕ → ℕ → Res stmt
+  readReturn d at = andThen (readSum d (at + 1)) (λ e m. expect kSemi m (ok (return at e) (m + 1)))
+
+  unfoldable mutual
+    -- a statement: its first token decides; of two that begin with a name, the second
+    pub readStmt : ℕ → ℕ → Res stmt
+    readStmt zero at = bad at
+    readStmt (suc d) at =
+        elim (eqb (peek at) kSemi) [
+          | true ↦ ok (empty at) (at + 1)
+          | false ↦
+              elim (eqb (peek at) kInt) [
+                | true ↦ readDecl at
+                | false ↦
+                    elim (eqb (peek at) kName) [
+                      | true ↦ elim (eqb (peek (at + 1)) kAssign) [ true ↦ readAssign d at | false ↦ readEval d at ]
+                      | false ↦
+                          elim (eqb (peek at) kLbrace) [
+                            | true ↦ andThen (moreBody d noStmts (at + 1)) (λ b m. ok (block at b) m)
+                            | false ↦
+                                elim (eqb (peek at) kIf) [
+                                  | true ↦ readIf d at
+                                  | false ↦
+                                      elim (eqb (peek at) kWhile) [
+                                        | true ↦ readWhile d at
+                                        | false ↦
+                                            elim (eqb (peek at) kReturn) [
+                                              | true ↦ readReturn d at
+                                              | false ↦
+                                                  elim (eqb (peek at) kFail) [
+                                                    | true ↦ expect kSemi (at + 1) (ok (fail at) (at + 1 + 1))
+                                                    | false ↦
+                                                        readEval d at
+                                                  ]
+                                            ]
+                                      ]
+                                ]
+                          ]
+                    ]
+              ]
+        ]
+
+    -- `if (b) s else s`
+    pub readIf : ℕ → ℕ → Res stmt
+    readIf zero at = bad at
+    readIf (suc d) at =
+        expect kOpen (at + 1) (andThen (readCond d (at + 1 + 1)) (λ c m. expect kClose m
+        (andThen (readStmt d (m + 1)) (λ s n. expect kElse n
+        (andThen (readStmt d (n + 1)) (λ t p. ok (ifElse at c s t) p))))))
+
+    -- `while (b) s`
+    pub readWhile : ℕ → ℕ → Res stmt
+    readWhile zero at = bad at
+    readWhile (suc d) at =
+        expect kOpen (at + 1) (andThen (readCond d (at + 1 + 1)) (λ c m. expect kClose m
+        (andThen (readStmt d (m + 1)) (λ s n. ok (while at c s) n))))
+
+    -- what follows the statements l: the closing brace, or one more
+    pub moreBody : ℕ → Tree stmts → ℕ → Res body
+    moreBody zero l at = bad at
+    moreBody (suc d) l at =
+        elim (eqb (peek at) kRbrace) [
+          | true ↦ ok (braced l at) (at + 1)
+          | false ↦
+              andThen (readStmt d at) (λ s m. moreBody d (moreStmts l s) m)
+        ]
+
+  -- what follows the parameters l: a comma and one more, or the closing bracket
+  unfoldable pub moreParams : ℕ → Tree paramList → ℕ → Res params
+  moreParams zero l at = bad at
+  moreParams (suc d) l at =
+      elim (eqb (peek at) kComma) [
+        | true ↦ expect kInt (at + 1) (expect kName (at + 1 + 1) (moreParams d (nextParam l (at + 1 + 1)) (at + 1 + 1 + 1)))
+        | false ↦
+            elim (eqb (peek at) kClose) [
+              | true ↦ ok (someParams l) (at + 1)
+              | false ↦
+                  bad at
+            ]
+      ]
+
+  -- the parameters with the closing bracket: "each parameter `int name`, comma between"
+  unfoldable pub readParams : ℕ → ℕ → Res params
+  readParams d at =
+      elim (eqb (peek at) kClose) [
+        | true ↦ ok noParams (at + 1)
+        | false ↦
+            expect kInt at (expect kName (at + 1) (moreParams d (firstParam (at + 1)) (at + 1 + 1)))
+      ]
+
+  -- `int name ( parameters ) { statements }`
+  unfoldable pub readFun : ℕ → ℕ → Res fun
+  readFun d at =
+      expect kName (at + 1) (expect kOpen (at + 1 + 1) (andThen (readParams d (at + 1 + 1 + 1)) (λ p m.
+      expect kLbrace m (andThen (moreBody d noStmts (m + 1)) (λ b n. ok (function (at + 1) p b) n)))))
+
+  -- "functions, or none"; l are those so far
+  unfoldable pub moreProg : ℕ → Tree prog → ℕ → Res prog
+  moreProg zero l at = bad at
+  moreProg (suc d) l at =
+      elim (eqb (peek at) kInt) [
+        | true ↦ andThen (readFun d at) (λ f m. moreProg d (moreFuns l f) m)
+        | false ↦
+            ok l at
+      ]
+
+  -- a whole text: functions, and then the end
+  unfoldable pub readText : ℕ → Res prog
+  readText d = andThen (moreProg d noFuns 0) (λ p m. expect kEnd m (ok p m))
+
+-- the tree of a token list, or the number of the first token that does not fit
+abbrev pub parsed : List ℕ → Res prog
+parsed ks = readText ks (8 * length ks + 8)

@@ -1,0 +1,1 @@
+// The readers: from tokens to the syntax tree in a lent table.
