@@ -171,14 +171,14 @@ front (b ∷ bs) =
       ]
     ]
 
--- the tokens found, or the place of the first byte that begins none
+-- the tokens found to the end, or those before the first byte that begins none, and its place
 pub data Scanned : Type 0 where
   found : List Token → Scanned
-  stray : ℕ → Scanned
+  stray : List Token → ℕ → Scanned
 
 abbrev pub before : Token → Scanned → Scanned
 before t (found ts) = found (t ∷ ts)
-before t (stray p) = stray p
+before t (stray ts p) = stray (t ∷ ts) p
 
 -- The tokens of the bytes from place p on, of which the first k belong to a token that has begun before.
 -- "the end being a token at the text's length"
@@ -188,7 +188,7 @@ scan p (suc k) (b ∷ bs) = scan (suc p) k bs
 scan p zero (b ∷ bs) =
     elim (front (b ∷ bs)) [
       | blank ↦ scan (suc p) zero bs
-      | nothing ↦ stray p
+      | nothing ↦ stray [] p
       | token k n v ↦ before (record { kind = k; place = p; value = v }) (scan (suc p) (n - 1) bs)
     ]
 
@@ -211,5 +211,5 @@ unfoldable pub lexed : List ℕ → Answer
 lexed text =
     elim (ltb 2048 (length text)) [
       | true ↦ refused 1 2048
-      | false ↦ elim (scan 0 0 text) [ stray p ↦ refused 2 p | found ts ↦ noneLarge ts ts ]
+      | false ↦ elim (scan 0 0 text) [ stray ts p ↦ refused 2 p | found ts ↦ noneLarge ts ts ]
     ]

@@ -1,1 +1,2 @@
 pub mod Lex
+pub mod Parts

@@ -1,60 +1,71 @@
--- What a list answers, from the moves of the whole search: the rows are those that the moves within the budget find, less the skipped ones, as many as have a place.
-use Prim.Native.Nat.{ℕ, zero, suc, _≤_, _<_}
+-- What list answers, from the moves of the whole search: rows, moves made and ending under every skip, room and budget.
+use Prim.Native.Nat.{ℕ, zero, suc, _+_, _≤_, _<_, suc-le-suc}
 use mathlib.Core.Path.{_≡_, refl, sym, ap, _∙_, subst}
-use mathlib.Core.Bool.{Bool, true, false, not, cond, _||_}
+use mathlib.Core.Bool.{Bool, true, false, cond}
 use mathlib.Core.List.{List, [], _∷_, _++_}
 use native.Mathlib.Omega.{arith}
-use lib.ListN.{length, take, drop, length-drop, length-append, take-append-drop}
-use lib.Dec.{T, ltb, ltb→lt, nltb→le, leb·zero, leb·suc-zero, leb·suc-suc}
-use lib.Seq.{take-nil, drop-nil, take-all, take-append-le, drop-append-le}
-use Rattle.semantics.specs.Run.{Row, Job, plans, choices, someCut}
-use Rattle.semantics.specs.Search.{all32, Move, plain, found, probe, rowsIn, cutIn, search, Close, whole, cuts, full, spent, Answer, answer, listed}
+use lib.ListN.{length, take, drop, length-append, take-append-drop}
+use lib.Dec.{T}
+use lib.Seq.{drop-nil}
+use Rattle.semantics.specs.Run.{Row, Job, choices, someCut}
+use Rattle.semantics.specs.Search.{all32, Move, plain, found, probe, rowsIn, cutIn, Solver, search, Close, whole, cuts, full, spent, Answer, answer, listed}
+use Rattle.semantics.specs.Promise.{Ended, Full, Spent, Promised, atWhole, atCut, atFull, atSpent}
 use Rattle.semantics.proofs.Range.{Sub}
+use Rattle.semantics.proofs.Sound.{Sound}
 use Rattle.semantics.proofs.Complete.{search-rows, search-cut}
+use Rattle.semantics.proofs.Plans.{some-cut}
+use Rattle.semantics.proofs.Trace.{by-less}
 
--- the rows past the skipped ones that the moves within the budget find
-unfoldable pub due : List Move → ℕ → ℕ → List Row
-due ms skip budget = drop skip (rowsIn (take budget ms))
+-- ---- the answer over any list of moves
 
-due-nil : (skip budget : ℕ) → due [] skip budget ≡ []
-unfolding due rowsIn
-due-nil skip budget = rw take-nil (drop-nil skip)
+-- `c` is how an end without a cut run closes
+data Outcome (c : Close) (ms : List Move) (skip room budget : ℕ) (a : Answer) : Type 0 where
+  ended : a .close ≡ cond (cutIn ms) cuts c → a .moves ≡ length ms → a .rows ≡ drop skip (rowsIn ms) → length ms ≤ budget → length (rowsIn ms) ≤ skip + room → Outcome c ms skip room budget a
+  filled : (last : ℕ) → a .close ≡ full → a .moves ≡ suc last → a .rows ≡ take room (drop skip (rowsIn ms)) → suc last ≤ budget → length (rowsIn (take last ms)) ≡ skip + room
+      → length (rowsIn (take (suc last) ms)) ≡ suc (skip + room) → Outcome c ms skip room budget a
+  stopped : a .close ≡ spent → a .moves ≡ budget → a .rows ≡ drop skip (rowsIn (take budget ms)) → budget < length ms → length (rowsIn (take budget ms)) ≤ skip + room → Outcome c ms skip room budget a
 
-due-zero : (ms : List Move) (skip : ℕ) → due ms skip zero ≡ []
-unfolding due rowsIn
-due-zero ms skip = drop-nil skip
+abbrev after : Answer → List Row → Answer
+after a rs = record { rows = rs; moves = suc (a .moves); close = a .close }
 
-pub answer-rows : (c : Close) (ms : List Move) (skip room budget : ℕ) → answer c ms skip room budget .rows ≡ take room (due ms skip budget)
-unfolding answer due rowsIn
-answer-rows c [] skip room budget = sym (ap (take room) (due-nil skip budget) ∙ take-nil room)
-answer-rows c (m ∷ ms) skip room zero = sym (ap (take room) (due-zero (m ∷ ms) skip) ∙ take-nil room)
-answer-rows c (plain k ∷ ms) skip room (suc n) = answer-rows c ms skip room n
-answer-rows c (probe false ∷ ms) skip room (suc n) = answer-rows c ms skip room n
-answer-rows c (probe true ∷ ms) skip room (suc n) = answer-rows cuts ms skip room n
-answer-rows c (found r ∷ ms) (suc k) room (suc n) = answer-rows c ms k room n
-answer-rows c (found r ∷ ms) zero zero (suc n) = refl
-answer-rows c (found r ∷ ms) zero (suc k) (suc n) = ap (λ l. r ∷ l) (answer-rows c ms zero k n)
+-- a move that finds no row
+module _ (c c′ : Close) (m : Move) (ms : List Move) (quiet : (l : List Move) → rowsIn (m ∷ l) ≡ rowsIn l) (close : cond (cutIn ms) cuts c′ ≡ cond (cutIn (m ∷ ms)) cuts c) where
+  moved-ok : (skip room n : ℕ) (a : Answer) → Outcome c′ ms skip room n a → Outcome c (m ∷ ms) skip room (suc n) (after a (a .rows))
+  moved-ok skip room n a (ended p q r s t) = ended (p ∙ close) (ap suc q) (r ∙ ap (drop skip) (sym (quiet ms))) (suc-le-suc s) (rw (quiet ms) t)
+  moved-ok skip room n a (filled l p q r s t u) =
+      filled (suc l) p (ap suc q) (r ∙ ap (λ l. take room (drop skip l)) (sym (quiet ms))) (suc-le-suc s) (ap length (quiet (take l ms)) ∙ t) (ap length (quiet (take (suc l) ms)) ∙ u)
+  moved-ok skip room n a (stopped p q r s t) = stopped p (ap suc q) (r ∙ ap (drop skip) (sym (quiet (take n ms)))) (suc-le-suc s) (rw (quiet (take n ms)) t)
 
--- how it closes: full where a row has no place, else spent where the budget is made and moves are left, else the search ended
-abbrev pub closing : Close → List Move → ℕ → ℕ → ℕ → Close
-closing c ms skip room budget = cond (ltb room (length (due ms skip budget))) full (cond (ltb budget (length ms)) spent (cond (cutIn ms) cuts c))
+-- a row that is skipped, and one that is written
+module _ (c : Close) (r : Row) (ms : List Move) where
+  skipped-ok : (skip room n : ℕ) (a : Answer) → Outcome c ms skip room n a → Outcome c (found r ∷ ms) (suc skip) room (suc n) (after a (a .rows))
+  unfolding rowsIn cutIn
+  skipped-ok skip room n a (ended p q w s t) = ended p (ap suc q) w (suc-le-suc s) (omega arith)
+  skipped-ok skip room n a (filled l p q w s t u) = filled (suc l) p (ap suc q) w (suc-le-suc s) (omega (arith, t)) (omega (arith, u))
+  skipped-ok skip room n a (stopped p q w s t) = stopped p (ap suc q) w (suc-le-suc s) (omega arith)
+
+  wrote-ok : (room n : ℕ) (a : Answer) → Outcome c ms zero room n a → Outcome c (found r ∷ ms) zero (suc room) (suc n) (after a (r ∷ a .rows))
+  unfolding rowsIn cutIn
+  wrote-ok room n a (ended p q w s t) = ended p (ap suc q) (ap (λ l. r ∷ l) w) (suc-le-suc s) (omega arith)
+  wrote-ok room n a (filled l p q w s t u) = filled (suc l) p (ap suc q) (ap (λ l. r ∷ l) w) (suc-le-suc s) (omega (arith, t)) (omega (arith, u))
+  wrote-ok room n a (stopped p q w s t) = stopped p (ap suc q) (ap (λ l. r ∷ l) w) (suc-le-suc s) (omega arith)
 
 same-cuts : (b : Bool) → cond b cuts cuts ≡ cuts
 same-cuts true = refl
 same-cuts false = refl
 
-pub answer-close : (c : Close) (ms : List Move) (skip room budget : ℕ) → answer c ms skip room budget .close ≡ closing c ms skip room budget
-unfolding answer due rowsIn cutIn
-answer-close c [] skip room budget = rw (due-nil skip budget, leb·suc-zero room, leb·suc-zero budget)
-answer-close c (m ∷ ms) skip room zero = rw (due-zero (m ∷ ms) skip, leb·suc-zero room, leb·suc-suc zero (length ms), leb·zero (length ms))
-answer-close c (plain k ∷ ms) skip room (suc n) = rw (leb·suc-suc (suc n) (length ms)) (answer-close c ms skip room n)
-answer-close c (probe false ∷ ms) skip room (suc n) = rw (leb·suc-suc (suc n) (length ms)) (answer-close c ms skip room n)
-answer-close c (probe true ∷ ms) skip room (suc n) = rw (leb·suc-suc (suc n) (length ms)) (rw same-cuts at (answer-close cuts ms skip room n))
-answer-close c (found r ∷ ms) (suc k) room (suc n) = rw (leb·suc-suc (suc n) (length ms)) (answer-close c ms k room n)
-answer-close c (found r ∷ ms) zero zero (suc n) = rw (leb·suc-suc zero (length (due ms zero n)), leb·zero (length (due ms zero n)))
-answer-close c (found r ∷ ms) zero (suc k) (suc n) = rw (leb·suc-suc (suc n) (length ms), leb·suc-suc (suc k) (length (due ms zero n))) (answer-close c ms zero k n)
+outcome : (c : Close) (ms : List Move) (skip room budget : ℕ) → Outcome c ms skip room budget (answer c ms skip room budget)
+unfolding answer rowsIn cutIn
+outcome c [] skip room budget = ended refl refl (sym (drop-nil skip)) (omega arith) (omega arith)
+outcome c (m ∷ ms) skip room zero = stopped refl refl (sym (drop-nil skip)) (omega arith) (omega arith)
+outcome c (plain k ∷ ms) skip room (suc n) = moved-ok c c (plain k) ms (λ l. refl) refl skip room n _ (outcome c ms skip room n)
+outcome c (probe false ∷ ms) skip room (suc n) = moved-ok c c (probe false) ms (λ l. refl) refl skip room n _ (outcome c ms skip room n)
+outcome c (probe true ∷ ms) skip room (suc n) = moved-ok c cuts (probe true) ms (λ l. refl) (same-cuts (cutIn ms)) skip room n _ (outcome cuts ms skip room n)
+outcome c (found r ∷ ms) (suc k) room (suc n) = skipped-ok c r ms k room n _ (outcome c ms k room n)
+outcome c (found r ∷ ms) zero zero (suc n) = filled zero refl refl refl (omega arith) refl refl
+outcome c (found r ∷ ms) zero (suc k) (suc n) = wrote-ok c r ms k n _ (outcome c ms zero k n)
 
--- ---- what is written, by how it closes
+-- ---- front parts
 
 rows-append : (l m : List Move) → rowsIn (l ++ m) ≡ rowsIn l ++ rowsIn m
 unfolding rowsIn
@@ -67,45 +78,98 @@ rows-append (probe o ∷ l) m = rows-append l m
 front : (ms : List Move) (n : ℕ) → rowsIn ms ≡ rowsIn (take n ms) ++ rowsIn (drop n ms)
 front ms n = ap rowsIn (sym (take-append-drop n ms)) ∙ rows-append (take n ms) (drop n ms)
 
--- `all` are the rows of the whole search
-abbrev pub Written : List Row → List Move → ℕ → ℕ → ℕ → List Row → Close → Type 0
-Written all ms skip room budget rows whole = rows ≡ drop skip all
-Written all ms skip room budget rows cuts = rows ≡ drop skip all
-Written all ms skip room budget rows full = (rows ≡ take room (drop skip all)) × (room < length (drop skip all))
-Written all ms skip room budget rows spent = (rows ≡ drop skip (rowsIn (take budget ms))) × ((rest : List Row) × (all ≡ rowsIn (take budget ms) ++ rest))
+drop-front : (n : ℕ) (x y : List Row) → (rest : List Row) × (drop n (x ++ y) ≡ drop n x ++ rest)
+drop-front zero x y = (y, refl)
+drop-front (suc n) [] y = (drop (suc n) y, refl)
+drop-front (suc n) (r ∷ x) y = drop-front n x y
 
-module _ (ms : List Move) (skip room budget : ℕ) where
-  abbrev is-due : List Row
-  is-due = due ms skip budget
+-- ---- the promise
 
-  at-full : room < length is-due → (take room is-due ≡ take room (drop skip (rowsIn ms))) × (room < length (drop skip (rowsIn ms)))
-  unfolding due
-  at-full h =
-      let p = rowsIn (take budget ms) in
-      let q = rowsIn (drop budget ms) in
-      let l : skip ≤ length (rowsIn (take budget ms)) = omega (arith, length-drop skip (rowsIn (take budget ms))) in
-      let e : drop skip (rowsIn ms) ≡ drop skip (rowsIn (take budget ms)) ++ rowsIn (drop budget ms) = ap (drop skip) (front ms budget) ∙ drop-append-le skip p q l in
-      rw e (sym (take-append-le room (drop skip p) q (omega arith)), omega (arith, length-append (drop skip p) q))
-
-  at-spent : length is-due ≤ room → (take room is-due ≡ drop skip (rowsIn (take budget ms))) × ((rest : List Row) × (rowsIn ms ≡ rowsIn (take budget ms) ++ rest))
-  unfolding due
-  at-spent h = (take-all room (drop skip (rowsIn (take budget ms))) h, (rowsIn (drop budget ms), front ms budget))
-
-  at-end : length is-due ≤ room → length ms ≤ budget → take room is-due ≡ drop skip (rowsIn ms)
-  unfolding due
-  at-end h k = take-all room (drop skip (rowsIn (take budget ms))) h ∙ ap (λ l. drop skip (rowsIn l)) (take-all budget ms k)
-
-  pub written : Written (rowsIn ms) ms skip room budget (answer whole ms skip room budget .rows) (answer whole ms skip room budget .close)
-  written = rw (answer-rows whole ms skip room budget, answer-close whole ms skip room budget)
-      (go (ltb room (length is-due)) (ltb→lt room (length is-due)) (nltb→le room (length is-due)) (ltb budget (length ms)) (nltb→le budget (length ms)) (cutIn ms))
+module _ (v : Solver) (sound : Sound v) (j : Job) (small : Sub (j .window) all32) (skip room budget : ℕ) where
+  promised : (a : Answer) → Outcome whole (search v j) skip room budget a → Promised v j skip room budget a
+  promised a (filled l p q w s t u) = atFull p (record {
+    last = l;
+    time = s;
+    place = t;
+    over = u;
+    made = q;
+    written = w ∙ ap (λ l. take room (drop skip l)) (search-rows v sound j small);
+    more = omega (arith, u, ap length (sym (search-rows v sound j small) ∙ front (search v j) (suc l)), length-append (rowsIn (take (suc l) (search v j))) (rowsIn (drop (suc l) (search v j))));
+  })
+  promised a (stopped p q w s t) =
+      let e = drop-front skip (rowsIn (take budget (search v j))) (rowsIn (drop budget (search v j))) in
+      atSpent p (record { time = s; place = t; made = q; written = w; rest = e .0; front = ap (drop skip) (sym (search-rows v sound j small) ∙ front (search v j) budget) ∙ e .1 ∙ ap (λ l. l ++ e .0) (sym w) })
+  promised a (ended p q w s t) = go (someCut (choices j)) refl
     where
-      go : (a : Bool) → (T a → room < length is-due) → (T (not a) → length is-due ≤ room) → (b : Bool) → (T (not b) → length ms ≤ budget) → (c : Bool) → Written (rowsIn ms) ms skip room budget (take room is-due) (cond a full (cond b spent (cond c cuts whole)))
-      go true f g b h c = at-full (f tt)
-      go false f g true h c = at-spent (g tt)
-      go false f g false h true = at-end (g tt) (h tt)
-      go false f g false h false = at-end (g tt) (h tt)
+      all : Ended v j skip room budget a
+      all = record { time = s; place = omega (arith, t, ap length (search-rows v sound j small)); made = q; written = w ∙ ap (drop skip) (search-rows v sound j small) }
 
--- The promise of list: what it writes is the plan list, or its front part, as its ending says; and where the search ended, it says rightly whether some run is cut.
-pub promise : (j : Job) → Sub (j .window) all32 → (skip room budget : ℕ) → Written (plans j) (search j) skip room budget (listed j skip room budget .rows) (listed j skip room budget .close)
-unfolding listed
-promise j small skip room budget = subst (λ all. Written all (search j) skip room budget (answer whole (search j) skip room budget .rows) (answer whole (search j) skip room budget .close)) (search-rows j small) (written (search j) skip room budget)
+      closes : (b : Bool) → someCut (choices j) ≡ b → a .close ≡ cond b cuts whole
+      closes b e = p ∙ ap (λ b. cond b cuts whole) (search-cut v sound j small ∙ e)
+
+      go : (b : Bool) → someCut (choices j) ≡ b → Promised v j skip room budget a
+      go true e = atCut (closes true e) all (some-cut j .0 (subst T (sym e) tt))
+      go false e = atWhole (closes false e) all (λ c. subst T e (some-cut j .1 c))
+
+  pub promise : Promised v j skip room budget (listed v j skip room budget)
+  unfolding listed
+  promise = promised (answer whole (search v j) skip room budget) (outcome whole (search v j) skip room budget)
+
+-- ---- the promise leaves nothing open: an answer that keeps it is list's
+
+rows-mono : (ms : List Move) (m n : ℕ) → m ≤ n → length (rowsIn (take m ms)) ≤ length (rowsIn (take n ms))
+unfolding rowsIn
+rows-mono ms zero n h = omega arith
+rows-mono ms (suc m) zero h = absurd (omega arith)
+rows-mono [] (suc m) (suc n) h = omega arith
+rows-mono (plain k ∷ ms) (suc m) (suc n) h = rows-mono ms m n (omega arith)
+rows-mono (found r ∷ ms) (suc m) (suc n) h = suc-le-suc (rows-mono ms m n (omega arith))
+rows-mono (probe o ∷ ms) (suc m) (suc n) h = rows-mono ms m n (omega arith)
+
+-- two counts of moves, each the last before the same row
+same-last : (ms : List Move) (m n k : ℕ) → length (rowsIn (take m ms)) ≡ k → length (rowsIn (take (suc m) ms)) ≡ suc k → length (rowsIn (take n ms)) ≡ k → length (rowsIn (take (suc n) ms)) ≡ suc k → m ≡ n
+same-last ms m n k a b c d = let x = at-most m n a d in let y = at-most n m c b in omega arith
+  where
+    at-most : (m n : ℕ) → length (rowsIn (take m ms)) ≡ k → length (rowsIn (take (suc n) ms)) ≡ suc k → m ≤ n
+    at-most m n a d = by-less n m (λ l. absurd (omega (arith, a, d, rows-mono ms (suc n) m l))) (λ l. l)
+
+answer-path : {a b : Answer} → a .rows ≡ b .rows → a .moves ≡ b .moves → a .close ≡ b .close → a ≡ b
+answer-path p q r = λ i. record { rows = p i; moves = q i; close = r i }
+
+module _ (v : Solver) (j : Job) (skip room budget : ℕ) (a b : Answer) where
+  one-ended : (c : Close) → a .close ≡ c → b .close ≡ c → Ended v j skip room budget a → Ended v j skip room budget b → a ≡ b
+  one-ended c e f p q = answer-path (p .written ∙ sym (q .written)) (p .made ∙ sym (q .made)) (e ∙ sym f)
+
+  one-full : a .close ≡ full → b .close ≡ full → Full v j skip room budget a → Full v j skip room budget b → a ≡ b
+  one-full e f p q = answer-path (p .written ∙ sym (q .written)) (p .made ∙ ap suc (same-last (search v j) (p .last) (q .last) (skip + room) (p .place) (p .over) (q .place) (q .over)) ∙ sym (q .made)) (e ∙ sym f)
+
+  one-spent : a .close ≡ spent → b .close ≡ spent → Spent v j skip room budget a → Spent v j skip room budget b → a ≡ b
+  one-spent e f p q = answer-path (p .written ∙ sym (q .written)) (p .made ∙ sym (q .made)) (e ∙ sym f)
+
+module _ (v : Solver) (j : Job) (skip room budget : ℕ) where
+  ended-full : (a b : Answer) → Ended v j skip room budget a → Full v j skip room budget b → ⊥
+  ended-full a b p q = omega (arith, p .place, q .more)
+
+  ended-spent : (a b : Answer) → Ended v j skip room budget a → Spent v j skip room budget b → ⊥
+  ended-spent a b p q = omega (arith, p .time, q .time)
+
+  full-spent : (a b : Answer) → Full v j skip room budget a → Spent v j skip room budget b → ⊥
+  full-spent a b p q = omega (arith, p .over, q .place, rows-mono (search v j) (suc (p .last)) budget (p .time))
+
+  pub promise-settles : (a b : Answer) → Promised v j skip room budget a → Promised v j skip room budget b → a ≡ b
+  promise-settles a b (atWhole e p c) (atWhole f q d) = one-ended v j skip room budget a b whole e f p q
+  promise-settles a b (atWhole e p c) (atCut f q d) = absurd (c d)
+  promise-settles a b (atWhole e p c) (atFull f q) = absurd (ended-full a b p q)
+  promise-settles a b (atWhole e p c) (atSpent f q) = absurd (ended-spent a b p q)
+  promise-settles a b (atCut e p c) (atWhole f q d) = absurd (d c)
+  promise-settles a b (atCut e p c) (atCut f q d) = one-ended v j skip room budget a b cuts e f p q
+  promise-settles a b (atCut e p c) (atFull f q) = absurd (ended-full a b p q)
+  promise-settles a b (atCut e p c) (atSpent f q) = absurd (ended-spent a b p q)
+  promise-settles a b (atFull e p) (atWhole f q d) = absurd (ended-full b a q p)
+  promise-settles a b (atFull e p) (atCut f q d) = absurd (ended-full b a q p)
+  promise-settles a b (atFull e p) (atFull f q) = one-full v j skip room budget a b e f p q
+  promise-settles a b (atFull e p) (atSpent f q) = absurd (full-spent a b p q)
+  promise-settles a b (atSpent e p) (atWhole f q d) = absurd (ended-spent b a q p)
+  promise-settles a b (atSpent e p) (atCut f q d) = absurd (ended-spent b a q p)
+  promise-settles a b (atSpent e p) (atFull f q) = absurd (full-spent b a q p)
+  promise-settles a b (atSpent e p) (atSpent f q) = one-spent v j skip room budget a b e f p q

@@ -1,24 +1,24 @@
 -- The search is complete: over a whole search, the rows found are the plan list, and a cut run is found exactly where some choice is cut.
-use Prim.Native.Nat.{ℕ, zero, suc, _+_, _≤_, _<_}
-use mathlib.Core.Path.{_≡_, refl, sym, ap, ap₂, _∙_, subst}
-use mathlib.Core.Bool.{Bool, true, false, not, cond, _&&_, _||_, or-assoc, or-comm}
-use mathlib.Core.Option.{Option, none, some}
-use mathlib.Core.List.{List, [], _∷_, _++_, map}
+use mathlib.Core.Path.{_≡_, refl, sym, ap, ap₂, _∙_}
+use mathlib.Core.Bool.{Bool, true, false, _&&_, _||_}
+use mathlib.Core.Option.{Option}
+use mathlib.Core.List.{List, [], _∷_, _++_}
 use native.Mathlib.Omega.{arith}
-use lib.ListN.{length, getD}
-use lib.IntN.{ℤ, pos}
-use lib.Dec.{T, leb·zero}
-use Rattle.semantics.specs.Int.{arith as work32}
-use Rattle.semantics.specs.Does.{Does, within, does}
-use Rattle.semantics.specs.Run.{Window, Ending, returns, fails, cuts, Ran, Choice, adding, belonging, before, insert, sorted, Row, rowOf, rowsOf, isCut, run, lists, Job, meaning, choices, plans, someCut}
-use Rattle.semantics.specs.Search.{Value, known, work, all32, Move, plain, found, probe, meets, paths, moves, settled, search, rowsIn, cutIn}
-use Rattle.semantics.proofs.Order.{_≼_, cond-cases}
-use Rattle.semantics.proofs.Range.{In, Sub, Within}
-use Rattle.semantics.proofs.Keep.{keep, keep-all, all-of}
-use Rattle.semantics.proofs.Ends.{ends, runs, sorted-ends}
+use lib.ListN.{length}
+use lib.IntN.{ℤ}
+use lib.Dec.{leb·zero}
+use Rattle.semantics.specs.Does.{does}
+use Rattle.semantics.specs.Run.{Ending, returns, fails, cuts, Ran, Choice, adding, belonging, before, insert, sorted, Row, rowOf, rowsOf, isCut, lists, Job, meaning, choices, plans, someCut}
+use Rattle.semantics.specs.Search.{known, work, all32, Move, plain, found, probe, meets, paths, moves, settled, openly, Solver, search, rowsIn, cutIn}
+use Rattle.semantics.proofs.Order.{cond-cases}
+use Rattle.semantics.proofs.Range.{Sub}
+use Rattle.semantics.proofs.Keep.{keep-all, all-of}
+use Rattle.semantics.proofs.Ends.{ends, sorted-ends}
 use Rattle.semantics.proofs.Natural.{natural}
 use Rattle.semantics.proofs.Settings.{rising-lists}
-use Rattle.semantics.proofs.Trace.{seenIn, seenOf, Keeps, search-good, in-32, seenEnd}
+use Rattle.semantics.proofs.Seen.{seenIn, seenOf, seenEnd}
+use Rattle.semantics.proofs.Trace.{search-good, in-32}
+use Rattle.semantics.proofs.Sound.{Sound}
 
 -- ---- what is seen, in the words of the definitions
 
@@ -99,31 +99,28 @@ unfolding belonging
 same-choices f g h [] = refl
 same-choices f g h (s ∷ ss) = ap₂ (λ r l. adding r s l) (h s) (same-choices f g h ss)
 
-module _ (j : Job) (small : Sub (j .window) all32) where
-  -- what the program of the job does over open values
-  abbrev tree : Does Value
-  tree = within (j .steps) 8 (does known work (j .steps) (j .program))
+-- the choices of a job, in their order, are the leaves of what its program does over open values
+pub sorted-choices : (j : Job) → sorted (choices j) ≡ ends 0 (openly j) (lists 8 (j .window))
+unfolding choices meaning openly
+sorted-choices j =
+    ap sorted (same-choices _ _ (λ s. sym (natural (j .steps) (j .steps) (j .program) s)) (lists 8 (j .window)))
+    ∙ sorted-ends 0 (openly j) (lists 8 (j .window)) (rising-lists (j .window) 8)
 
+module _ (solver : Solver) (sound : Sound solver) (j : Job) (small : Sub (j .window) all32) where
   abbrev all-moves : List Move
-  all-moves = moves (paths (j .window) tree [] [])
-
-  sorted-choices : sorted (choices j) ≡ ends 0 tree (lists 8 (j .window))
-  unfolding choices meaning
-  sorted-choices =
-      ap sorted (same-choices _ _ (λ s. sym (natural (j .steps) (j .steps) (j .program) s)) (lists 8 (j .window)))
-      ∙ sorted-ends 0 tree (lists 8 (j .window)) (rising-lists (j .window) 8)
+  all-moves = moves (paths solver (j .window) (openly j) [] [])
 
   seen : seenIn all-moves ≡ seenOf (sorted (choices j))
-  unfolding meets
+  unfolding meets openly
   seen =
-      search-good (j .window) small (does known work (j .steps) (j .program)) (j .steps) 8 .good [] [] (omega arith) (λ i l. absurd (omega arith)) (record { keeps = λ s i l m. in-32 (j .window) small s i })
-      ∙ ap (λ l. seenOf (ends 0 tree l)) (keep-all _ (all-of (λ s. ap (λ b. b && true) (leb·zero (length s))) (lists 8 (j .window))))
-      ∙ ap seenOf (sym sorted-choices)
+      search-good solver sound (j .window) small (does known work (j .steps) (j .program)) (j .steps) 8 .good [] [] (omega arith) (λ i l. absurd (omega arith)) (record { keeps = λ s i l m. in-32 solver sound (j .window) small s i })
+      ∙ ap (λ l. seenOf (ends 0 (openly j) l)) (keep-all _ (all-of (λ s. ap (λ b. b && true) (leb·zero (length s))) (lists 8 (j .window))))
+      ∙ ap seenOf (sym (sorted-choices j))
 
-  pub search-rows : rowsIn (search j) ≡ plans j
+  pub search-rows : rowsIn (search solver j) ≡ plans j
   unfolding search plans
   search-rows = rows-settled false all-moves ∙ sym (rows-in all-moves) ∙ ap (λ s. s .rows) seen ∙ rows-of (sorted (choices j))
 
-  pub search-cut : cutIn (search j) ≡ someCut (choices j)
+  pub search-cut : cutIn (search solver j) ≡ someCut (choices j)
   unfolding search
   search-cut = cut-settled all-moves ∙ sym (cut-in all-moves) ∙ ap (λ s. s .cut) seen ∙ cut-of (sorted (choices j)) ∙ cut-sorted (choices j)

@@ -1,17 +1,20 @@
 -- The choices of a job, sorted, are the leaves of what its program does over open values, from left to right: at each test, first the choices for which it holds.
-use Prim.Native.Nat.{ℕ, zero, suc, _≤_, _<_}
-use mathlib.Core.Path.{_≡_, refl, sym, ap, ap₂, _∙_, subst}
-use mathlib.Core.Bool.{Bool, true, false, not, cond, _&&_}
+use Prim.Native.Nat.{ℕ, suc}
+use mathlib.Core.Path.{_≡_, refl, ap, ap₂, _∙_}
+use mathlib.Core.Bool.{Bool, true, false, not, cond}
 use mathlib.Core.Option.{Option, none, some, Option·map}
 use mathlib.Core.List.{List, [], _∷_, _++_, map}
 use lib.ListN.{length}
 use lib.IntN.{ℤ}
-use lib.Dec.{T, eqb, ltb}
-use Rattle.semantics.specs.Int.{Cmp, holds}
+use lib.Dec.{T, eqb, ltb, T-not}
+use lib.Signed.{ltZ}
+use Rattle.semantics.specs.Int.{Cmp}
 use Rattle.semantics.specs.Does.{Does, returned, failed, cut, step, free, test}
 use Rattle.semantics.specs.Run.{Ending, returns, fails, cuts, Ran, noting, Choice, adding, belonging, smaller, sooner, before, insert, sorted}
 use Rattle.semantics.specs.Search.{Value, unknown, under}
-use Rattle.semantics.proofs.Keep.{All, anil, acons, keep, all-keep}
+use Rattle.semantics.proofs.Order.{_≺_, cond-cases, →ltZ}
+use Rattle.semantics.proofs.Keep.{All, anil, acons, all-map, keep, Ordered, onil, ocons, ordered-keep}
+use Rattle.semantics.proofs.Sound.{passes}
 
 abbrev pub leaf : (List ℤ → Ending) → List ℤ → Choice
 leaf e s = record { ran = record { tests = []; ending = e s }; values = s }
@@ -24,9 +27,6 @@ sized n s = eqb (length s) n
 
 abbrev pub longer : ℕ → List ℤ → Bool
 longer n s = ltb n (length s)
-
-abbrev pub passes : Cmp → Value → Value → List ℤ → Bool
-passes c a b s = holds c (under s a) (under s b)
 
 -- the run of a tree over open values under a whole setting, n of whose values were reached
 unfoldable pub runs : ℕ → Does Value → List ℤ → Option Ran
@@ -48,18 +48,20 @@ ends n (test c a b k) ss = map (noted true) (ends n (k true) (keep (passes c a b
 
 -- ---- a list of settings in their order
 
-pub data Rising : List (List ℤ) → Type 0 where
-  rnil : Rising []
-  rcons : {s : List ℤ} {ss : List (List ℤ)} → All (λ u. T (smaller s u)) ss → Rising ss → Rising (s ∷ ss)
+-- s stands before u: it is a front part of u, or has the smaller value at the first difference
+pub data Less : List ℤ → List ℤ → Type 0 where
+  shorter : {w : ℤ} {u : List ℤ} → Less [] (w ∷ u)
+  lower : {v w : ℤ} {s u : List ℤ} → v ≺ w → Less (v ∷ s) (w ∷ u)
+  alike : {v : ℤ} {s u : List ℤ} → Less s u → Less (v ∷ s) (v ∷ u)
 
-pub rising-keep : (p : List ℤ → Bool) {ss : List (List ℤ)} → Rising ss → Rising (keep p ss)
-unfolding keep
-rising-keep p rnil = rnil
-rising-keep p (rcons {s} {ss} h r) = go (p s) (rising-keep p r)
-  where
-    go : (b : Bool) → Rising (keep p ss) → Rising (cond b (s ∷ keep p ss) (keep p ss))
-    go true k = rcons (all-keep p h) k
-    go false k = k
+abbrev pub Rising : List (List ℤ) → Type 0
+Rising = Ordered Less
+
+less-smaller : {s u : List ℤ} → Less s u → T (smaller s u)
+unfolding smaller
+less-smaller shorter = tt
+less-smaller (lower {v} {w} h) = cond-cases (ltZ v w) T (λ t. tt) (λ t. absurd (T-not (ltZ v w) t (→ltZ v w h)))
+less-smaller (alike {v} h) = cond-cases (ltZ v v) T (λ t. tt) (λ t. cond-cases (ltZ v v) T (λ u. absurd (T-not (ltZ v v) t u)) (λ u. less-smaller h))
 
 -- ---- sorting
 
@@ -74,8 +76,8 @@ insert-first e s (acons {x} {xs} h t) = go (smaller s x) h
 
 sorted-leaves : (e : List ℤ → Ending) {ss : List (List ℤ)} → Rising ss → sorted (map (leaf e) ss) ≡ map (leaf e) ss
 unfolding sorted
-sorted-leaves e rnil = refl
-sorted-leaves e (rcons {s} h r) = ap (insert (leaf e s)) (sorted-leaves e r) ∙ insert-first e s h
+sorted-leaves e onil = refl
+sorted-leaves e (ocons {x = s} h r) = ap (insert (leaf e s)) (sorted-leaves e r) ∙ insert-first e s (all-map (λ u k. less-smaller k) h)
 
 -- a choice for which the test held goes among those for which it held
 insert-true : (c : Choice) (l m : List Choice) → insert (noted true c) (map (noted true) l ++ map (noted false) m) ≡ map (noted true) (insert c l) ++ map (noted false) m
@@ -146,13 +148,13 @@ among-test n c a b k (s ∷ ss) = go (passes c a b s) (among n (test c a b k) ss
 
 pub sorted-ends : (n : ℕ) (t : Does Value) (ss : List (List ℤ)) → Rising ss → sorted (among n t ss) ≡ ends n t ss
 unfolding ends runs
-sorted-ends n (returned v) ss r = ap sorted (among-leaf n (λ s. returns (under s v)) ss) ∙ sorted-leaves (λ s. returns (under s v)) (rising-keep (sized n) r)
-sorted-ends n failed ss r = ap sorted (among-leaf n (λ s. fails) ss) ∙ sorted-leaves (λ s. fails) (rising-keep (sized n) r)
-sorted-ends n cut ss r = ap sorted (among-leaf n (λ s. cuts) ss) ∙ sorted-leaves (λ s. cuts) (rising-keep (sized n) r)
+sorted-ends n (returned v) ss r = ap sorted (among-leaf n (λ s. returns (under s v)) ss) ∙ sorted-leaves (λ s. returns (under s v)) (ordered-keep (sized n) r)
+sorted-ends n failed ss r = ap sorted (among-leaf n (λ s. fails) ss) ∙ sorted-leaves (λ s. fails) (ordered-keep (sized n) r)
+sorted-ends n cut ss r = ap sorted (among-leaf n (λ s. cuts) ss) ∙ sorted-leaves (λ s. cuts) (ordered-keep (sized n) r)
 sorted-ends n (step t) ss r = sorted-ends n t ss r
-sorted-ends n (free k) ss r = ap sorted (among-free n k ss) ∙ sorted-ends (suc n) (k (unknown n)) (keep (longer n) ss) (rising-keep (longer n) r)
+sorted-ends n (free k) ss r = ap sorted (among-free n k ss) ∙ sorted-ends (suc n) (k (unknown n)) (keep (longer n) ss) (ordered-keep (longer n) r)
 sorted-ends n (test c a b k) ss r =
     among-test n c a b k ss
     ∙ ap₂ (λ l m. map (noted true) l ++ map (noted false) m)
-    (sorted-ends n (k true) (keep (passes c a b) ss) (rising-keep (passes c a b) r))
-    (sorted-ends n (k false) (keep (λ s. not (passes c a b s)) ss) (rising-keep (λ s. not (passes c a b s)) r))
+    (sorted-ends n (k true) (keep (passes c a b) ss) (ordered-keep (passes c a b) r))
+    (sorted-ends n (k false) (keep (λ s. not (passes c a b s)) ss) (ordered-keep (λ s. not (passes c a b s)) r))

@@ -1,16 +1,18 @@
 -- The turns allowed to a while never run out within the limit of steps: what a program does within l steps is the same for every allowance of l turns or more.
 use Prim.Native.Nat.{ℕ, zero, suc, _≤_, _<_}
-use mathlib.Core.Path.{_≡_, refl, sym, ap, _∙_, fun-ext}
+use mathlib.Core.Path.{_≡_, refl, ap, fun-ext}
 use mathlib.Core.Bool.{Bool, true, false}
 use mathlib.Core.List.{List, [], _∷_}
 use native.Mathlib.Omega.{arith}
 use lib.ListN.{getD}
 use lib.IntN.{ℤ, pos}
-use Rattle.semantics.specs.Int.{Op, Cmp}
+use Rattle.semantics.specs.Int.{Op, Cmp, arith as arith32}
 use Rattle.semantics.specs.Program
 use Rattle.semantics.specs.Does
-use Rattle.semantics.specs.Program.{Address, slot, Expr, Exprs, Cond, const, compare, and, or, number, name, op, call, more, Stmt, Stmts, Program}
+use Rattle.semantics.specs.Program.{Expr, Exprs, Cond, const, compare, and, or, number, name, op, call, more, Stmt, Stmts, Program}
 use Rattle.semantics.specs.Does.{Does, returned, failed, cut, step, free, test, within, frame, expr, exprs, loop, stmt, stmts, enter, does, fetch, store}
+use Rattle.semantics.specs.Run.{Job, meaning}
+use Rattle.semantics.specs.Search.{known, work as workOpen, openly}
 
 module _ {X : Type 0} where
   -- two trees are the same within L steps
@@ -129,3 +131,8 @@ module _ {X : Type 0} (num : ℤ → X) (work : Op → X → X → X) where
   pub enough-turns : (l f n m : ℕ) → l ≤ n → l ≤ m → (p : Program) → within l f (does num work n p) ≡ within l f (does num work m p)
   unfolding does
   enough-turns l f n m a b p = enter-upto l n m a b (p .bodies) 32 l (omega arith) (p .main) [] returned returned (λ v. upto-same l (returned v)) .upto l f (omega arith)
+
+-- The turns of a while never run out before the step limit: with any greater allowance of turns, a job's runs and its search are the same.
+pub turns : (j : Job) (n : ℕ) → j .steps ≤ n → (within (j .steps) 8 (does (λ z. z) arith32 n (j .program)) ≡ meaning j) × (within (j .steps) 8 (does known workOpen n (j .program)) ≡ openly j)
+unfolding meaning openly
+turns j n h = (enough-turns (λ z. z) arith32 (j .steps) 8 n (j .steps) h (omega arith) (j .program), enough-turns known workOpen (j .steps) 8 n (j .steps) h (omega arith) (j .program))

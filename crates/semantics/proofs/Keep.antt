@@ -1,8 +1,7 @@
--- The elements of a list that pass a test, and `each`, with their laws.
-use Prim.Native.Nat.{ℕ, zero, suc}
-use mathlib.Core.Path.{_≡_, refl, sym, ap, _∙_, subst, ap₂}
-use mathlib.Core.Bool.{Bool, true, false, not, cond, _&&_}
-use mathlib.Core.List.{List, [], _∷_, _++_, map, append-assoc, append-nil}
+-- The elements of a list that pass a test, lists in an order, and `each`, with their laws.
+use mathlib.Core.Path.{_≡_, refl, ap, _∙_, ap₂}
+use mathlib.Core.Bool.{Bool, true, false, cond, _&&_}
+use mathlib.Core.List.{List, [], _∷_, _++_, map}
 use lib.Dec.{T}
 use Rattle.semantics.specs.Run.{each}
 
@@ -75,6 +74,35 @@ module _ {A : Type 0} where
       go true k = acons h k
       go false k = k
 
+  pub keep-if : {P : A → Type 0} (p : A → Bool) {xs : List A} → All (λ x. T (p x) → P x) xs → All P (keep p xs)
+  unfolding keep
+  keep-if p anil = anil
+  keep-if {P} p (acons {x} {xs} h t) = go (p x) h (keep-if p t)
+    where
+      go : (b : Bool) → (T b → P x) → All P (keep p xs) → All P (cond b (x ∷ keep p xs) (keep p xs))
+      go true f k = acons (f tt) k
+      go false f k = k
+
+-- ---- each element stands in R to all later ones
+
+pub data Ordered {A : Type 0} (R : A → A → Type 0) : List A → Type 0 where
+  onil : Ordered R []
+  ocons : {x : A} {xs : List A} → All (R x) xs → Ordered R xs → Ordered R (x ∷ xs)
+
+module _ {A : Type 0} {R : A → A → Type 0} where
+  pub ordered-keep : (p : A → Bool) {xs : List A} → Ordered R xs → Ordered R (keep p xs)
+  unfolding keep
+  ordered-keep p onil = onil
+  ordered-keep p (ocons {x} {xs} h r) = go (p x) (ordered-keep p r)
+    where
+      go : (b : Bool) → Ordered R (keep p xs) → Ordered R (cond b (x ∷ keep p xs) (keep p xs))
+      go true k = ocons (all-keep p h) k
+      go false k = k
+
+  pub ordered-append : {xs : List A} → Ordered R xs → {ys : List A} → Ordered R ys → All (λ x. All (R x) ys) xs → Ordered R (xs ++ ys)
+  ordered-append onil r h = r
+  ordered-append (ocons k q) r (acons h t) = ocons (all-append k h) (ordered-append q r t)
+
 module _ {A B : Type 0} where
   pub keep-map : (p : B → Bool) (f : A → B) (xs : List A) → keep p (map f xs) ≡ map f (keep (λ x. p (f x)) xs)
   unfolding keep
@@ -103,3 +131,11 @@ module _ {A B : Type 0} where
   unfolding each
   all-each f anil = anil
   all-each f (acons h t) = all-append h (all-each f t)
+
+  pub ordered-map : {P : A → Type 0} {R : A → A → Type 0} {Q : B → B → Type 0} (f : A → B) → ((x y : A) → P x → P y → R x y → Q (f x) (f y)) → {xs : List A} → All P xs → Ordered R xs → Ordered Q (map f xs)
+  ordered-map f g anil onil = onil
+  ordered-map {P} {R} {Q} f g (acons {x} p ps) (ocons h r) = ocons (all-mapped f (both p ps h)) (ordered-map f g ps r)
+    where
+      both : P x → {ys : List A} → All P ys → All (R x) ys → All (λ y. Q (f x) (f y)) ys
+      both p anil anil = anil
+      both p (acons {x = y} q qs) (acons h hs) = acons (g x y p q h) (both p qs hs)

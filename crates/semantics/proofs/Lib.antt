@@ -1,12 +1,21 @@
 -- Theorems over the definitions.
 pub mod Order
 pub mod Range
+pub mod Narrow
+pub mod Exact
+pub mod Filled
+pub mod Idle
+pub mod Sound
 pub mod Keep
 pub mod Ends
 pub mod Natural
 pub mod Settings
+pub mod Seen
 pub mod Trace
 pub mod Complete
+pub mod Members
+pub mod Plans
 pub mod Answer
 pub mod Fuel
 pub mod Examples
+pub mod Theorems

@@ -1,24 +1,25 @@
 -- What a program does over open values, under a setting, is what it does over numbers with the setting's values: the rules of the language are the same at every kind of value.
-use Prim.Native.Nat.{ℕ, zero, suc, _≤_, _<_}
-use mathlib.Core.Path.{_≡_, refl, sym, ap, ap₂, _∙_, subst}
-use mathlib.Core.Bool.{Bool, true, false, not, cond}
-use mathlib.Core.Option.{Option, none, some, Option·map}
+use Prim.Native.Nat.{ℕ, zero, suc, _≤_}
+use mathlib.Core.Path.{_≡_, refl, sym, ap, subst}
+use mathlib.Core.Bool.{Bool, true, false, cond}
+use mathlib.Core.Option.{none, some, Option·map}
 use mathlib.Core.List.{List, [], _∷_, map}
 use native.Mathlib.Omega.{arith}
 use native.Mathlib.Nat.{le-of-suc-le-suc}
 use lib.ListN.{length, getD, drop, set, List·getD-map, drop-of-length-le}
-use lib.Seq.{drop-cons, drop-length}
+use lib.Seq.{drop-cons}
 use lib.IntN.{ℤ, pos}
-use lib.Dec.{T, eqb, ltb, ltb→lt, nltb→le, eqb·zero-suc, eqb·suc-zero, eqb·suc-suc, eqb-refl}
-use Rattle.semantics.specs.Int.{Op, arith as work32, Cmp, holds}
+use lib.Dec.{ltb→lt, nltb→le, eqb·suc-zero, eqb·suc-suc}
+use Rattle.semantics.specs.Int.{Op, arith as work32, Cmp}
 use Rattle.semantics.specs.Program
 use Rattle.semantics.specs.Does
 use Rattle.semantics.specs.Program.{Address, slot, Expr, Exprs, Cond, const, compare, and, or, number, name, op, call, more, Stmt, Stmts, Program}
 use Rattle.semantics.specs.Does.{Does, returned, failed, cut, step, free, test, within, frame, expr, exprs, loop, stmt, stmts, enter, does, fetch, store}
-use Rattle.semantics.specs.Run.{Ending, returns, fails, cuts, Ran, exactly, noting, run}
+use Rattle.semantics.specs.Run.{Ending, returns, fails, cuts, exactly, noting, run}
 use Rattle.semantics.specs.Search.{Value, known, unknown, open′, work, under}
 use Rattle.semantics.proofs.Order.{cond-cases}
-use Rattle.semantics.proofs.Ends.{runs, sized, longer, passes}
+use Rattle.semantics.proofs.Ends.{runs, sized, longer}
+use Rattle.semantics.proofs.Sound.{passes}
 
 -- a leaf is reached with all values used
 exactly-drop : (e : Ending) (n : ℕ) (s : List ℤ) → n ≤ length s → exactly e (drop n s) ≡ cond (sized n s) (some (record { tests = []; ending = e })) none

@@ -8,19 +8,19 @@ use native.Mathlib.Nat.{le-of-suc-le-suc}
 use Prim.Native.Nat.{suc-le-suc}
 use lib.ListN.{length, getD}
 use lib.IntN.{ℤ, pos, negsuc, sucℤ, _-ℤ_}
-use lib.Dec.{T, eqb, eqb·zero-suc, eqb·suc-zero, eqb·suc-suc, not-T, T-not}
-use lib.Signed.{ltZ, leZ}
-use Rattle.semantics.specs.Run.{Window, counting, clamp, numbers, each, lists, smaller}
-use Rattle.semantics.specs.Search.{all32, settings}
-use Rattle.semantics.proofs.Order.{up, down, _≼_, _≺_, cond-cases, leZ→, →leZ, ltZ→, →ltZ, nltZ→, nleZ→, antisym, of-minus, of-suc}
+use lib.Dec.{T, eqb·zero-suc, eqb·suc-zero, eqb·suc-suc}
+use lib.Signed.{leZ}
+use Rattle.semantics.specs.Run.{Window, counting, clamp, numbers, each, lists}
+use Rattle.semantics.specs.Search.{settings}
+use Rattle.semantics.proofs.Order.{up, down, _≼_, _≺_, leZ→, →leZ, nleZ→, antisym, of-minus, of-suc}
 use Rattle.semantics.proofs.Range.{In, Sub, Subs, and-left, and-right, and-both}
-use Rattle.semantics.proofs.Keep.{All, anil, acons, keep, keep-all, keep-none, keep-same, keep-append, keep-map, keep-each, each-same, all-of, all-map, all-append, all-mapped, all-each}
-use Rattle.semantics.proofs.Ends.{sized, Rising, rnil, rcons}
+use Rattle.semantics.proofs.Keep.{All, anil, acons, onil, ocons, ordered-map, ordered-append, keep, keep-none, keep-same, keep-map, keep-each, each-same, all-of, all-map, all-mapped, all-each}
+use Rattle.semantics.proofs.Ends.{sized, Rising, shorter, lower, alike}
 
 -- ---- the numbers of a window
 
 -- how far b is above a
-abbrev gap : ℤ → ℤ → ℕ
+abbrev pub gap : ℤ → ℤ → ℕ
 gap a b = (up b + down a) - (up a + down b)
 
 clamp-up : (z : ℤ) → clamp z ≡ up z
@@ -34,7 +34,7 @@ unfolding up down
 parts (pos n) = omega arith
 parts (negsuc n) = omega arith
 
-clamp-gap : (a b : ℤ) → clamp (b -ℤ a) ≡ gap a b
+pub clamp-gap : (a b : ℤ) → clamp (b -ℤ a) ≡ gap a b
 clamp-gap a b = omega (arith, clamp-up (b -ℤ a), parts (b -ℤ a), of-minus b a)
 
 abbrev pub inside : Window → ℤ → Bool
@@ -44,7 +44,7 @@ true-of : (b : Bool) → T b → b ≡ true
 true-of true t = refl
 true-of false t = absurd t
 
-false-of : (b : Bool) → (T b → ⊥) → b ≡ false
+pub false-of : (b : Bool) → (T b → ⊥) → b ≡ false
 false-of true f = absurd (f tt)
 false-of false f = refl
 
@@ -54,7 +54,7 @@ inside-yes w x h k = true-of (inside w x) (and-both (leZ (w .low) x) (leZ x (w .
 inside-no : (w : Window) (x : ℤ) → (w .low ≼ x → x ≼ w .high → ⊥) → inside w x ≡ false
 inside-no w x f = false-of (inside w x) λ t. f (leZ→ (w .low) x (and-left (leZ (w .low) x) (leZ x (w .high)) t)) (leZ→ x (w .high) (and-right (leZ (w .low) x) (leZ x (w .high)) t))
 
-by-order : {P : Type 0} (a b : ℤ) → (a ≼ b → P) → (b ≺ a → P) → P
+pub by-order : {P : Type 0} (a b : ℤ) → (a ≼ b → P) → (b ≺ a → P) → P
 by-order {P} a b f g = go (leZ a b) (leZ→ a b) (nleZ→ a b)
   where
     go : (t : Bool) → (T t → a ≼ b) → (T (not t) → b ≺ a) → P
@@ -163,7 +163,7 @@ unfolding counting
 counting-in w x zero h k = anil
 counting-in w x (suc n) h k = acons (record { least = h; most = omega (arith, of-suc (w .high)) }) (counting-in w (sucℤ x) n (omega (arith, of-suc x)) (omega (arith, of-suc x)))
 
-numbers-in : (w : Window) → All (In w) (numbers w)
+pub numbers-in : (w : Window) → All (In w) (numbers w)
 unfolding numbers
 numbers-in w = counting-in w (w .low) (clamp (sucℤ (w .high) -ℤ w .low)) (omega arith) (omega (arith, clamp-gap (w .low) (sucℤ (w .high))))
 
@@ -180,21 +180,8 @@ lists-in job zero = acons (inside-nil job) anil
 lists-in job (suc n) = acons (inside-nil job) (all-each (λ v. map (λ s. v ∷ s) (lists n job)) (all-map (λ v h. all-mapped (λ s. v ∷ s) (all-map (λ s k. inside-cons job v s h k) (lists-in job n))) (numbers-in job)))
 
 -- and they stand in their order
-rising-append : {xs : List (List ℤ)} → Rising xs → {ys : List (List ℤ)} → Rising ys → All (λ x. All (λ y. T (smaller x y)) ys) xs → Rising (xs ++ ys)
-rising-append rnil r h = r
-rising-append (rcons k q) r (acons h t) = rcons (all-append k h) (rising-append q r t)
-
-smaller-same : (v : ℤ) (s u : List ℤ) → T (smaller s u) → T (smaller (v ∷ s) (v ∷ u))
-unfolding smaller
-smaller-same v s u h = cond-cases (ltZ v v) T (λ t. tt) (λ t. cond-cases (ltZ v v) T (λ u. absurd (T-not (ltZ v v) t u)) (λ u. h))
-
-smaller-head : (v w : ℤ) (s u : List ℤ) → v ≺ w → T (smaller (v ∷ s) (w ∷ u))
-unfolding smaller
-smaller-head v w s u h = cond-cases (ltZ v w) T (λ t. tt) (λ t. absurd (T-not (ltZ v w) t (→ltZ v w h)))
-
 rising-map : (v : ℤ) {ss : List (List ℤ)} → Rising ss → Rising (map (λ s. v ∷ s) ss)
-rising-map v rnil = rnil
-rising-map v (rcons {s} h r) = rcons (all-mapped (λ s. v ∷ s) (all-map (λ u k. smaller-same v s u k) h)) (rising-map v r)
+rising-map v {ss} r = ordered-map {P = λ s. Unit {0}} (λ s. v ∷ s) (λ s u p q h. alike h) (all-of (λ s. tt) ss) r
 
 counting-above : (z x : ℤ) (n : ℕ) → z ≺ x → All (λ v. z ≺ v) (counting x n)
 unfolding counting
@@ -203,11 +190,11 @@ counting-above z x (suc n) h = acons h (counting-above z (sucℤ x) n (omega (ar
 
 rising-each : (x : ℤ) (n : ℕ) {ss : List (List ℤ)} → Rising ss → Rising (each (λ v. map (λ s. v ∷ s) ss) (counting x n))
 unfolding each counting
-rising-each x zero r = rnil
-rising-each x (suc n) {ss} r = rising-append (rising-map x r) (rising-each (sucℤ x) n r)
-    (all-mapped (λ s. x ∷ s) (all-of (λ s. all-each (λ v. map (λ s. v ∷ s) ss) (all-map (λ v h. all-mapped (λ s. v ∷ s) (all-of (λ u. smaller-head x v s u h) ss)) (counting-above x (sucℤ x) n (omega (arith, of-suc x))))) ss))
+rising-each x zero r = onil
+rising-each x (suc n) {ss} r = ordered-append (rising-map x r) (rising-each (sucℤ x) n r)
+    (all-mapped (λ s. x ∷ s) (all-of (λ s. all-each (λ v. map (λ s. v ∷ s) ss) (all-map (λ v h. all-mapped (λ s. v ∷ s) (all-of (λ u. lower h) ss)) (counting-above x (sucℤ x) n (omega (arith, of-suc x))))) ss))
 
 pub rising-lists : (job : Window) (n : ℕ) → Rising (lists n job)
-unfolding lists numbers smaller
-rising-lists job zero = rcons anil rnil
-rising-lists job (suc n) = rcons (all-of (λ u. tt) _) (rising-each (job .low) (clamp (sucℤ (job .high) -ℤ job .low)) (rising-lists job n))
+unfolding lists numbers
+rising-lists job zero = ocons anil onil
+rising-lists job (suc n) = ocons (all-each (λ v. map (λ vs. v ∷ vs) (lists n job)) (all-of (λ v. all-mapped (λ vs. v ∷ vs) (all-of (λ u. shorter) (lists n job))) _)) (rising-each (job .low) (clamp (sucℤ (job .high) -ℤ job .low)) (rising-lists job n))

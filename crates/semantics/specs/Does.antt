@@ -1,4 +1,4 @@
--- What a program does: the reduction rules, once, over any kind X of values, as a tree of interactions.
+-- What a program does: the reduction rules of 002, Sect. 3, once, over any kind X of values, as a tree of what a run does. Rule by rule, with a word where document 01 changes one.
 use Prim.Native.Nat.{ℕ, zero, suc}
 use mathlib.Core.Bool.{Bool, true, false}
 use mathlib.Core.List.{List, [], _∷_}
@@ -7,9 +7,7 @@ use lib.IntN.{ℤ, pos}
 use Rattle.semantics.specs.Int.{Op, Cmp}
 use Rattle.semantics.specs.Program.{Address, slot, Expr, number, name, op, call, Exprs, none, more, Cond, const, compare, and, or, Stmt, empty, declare, unknown, assign, eval, block, if, while, return, fail, Stmts, end, next, Program}
 
--- ---- what a program does
-
--- A run so far returned, failed, or was cut; or it makes a step, asks for the value of a free declaration (which is a step too), or asks for a comparison's outcome.
+-- "It returns, fails or is cut." Before that it makes steps, asks for the value of a free declaration (a statement begun, so a step too), and asks for the outcome of a comparison, with what it does for each answer.
 pub data Does (X : Type 0) : Type 0 where
   returned : X → Does X
   failed cut : Does X
@@ -17,28 +15,39 @@ pub data Does (X : Type 0) : Type 0 where
   free : (X → Does X) → Does X
   test : Cmp → X → X → (Bool → Does X) → Does X
 
--- a variable of a frame, which is `d` where the frame has no such place; the frame with the variable set; a frame of n variables, the first of which are the arguments
+-- ---- the variables of a function that runs
+
+-- A frame holds the values of the function's declarations, each at its address: 002's environment ρ maps a name to its declaration's address, once and for all, and the frame is the part of the state σ that the function can see.
 module _ {X : Type 0} where
+  -- σ(ρ(x)); `d` is never given, as each name of an accepted text has its place
   abbrev pub fetch : X → List X → Address → X
   fetch d f (slot i) = getD f i d
 
+  -- σ[ρ(x)/v]
   abbrev pub store : List X → Address → X → List X
   store f (slot i) v = set f i v
 
+  -- a frame of n variables, the first of which are the arguments
   unfoldable pub frame : X → ℕ → List X → List X
   frame d zero vs = []
   frame d (suc n) [] = d ∷ frame d n []
   frame d (suc n) (v ∷ vs) = v ∷ frame d n vs
 
--- The rules of the language, over the values X with the numbers `num` and the operations `work`.
--- Each part is told what is done with what it gives: `k` with its value or frame, `r` with the value that its function returns.
+-- ---- the rules
+
+-- `num` makes a value of a number, and `work` works an operation. Each part is told what is done next: `k` with the value, outcome or frame that it gives, `r` with the value that its function returns.
+-- "A step is a statement begun, a while condition worked again, an arithmetic operation or comparison worked, or a call entered, that of main included. A unary minus is no step."
 module _ {X : Type 0} (num : ℤ → X) (work : Op → X → X → X) where
   module _ (invoke : ℕ → List X → (X → Does X) → Does X) where
     unfoldable mutual
       pub expr : Expr → List X → (X → Does X) → Does X
+      -- Con
       expr (number z) f k = k (num z)
+      -- Var
       expr (name a) f k = k (fetch (num (pos 0)) f a)
+      -- AOp1 where both values are known, AOp2 where one is open: `work` tells them apart
       expr (op o a b) f k = expr a f λ x. expr b f λ y. step (k (work o x y))
+      -- Invoke: the arguments, "left to right", then the function
       expr (call g es) f k = exprs es f λ vs. invoke g vs k
 
       pub exprs : Exprs → List X → (List X → Does X) → Does X
@@ -46,12 +55,15 @@ module _ {X : Type 0} (num : ℤ → X) (work : Op → X → X → X) where
       exprs (more e es) f k = expr e f λ v. exprs es f λ vs. k (v ∷ vs)
 
     unfoldable pub cond : Cond → List X → (Bool → Does X) → Does X
+    -- Con
     cond (const b) f k = k b
+    -- AOp1 and AOp2, for comparisons. Which outcome is followed is asked here, where 002 leaves it to If and Wh: so the next rule can know it
     cond (compare c a b) f k = expr a f λ x. expr b f λ y. step (test c x y k)
+    -- And1 and And2, changed: "The right side of `&&` is not touched where the left is false, nor that of `||` where the left is true. Rule And2 of 002 works the right side unless the left is known to be false; JLS decides."
     cond (and a b) f k = cond a f (elim [ true ↦ cond b f k | false ↦ k false ])
     cond (or a b) f k = cond a f (elim [ true ↦ k true | false ↦ cond b f k ])
 
-    -- each further turn of a while is a step, so a limit of `most` steps cuts the run before the turns are used up
+    -- Wh from its second turn on: "a while condition worked again" is a step. The turns are counted down from the step limit, so that a run that needs more of them has been cut before.
     unfoldable pub loop : ℕ → (List X → (List X → Does X) → Does X) → List X → Does X
     loop zero turn f = cut
     loop (suc n) turn f = turn f λ g. step (loop n turn g)
@@ -60,30 +72,41 @@ module _ {X : Type 0} (num : ℤ → X) (work : Op → X → X → X) where
       unfoldable mutual
         pub stmt : Stmt → List X → (List X → Does X) → (X → Does X) → Does X
         stmt empty f k r = step (k f)
+        -- Decl, changed: "`int x;` makes x 0 each time it is reached."
         stmt (declare a) f k r = step (k (store f a (num (pos 0))))
+        -- Free: a new unknown each time it is reached
         stmt (unknown a) f k r = free λ v. k (store f a v)
+        -- Assign: 002 gives x a new address, so that an open value that names the old one stays as it was; here an open value names its unknowns, never a variable, and x keeps its address
         stmt (assign a e) f k r = step (expr e f λ v. k (store f a v))
         stmt (eval e) f k r = step (expr e f λ v. k f)
+        -- Block: its declarations end with it ("changes of the environment stay local"); what it assigned to a variable from outside stays, though 002's Assign, word for word, changes the environment too
         stmt (block ss) f k r = step (stmts ss f k r)
+        -- If_t and If_f
         stmt (if c s t) f k r = step (cond c f (elim [ true ↦ stmt s f k r | false ↦ stmt t f k r ]))
+        -- Wh_t and Wh_f
         stmt (while c s) f k r = step (loop most (λ g again. cond c g (elim [ true ↦ stmt s g again r | false ↦ k g ])) f)
+        -- Ret: "`return` ends its function"
         stmt (return e) f k r = step (expr e f r)
+        -- "`fail` ends the run"; 002 has no rule for it
         stmt fail f k r = step failed
 
         pub stmts : Stmts → List X → (List X → Does X) → (X → Does X) → Does X
         stmts end f k r = k f
+        -- Seq; SeqFin is that a `return` in s goes on with r and not with the rest
         stmts (next s ss) f k r = stmt s f (λ g. stmts ss g k r) r
 
-  -- a call of a function, with d calls left to nest
+  -- Invoke: a call entered, with d calls left to nest. The body starts with a frame of its own, of 16 variables: more are refused in a text, and so is a body that can reach its end.
   unfoldable pub enter : ℕ → List Stmts → ℕ → ℕ → List X → (X → Does X) → Does X
   enter most p zero g vs k = cut
   enter most p (suc d) g vs k = step (stmts (enter most p d) most (getD p g end) (frame (num (pos 0)) 16 vs) (λ f. failed) k)
 
-  -- what a program does, for a run of at most `most` steps
+  -- a program, in runs of at most `most` steps: main is called, and "a call nested deeper than 32 (main is 1)" is cut
   unfoldable pub does : ℕ → Program → Does X
   does most p = enter most (p .bodies) 32 (p .main) [] returned
 
--- what is done within a limit of steps and of free declarations
+-- ---- the limits
+
+-- What is done within n steps and m free declarations. "Cut: the run would need a step beyond the limit, a ninth free declaration or a call nested deeper than 32 (main is 1). The step refused so is not made and not counted."
 unfoldable pub within : {X : Type 0} → ℕ → ℕ → Does X → Does X
 within n m (returned v) = returned v
 within n m failed = failed

@@ -1,14 +1,15 @@
--- A program in which every name is resolved (document 01, "The text"): each variable is an Address, each call a function's number.
+-- A program in which every name is resolved: each variable is the address of its declaration, each call the number of its function.
 use Prim.Native.Nat.{ℕ}
 use mathlib.Core.Bool.{Bool}
 use mathlib.Core.List.{List}
 use lib.IntN.{ℤ}
 use Rattle.semantics.specs.Int.{Op, Cmp}
 
--- "An address names a variable and is never itself a value of the program": the number of its declaration in its function, parameters first
+-- "An address names a variable and is never itself a value of the program": the number of its declaration in its function, from 0, parameters first.
 pub data Address : Type 0 where
   slot : ℕ → Address
 
+-- "Expression e: `*` above `+` and `-`, left to right; operands are numbers, `-` with a number, names, calls, `( e )`." A minus before a number is part of the number.
 mutual
   pub data Expr : Type 0 where
     number : ℤ → Expr
@@ -16,15 +17,18 @@ mutual
     op : Op → Expr → Expr → Expr
     call : ℕ → Exprs → Expr
 
+  -- the arguments of a call
   pub data Exprs : Type 0 where
     none : Exprs
     more : Expr → Exprs → Exprs
 
+-- "Condition b: `&&` above `||`, left to right; operands are true, false or two expressions with one of `< <= > >= == !=` between."
 pub data Cond : Type 0 where
   const : Bool → Cond
   compare : Cmp → Expr → Expr → Cond
   and or : Cond → Cond → Cond
 
+-- "Statement: `;`, `int x;`, `int x free;`, `x = e;`, `e;`, `{ statements }`, `if (b) s else s` (else always), `while (b) s`, `return e;`, `fail;`."
 mutual
   pub data Stmt : Type 0 where
     empty : Stmt
@@ -41,7 +45,7 @@ mutual
     end : Stmts
     next : Stmt → Stmts → Stmts
 
--- the functions' bodies, and which of them is main's; a call names its function by its place
+-- The functions' bodies in the order of the text, by which a call numbers them, and the number of main. It is the initial environment ρ₀ of 002, which maps functions to their code.
 pub record Program : Type 0 where
   pub bodies : List Stmts
   pub main : ℕ

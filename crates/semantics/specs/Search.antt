@@ -1,24 +1,24 @@
--- The search: values that may be open, ranges, windows that narrow, the moves of the whole search, and what a list with a budget answers.
-use Prim.Native.Nat.{ℕ, zero, suc, _+_}
+-- The search of document 01: values that may be open, ranges, deciding and narrowing, the moves of the whole search, and what list answers.
+use Prim.Native.Nat.{ℕ, zero, suc}
 use mathlib.Core.Bool.{Bool, true, false, cond, not, _&&_, _||_}
-use mathlib.Core.Option.{Option, none, some, Option·map}
+use mathlib.Core.Option.{Option, none, some}
 use mathlib.Core.List.{List, [], _∷_, _++_, map}
 use lib.ListN.{getD, set, length}
 use lib.IntN.{ℤ, pos, negsuc, sucℤ, predℤ, _+ℤ_, _-ℤ_, _*ℤ_}
 use lib.Signed.{ltZ, leZ}
 use Rattle.semantics.specs.Int.{Op, add, sub, mul, arith, Cmp, lt, le, gt, ge, eq, ne, eqZ, holds}
-use Rattle.semantics.specs.Program.{Program}
 use Rattle.semantics.specs.Does.{Does, returned, failed, cut, step, free, test, does, within}
 use Rattle.semantics.specs.Run.{Window, numbers, each, Row, Job}
 
--- ---- values
+-- ---- values: "A value is known, or open with the expression it stands for."
 
--- known, or open: an unknown (the free variables are numbered as they are reached) or an operation on values of which one is open
+-- The free variables of a path are numbered as they are reached; "a copy of a free variable means the same unknown". An open expression is 002's symbolic tree, with unknowns where that has addresses.
 pub data Value : Type 0 where
   known : ℤ → Value
   unknown : ℕ → Value
   open′ : Op → Value → Value → Value
 
+-- AOp1: two known values are worked. AOp2: an operation on an open one stands as it is. Nothing is simplified (002's Subst, which is optional, is not used).
 unfoldable pub work : Op → Value → Value → Value
 work o (known a) (known b) = known (arith o a b)
 work o (known a) (unknown i) = open′ o (known a) (unknown i)
@@ -32,7 +32,7 @@ under s (known z) = z
 under s (unknown i) = getD s i (pos 0)
 under s (open′ o a b) = arith o (under s a) (under s b)
 
--- ---- ranges
+-- ---- ranges: "A range of an open expression is worked one operation at a time"
 
 abbrev pub to : ℤ → ℤ → Window
 to a b = record { low = a; high = b }
@@ -46,7 +46,7 @@ minZ a b = cond (leZ a b) a b
 unfoldable pub maxZ : ℤ → ℤ → ℤ
 maxZ a b = cond (leZ a b) b a
 
--- the least and greatest exact result of an operation over two ranges
+-- "the least and greatest exact integer that the operation gives over its operands' ranges"
 unfoldable pub span : Op → Window → Window → Window
 span add v w = to (v .low +ℤ w .low) (v .high +ℤ w .high)
 span sub v w = to (v .low -ℤ w .high) (v .high -ℤ w .low)
@@ -57,18 +57,19 @@ span mul v w =
     let d = v .high *ℤ w .high in
     to (minZ (minZ a b) (minZ c d)) (maxZ (maxZ a b) (maxZ c d))
 
--- where that leaves 32 bits, the range is all of 32 bits
+-- "where that leaves 32 bits, this operation's range is all of 32 bits"
 unfoldable pub fitted : Window → Window
 fitted w = cond (leZ (all32 .low) (w .low) && leZ (w .high) (all32 .high)) w all32
 
--- the range of a value; an unknown that has no window yet may be any number of 32 bits
+-- "a free variable's range being its present window"; each has one (all32 is never given)
 unfoldable pub range : List Window → Value → Window
 range ws (known z) = to z z
 range ws (unknown i) = getD ws i all32
 range ws (open′ o a b) = fitted (span o (range ws a) (range ws b))
 
--- ---- comparisons of ranges
+-- ---- deciding: "If the two ranges decide a comparison, it is decided."
 
+-- the comparison that holds where c does not
 abbrev pub negated : Cmp → Cmp
 negated lt = ge
 negated le = gt
@@ -77,7 +78,7 @@ negated ge = lt
 negated eq = ne
 negated ne = eq
 
--- the comparison c holds for all numbers of the two ranges
+-- c holds of every integer of the one range with every integer of the other
 unfoldable pub always : Cmp → Window → Window → Bool
 always lt v w = ltZ (v .high) (w .low)
 always le v w = leZ (v .high) (w .low)
@@ -89,7 +90,7 @@ always ne v w = not (leZ (w .low) (v .high) && leZ (v .low) (w .high))
 unfoldable pub decided : Cmp → Window → Window → Option Bool
 decided c v w = cond (always c v w) (some true) (cond (always (negated c) v w) (some false) none)
 
--- ---- windows narrow
+-- ---- narrowing: "A window narrows by one of the six comparisons where one side is just a free variable and the other's range is one number; `!=` (or a false `==`) removes only an end."
 
 -- what a window keeps where its variable compares so with n
 unfoldable pub clip : Cmp → ℤ → Window → Window
@@ -100,6 +101,7 @@ clip ge n w = to (maxZ (w .low) n) (w .high)
 clip eq n w = to (maxZ (w .low) n) (minZ (w .high) n)
 clip ne n w = to (cond (eqZ (w .low) n) (sucℤ n) (w .low)) (cond (eqZ (w .high) n) (predℤ n) (w .high))
 
+-- the same comparison, with its sides changed
 abbrev pub mirrored : Cmp → Cmp
 mirrored lt = gt
 mirrored le = ge
@@ -108,7 +110,7 @@ mirrored ge = le
 mirrored eq = eq
 mirrored ne = ne
 
--- a free variable that compares so with a range of one number
+-- the windows where the value compares so with a number of the range r: those of a free variable are clipped if r has one number
 unfoldable pub clipped : Cmp → Value → Window → List Window → List Window
 clipped c (known z) r ws = ws
 clipped c (unknown i) r ws = cond (eqZ (r .low) (r .high)) (set ws i (clip c (r .low) (getD ws i all32))) ws
@@ -117,24 +119,44 @@ clipped c (open′ o a b) r ws = ws
 unfoldable pub narrowed : Cmp → Value → Value → List Window → List Window
 narrowed c a b ws = clipped (mirrored c) b (range ws a) (clipped c a (range ws b) ws)
 
--- ---- the search
+-- ---- the solver
 
--- a test that was made: the comparison that holds
+-- What the search knows of comparisons. In 002 "the constraint solver is exchangeable", and the search below is written for any: `decide` says the outcome of a comparison in these windows, or none; `narrow` gives the windows in which it holds, or none where it holds for no setting, which closes that side of the choice.
+pub record Solver : Type 0 where
+  pub decide : Cmp → Value → Value → List Window → Option Bool
+  pub narrow : Cmp → Value → Value → List Window → Option (List Window)
+
+-- The solver of document 01, by ranges. It closes nothing.
+abbrev pub byRanges : Solver
+byRanges = record {
+  decide = λ c a b ws. decided c (range ws a) (range ws b);
+  narrow = λ c a b ws. some (narrowed c a b ws);
+}
+
+-- ---- settings
+
+-- a test that was made: the comparison that holds on this path
 pub record Test : Type 0 where
   pub compare : Cmp
   pub left : Value
   pub right : Value
 
+abbrev pub made : Cmp → Value → Value → Test
+made c a b = record { compare = c; left = a; right = b }
+
+-- "one that meets every test made"
 unfoldable pub meets : List Test → List ℤ → Bool
 meets [] s = true
 meets (t ∷ ts) s = holds (t .compare) (under s (t .left)) (under s (t .right)) && meets ts s
 
--- all settings in the windows, the last variable fastest, each upward
+-- "all settings of the path's free variables in their windows .. last variable fastest, each upward". "With no free variable there is one empty setting."
 unfoldable pub settings : List Window → List (List ℤ)
 settings [] = [] ∷ []
 settings (w ∷ ws) = each (λ v. map (λ s. v ∷ s) (settings ws)) (numbers w)
 
--- A move: a step, a choice taken back, or a setting tried, which at a return gives a row or a miss, and at a cut meets the tests made or not.
+-- ---- moves: "A move is one step, one setting tried, or one choice taken back."
+
+-- A setting tried at a return is a row found or missed; one tried at a cut is a probe, which meets the tests or not.
 pub data Kind : Type 0 where
   stepped back missed : Kind
 
@@ -143,43 +165,49 @@ pub data Move : Type 0 where
   found : Row → Move
   probe : Bool → Move
 
+-- "At the run's return, all settings .. are tried .. one that meets every test made is a row." It is 002's Label, which "is applied with the least priority".
 unfoldable pub tried : Value → List Test → List (List ℤ) → List Move
 tried v ts [] = []
 tried v ts (s ∷ ss) = cond (meets ts s) (found (record { result = under s v; values = s })) (plain missed) ∷ tried v ts ss
 
+-- "At a cut, settings are tried until one meets the tests"
 unfoldable pub probed : List Test → List (List ℤ) → List Move
 probed ts [] = []
 probed ts (s ∷ ss) = cond (meets ts s) (probe true ∷ []) (probe false ∷ probed ts ss)
 
--- what is tried where a path ends, with the steps and the choices on the way to it
+-- The paths of a search: at each end what is tried there, and on the way the steps and the choices, with their true and their false side.
 pub data Paths : Type 0 where
   leaf : List Move → Paths
   onward : Paths → Paths
   fork : Paths → Paths → Paths
 
-abbrev pub made : Cmp → Value → Value → Test
-made c a b = record { compare = c; left = a; right = b }
+-- a side of a choice, in its windows; a closed one "goes on as after a `fail`"
+abbrev pub side : Option (List Window) → (List Window → Paths) → Paths
+side none p = leaf []
+side (some ws) p = p ws
 
--- the paths from a node on, with the windows and the tests made so far, where every cut path probes
-module _ (job : Window) where
+-- The paths from here on, with the windows and the tests made so far. "each free declaration starts with the job's pair"; "At `fail`, none"; a comparison that is not decided is a choice.
+module _ (solver : Solver) (job : Window) where
   unfoldable pub paths : Does Value → List Window → List Test → Paths
   paths (returned v) ws ts = leaf (tried v ts (settings ws))
   paths failed ws ts = leaf []
   paths cut ws ts = leaf (probed ts (settings ws))
   paths (step t) ws ts = onward (paths t ws ts)
   paths (free k) ws ts = onward (paths (k (unknown (length ws))) (ws ++ job ∷ []) ts)
-  paths (test c a b k) ws ts = elim (decided c (range ws a) (range ws b)) [
+  paths (test c a b k) ws ts = elim (solver .decide c a b ws) [
     | some o ↦ paths (k o) ws ts
-    | none ↦ fork (paths (k true) (narrowed c a b ws) (made c a b ∷ ts)) (paths (k false) (narrowed (negated c) a b ws) (made (negated c) a b ∷ ts))
+    | none ↦ fork
+        (side (solver .narrow c a b ws) (λ us. paths (k true) us (made c a b ∷ ts)))
+        (side (solver .narrow (negated c) a b ws) (λ us. paths (k false) us (made (negated c) a b ∷ ts)))
   ]
 
--- true first; then the choice is taken back and goes false
+-- "Otherwise a choice is made, true first." "Then the newest choice is taken back and goes false; one already false is dropped first, which is no move. With no choice left the search has ended."
 unfoldable pub moves : Paths → List Move
 moves (leaf ms) = ms
 moves (onward t) = plain stepped ∷ moves t
 moves (fork a b) = moves a ++ plain back ∷ moves b
 
--- once a cut run is found, later cut paths try no setting
+-- "once a cut run is found, later cut paths try none": h says whether one was found
 unfoldable pub settled : Bool → List Move → List Move
 settled h [] = []
 settled h (plain k ∷ ms) = plain k ∷ settled h ms
@@ -187,8 +215,13 @@ settled h (found r ∷ ms) = found r ∷ settled h ms
 settled false (probe o ∷ ms) = probe o ∷ settled o ms
 settled true (probe o ∷ ms) = settled true ms
 
-unfoldable pub search : Job → List Move
-search j = settled false (moves (paths (j .window) (within (j .steps) 8 (does known work (j .steps) (j .program))) [] []))
+-- what the job's program does over values that may be open
+unfoldable pub openly : Job → Does Value
+openly j = within (j .steps) 8 (does known work (j .steps) (j .program))
+
+-- the moves of the whole search
+unfoldable pub search : Solver → Job → List Move
+search s j = settled false (moves (paths s (j .window) (openly j) [] []))
 
 -- the rows that moves find, and whether they find a cut run
 unfoldable pub rowsIn : List Move → List Row
@@ -203,7 +236,7 @@ cutIn (plain k ∷ ms) = cutIn ms
 cutIn (found r ∷ ms) = cutIn ms
 cutIn (probe o ∷ ms) = o || cutIn ms
 
--- ---- what a list answers
+-- ---- what list answers: "rows written, moves made and an ending"
 
 pub data Close : Type 0 where
   whole cuts full spent : Close
@@ -219,7 +252,8 @@ moved a = record { rows = a .rows; moves = suc (a .moves); close = a .close }
 abbrev wrote : Row → Answer → Answer
 wrote r a = record { rows = r ∷ a .rows; moves = suc (a .moves); close = a .close }
 
--- `c` is how the search closes where it ends; then the moves that it makes, rows to skip, places for rows, and the budget
+-- The moves left to make, the rows to skip, the rows that have a place, and the budget. `c` is how the search closes where it ends here.
+-- "whole or cut: the search ended, no cut run or some; full: a row past the skipped ones was found and has no place; it is not written; spent: the budget was made and the search has not ended. Full goes before spent."
 unfoldable pub answer : Close → List Move → ℕ → ℕ → ℕ → Answer
 answer c [] skip room budget = record { rows = []; moves = 0; close = c }
 answer c (m ∷ ms) skip room zero = record { rows = []; moves = 0; close = spent }
@@ -230,5 +264,5 @@ answer c (found r ∷ ms) (suc k) room (suc n) = moved (answer c ms k room n)
 answer c (found r ∷ ms) zero zero (suc n) = record { rows = []; moves = 1; close = full }
 answer c (found r ∷ ms) zero (suc k) (suc n) = wrote r (answer c ms zero k n)
 
-unfoldable pub listed : Job → ℕ → ℕ → ℕ → Answer
-listed j skip room budget = answer whole (search j) skip room budget
+unfoldable pub listed : Solver → Job → ℕ → ℕ → ℕ → Answer
+listed s j skip room budget = answer whole (search s j) skip room budget

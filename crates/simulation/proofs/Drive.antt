@@ -1,111 +1,159 @@
--- One path of the search, run by the machine: turn after turn, each of which works one entry of the code.
+-- One path, as the machine goes it on a program's code, is that path of the search, and its turns come to an end.
 use Prim.Native.Nat.{ℕ, zero, suc, _+_, _*_, _≤_, _<_}
-use mathlib.Core.Path.{_≡_, refl, sym, _∙_}
+use mathlib.Core.Path.{_≡_, refl, sym, ap, _∙_}
 use mathlib.Core.Bool.{Bool, true, false}
 use mathlib.Core.Option.{Option, none, some}
-use mathlib.Core.List.{List, [], _∷_}
+use mathlib.Core.List.{List, [], _∷_, _++_, append-assoc, append-nil}
 use native.Mathlib.Omega.{arith}
 use native.Mathlib.Nat.{suc-mul, mul-le-mul-right, le-refl, le-of-suc-le-suc, lt-of-lt-of-le}
 use lib.ListN.{length}
 use Rattle.semantics.specs.Int.{Cmp}
 use Rattle.semantics.specs.Program.{Program}
-use Rattle.semantics.specs.Does.{Does, within, does}
+use Rattle.semantics.specs.Does.{Does, does, within}
 use Rattle.semantics.specs.Run.{Window}
-use Rattle.semantics.specs.Search.{Value, known, work, range, decided, Test, settings, tried, paths}
-use Rattle.simulation.proofs.Path.{Path, ending, path, path-of}
-use Rattle.simulation.proofs.Replay.{Has, replayed, chosen as chosenIn}
+use Rattle.semantics.specs.Search as search
+use Rattle.semantics.specs.Search.{Value, known, unknown, work, Solver, Test, settings, Move, plain, tried, probed, made, paths}
 use Rattle.simulation.specs.Code.{Code, codeOf}
 use Rattle.simulation.specs.Machine.{Machine, Doing, advance, start}
+use Rattle.simulation.specs.Path.{holding, outcome, later, State, state, begins, End, returned, failed, cut, Went, on, ended, Turn, fresh, counted, still, chose, siding, choosing, stepped, reached, comparing, turning, turn}
+use Rattle.simulation.proofs.Replay.{Has}
+use Rattle.simulation.proofs.Route.{Route, stepping, taking, ending, sided, route, of, route-of}
 use Rattle.simulation.proofs.Placed.{Placed, placed}
-use Rattle.simulation.proofs.Simulate.{Runs, runs, Makes, silent, step, free, test, returned, failed, cut, does-runs}
+use Rattle.simulation.proofs.Simulate as simulate
+use Rattle.simulation.proofs.Simulate.{Runs, Makes, does-runs}
 use Rattle.simulation.proofs.Bounds.{Sound, Sounds, sound-start, sound-advance, silents, Falls, silent-falls}
-use Rattle.simulation.proofs.State.{State, Out, go, stop, then, rest, whole, state, at, cutD, stepD, step-ok, freeD, free-ok, chooses, testD, test-ok}
 
-module _ (job : Window) (c : Code) where
-  abbrev pub turning : Doing Value → State → Out (Machine Value)
-  turning (Doing.silent m) s = go m s
-  turning (Doing.step m) s = then (stepD job s) λ u s. go m s
-  turning (Doing.free k) s = then (freeD job s) λ v s. go (k v) s
-  turning (Doing.test o a b k) s = then (stepD job s) λ u s. then (testD job o a b s) λ r s. go (k r) s
-  turning (Doing.returned v) s = stop (whole s (ending (tried v (s .tests) (settings (s .windows)))))
-  turning Doing.failed s = stop (whole s (ending []))
-  turning Doing.cut s = cutD job s
+-- what is tried at a path's end
+unfoldable pub last : End → State → List Move
+last (returned v) s = tried v (s .tests) (settings (s .windows))
+last failed s = []
+last cut s = probed (s .tests) (settings (s .windows))
 
-  -- one turn of the loop: the path goes on with the next machine and state, or it has stopped
-  unfoldable pub turn : Machine Value → State → Out (Machine Value)
-  turn m s = turning (advance known work c m) s
+-- what is left of a route, behind the choices h
+abbrev pub behind : List Bool → Route → Route
+behind h r = record { moves = r .moves; choices = h ++ r .choices }
 
-  -- the path from here on, with what is behind, is r
-  pub record Still (r : Path) (m : Machine Value) (s : State) : Type 0 where
+-- a turn that is a move, and then r
+abbrev pub moving : Bool → Route → Route
+moving true r = record { moves = plain search.stepped ∷ r .moves; choices = r .choices }
+moving false r = r
+
+route-eq : {ms : List Move} {x y : List Bool} → x ≡ y → _≡_ {A = Route} (record { moves = ms; choices = x }) (record { moves = ms; choices = y })
+route-eq {ms} p = ap (λ x. record { moves = ms; choices = x }) p
+
+-- a step is a move where no forced outcome is left
+moving-fresh : (p h : List Bool) (r : Route) → moving (fresh p) (behind h r) ≡ behind h (stepping p r)
+moving-fresh [] h r = refl
+moving-fresh (o ∷ p) h r = refl
+
+module _ (solver : Solver) (job : Window) (c : Code) where
+  -- what is left of the route from a node on, with the choices so far
+  abbrev pub at : Does Value → State → Route
+  at t s = behind (s .chosen) (route solver job t (s .steps) (s .frees) (s .windows) (s .tests) (s .forced))
+
+  -- the machine goes the route r from here on
+  pub record Goes (r : Route) (m : Machine Value) (s : State) : Type 0 where
     pub tree : Does Value
     pub does : Runs known work c (s .steps) m tree
-    pub same : at job tree s ≡ r
+    pub same : at tree s ≡ r
 
-  abbrev pub Stays : Path → Out (Machine Value) → Type 0
-  Stays r (go m s) = Still r m s
-  Stays r (stop q) = q ≡ r
+  abbrev pub GoesOn : Route → Went → Type 0
+  GoesOn r (on m s) = Goes r m s
+  GoesOn r (ended e s) = record { moves = last e s; choices = s .chosen } ≡ r
 
-  module _ (r : Path) where
-    stays-step : (l f : ℕ) (ws : List Window) (ts : List Test) (p h : List Bool) (n : ℕ) (t : Does Value) (g : State → Out (Machine Value)) → at job (Does.step t) (state l f ws ts p h n) ≡ r
-        → ((s : State) → s .steps < l → at job t s ≡ r → Stays r (g s)) → Stays r (then (stepD job (state l f ws ts p h n)) λ u s. g s)
-    unfolding stepD
-    stays-step zero f ws ts p h n t g e d = sym (step-ok job (state zero f ws ts p h n) t) ∙ e
-    stays-step (suc l) f ws ts p h n t g e d = d _ (le-refl _) (sym (step-ok job (state (suc l) f ws ts p h n) t) ∙ e)
+  -- a turn keeps to the route r
+  pub record Keeps (r : Route) (x : Turn) : Type 0 where
+    pub rest : Route
+    pub first : moving (x .move) rest ≡ r
+    pub goes : GoesOn rest (x .went)
 
-    stays-free : (l f : ℕ) (ws : List Window) (ts : List Test) (p h : List Bool) (n : ℕ) (k : Value → Does Value) (g : Value → State → Out (Machine Value)) → at job (Does.free k) (state l f ws ts p h n) ≡ r
-        → ((v : Value) (s : State) → s .steps < l → at job (k v) s ≡ r → Stays r (g v s)) → Stays r (then (freeD job (state l f ws ts p h n)) g)
-    unfolding freeD
-    stays-free zero f ws ts p h n k g e d = sym (free-ok job (state zero f ws ts p h n) k) ∙ e
-    stays-free (suc l) zero ws ts p h n k g e d = sym (free-ok job (state (suc l) zero ws ts p h n) k) ∙ e
-    stays-free (suc l) (suc f) ws ts p h n k g e d = d _ _ (le-refl _) (sym (free-ok job (state (suc l) (suc f) ws ts p h n) k) ∙ e)
+  module _ (r : Route) where
+    keeps-still : (w : Went) → GoesOn r w → Keeps r (still w)
+    keeps-still w g = record { rest = r; first = refl; goes = g }
 
-    stays-choice : (x : Option Bool) (o : Cmp) (a b : Value) (s : State) (p : List Bool) (j : Bool → Machine Value) (k : Bool → Does Value) → ((q : Bool) → Runs known work c (s .steps) (j q) (k q))
-        → rest (elim x as (λ x. Out Bool) [ some q ↦ go q s | none ↦ chooses job o a b p s ]) (λ q z. at job (k q) z) ≡ r
-        → Stays r (then (elim x as (λ x. Out Bool) [ some q ↦ go q s | none ↦ chooses job o a b p s ]) λ q s. go (j q) s)
-    stays-choice (some q) o a b s p j k h e = record { tree = k q; does = h q; same = e }
-    stays-choice none o a b s [] j k h e = record { tree = k true; does = h true; same = e }
-    stays-choice none o a b s (true ∷ p) j k h e = record { tree = k true; does = h true; same = e }
-    stays-choice none o a b s (false ∷ p) j k h e = record { tree = k false; does = h false; same = e }
+    -- after a step, in state s
+    keeps-counted : (s : State) (w : Went) (q : Route) → GoesOn (behind (s .chosen) q) w → behind (s .chosen) (stepping (s .forced) q) ≡ r → Keeps r (counted s w)
+    keeps-counted s w q g e = record { rest = behind (s .chosen) q; first = moving-fresh (s .forced) (s .chosen) q ∙ e; goes = g }
 
-    stays-test : (o : Cmp) (a b : Value) (s : State) (j : Bool → Machine Value) (k : Bool → Does Value) → ((q : Bool) → Runs known work c (s .steps) (j q) (k q))
-        → at job (Does.test o a b k) s ≡ r → Stays r (then (testD job o a b s) λ q s. go (j q) s)
-    unfolding testD
-    stays-test o a b s j k h e = stays-choice (decided o (range (s .windows) a) (range (s .windows) b)) o a b s (s .forced) j k h (sym (test-ok job s o a b k) ∙ e)
+    keeps-cut : (s : State) → behind (s .chosen) (ending (probed (s .tests) (settings (s .windows)))) ≡ r → Keeps r (still (ended cut s))
+    unfolding last
+    keeps-cut s e = keeps-still (ended cut s) (route-eq (sym (append-nil (s .chosen))) ∙ e)
 
-    stays-makes : (s : State) {d : Doing Value} {t : Does Value} → Makes known work c (s .steps) d t → at job t s ≡ r → Stays r (turning d s)
-    unfolding path
-    stays-makes s (silent {t} h) e = record { tree = t; does = h; same = e }
-    stays-makes s (step {t} h) e = stays-step (s .steps) (s .frees) (s .windows) (s .tests) (s .forced) (s .chosen) (s .moved) t _ e λ s l e. record { tree = t; does = h (s .steps) l; same = e }
-    stays-makes s (free {k} h) e = stays-free (s .steps) (s .frees) (s .windows) (s .tests) (s .forced) (s .chosen) (s .moved) k _ e λ v s l e. record { tree = k v; does = h (s .steps) l v; same = e }
-    stays-makes s (test {o} {a} {b} {j} {k} h) e = stays-step (s .steps) (s .frees) (s .windows) (s .tests) (s .forced) (s .chosen) (s .moved) (Does.test o a b k) _ e λ s l e. stays-test o a b s j k (h (s .steps) l) e
-    stays-makes s returned e = e
-    stays-makes s failed e = e
-    stays-makes s cut e = e
+    keeps-step : (l f : ℕ) (ws : List Window) (ts : List Test) (p h : List Bool) (m : Machine Value) (t : Does Value) → ((k : ℕ) → k < l → Runs known work c k m t)
+        → at (Does.step t) (state l f ws ts p h) ≡ r → Keeps r (turning solver job (Doing.step m) (state l f ws ts p h))
+    unfolding turning route
+    keeps-step zero f ws ts p h m t d e = keeps-cut (state zero f ws ts p h) e
+    keeps-step (suc l) f ws ts p h m t d e = keeps-counted (state (suc l) f ws ts p h) (on m (state l f ws ts p h)) _ (record { tree = t; does = d l (le-refl _); same = refl }) e
 
-    -- a turn keeps the path
-    pub turn-stays : (m : Machine Value) (s : State) → Still r m s → Stays r (turn m s)
+    keeps-free : (l f : ℕ) (ws : List Window) (ts : List Test) (p h : List Bool) (j : Value → Machine Value) (k : Value → Does Value) → ((i : ℕ) → i < l → (v : Value) → Runs known work c i (j v) (k v))
+        → at (Does.free k) (state l f ws ts p h) ≡ r → Keeps r (turning solver job (Doing.free j) (state l f ws ts p h))
+    unfolding turning route
+    keeps-free zero f ws ts p h j k d e = keeps-cut (state zero f ws ts p h) e
+    keeps-free (suc l) zero ws ts p h j k d e = keeps-cut (state (suc l) zero ws ts p h) e
+    keeps-free (suc l) (suc f) ws ts p h j k d e =
+        keeps-counted (state (suc l) (suc f) ws ts p h) (on (j (unknown (length ws))) (state l f (ws ++ job ∷ []) ts p h)) _ (record { tree = k (unknown (length ws)); does = d l (le-refl _) _; same = refl }) e
+
+  -- a comparison, after its step
+  goes-side : (x : Option (List Window)) (o : Bool) (q : Cmp) (a b : Value) (l f : ℕ) (ws : List Window) (ts : List Test) (p h : List Bool) (m : Machine Value) (t : Does Value) → Runs known work c l m t
+      → GoesOn (behind h (taking o (sided x (λ us. route solver job t l f us (made (holding o q) a b ∷ ts) (later p))))) (siding q a b m (state l f ws ts p h) o x)
+  unfolding last
+  goes-side none o q a b l f ws ts p h m t d = refl
+  goes-side (some us) o q a b l f ws ts p h m t d = record { tree = t; does = d; same = route-eq (append-assoc h (o ∷ []) _) }
+
+  goes-choice : (x : Option Bool) (q : Cmp) (a b : Value) (l f : ℕ) (ws : List Window) (ts : List Test) (p h : List Bool) (j : Bool → Machine Value) (k : Bool → Does Value)
+      → ((o : Bool) → Runs known work c l (j o) (k o))
+      → GoesOn (behind h (elim x as (λ x. Route) [
+        | some o ↦ route solver job (k o) l f ws ts p
+        | none ↦ taking (outcome p) (sided (solver .narrow (holding (outcome p) q) a b ws) (λ us. route solver job (k (outcome p)) l f us (made (holding (outcome p) q) a b ∷ ts) (later p)))
+      ])) (elim x as (λ x. Went) [ some o ↦ on (j o) (state l f ws ts p h) | none ↦ choosing solver job q a b j (state l f ws ts p h) (outcome p) ])
+  unfolding choosing
+  goes-choice (some o) q a b l f ws ts p h j k d = record { tree = k o; does = d o; same = refl }
+  goes-choice none q a b l f ws ts p h j k d = goes-side (solver .narrow (holding (outcome p) q) a b ws) (outcome p) q a b l f ws ts p h (j (outcome p)) (k (outcome p)) (d (outcome p))
+
+  module _ (r : Route) where
+    keeps-test : (l f : ℕ) (ws : List Window) (ts : List Test) (p h : List Bool) (o : Cmp) (a b : Value) (j : Bool → Machine Value) (k : Bool → Does Value) → ((i : ℕ) → i < l → (q : Bool) → Runs known work c i (j q) (k q))
+        → at (Does.step (Does.test o a b k)) (state l f ws ts p h) ≡ r → Keeps r (turning solver job (Doing.test o a b j) (state l f ws ts p h))
+    unfolding turning comparing route
+    keeps-test zero f ws ts p h o a b j k d e = keeps-cut r (state zero f ws ts p h) e
+    keeps-test (suc l) f ws ts p h o a b j k d e =
+        keeps-counted r (state (suc l) f ws ts p h) (comparing solver job o a b j (state l f ws ts p h)) (route solver job (Does.test o a b k) l f ws ts p) (goes-choice (solver .decide o a b ws) o a b l f ws ts p h j k (d l (le-refl _))) e
+
+    keeps-makes : (s : State) {d : Doing Value} {t : Does Value} → Makes known work c (s .steps) d t → at t s ≡ r → Keeps r (turning solver job d s)
+    unfolding turning route last
+    keeps-makes s (simulate.silent {m} {t} h) e = keeps-still r (on m s) (record { tree = t; does = h; same = e })
+    keeps-makes s (simulate.step {m} {t} h) e = keeps-step r (s .steps) (s .frees) (s .windows) (s .tests) (s .forced) (s .chosen) m t h e
+    keeps-makes s (simulate.free {j} {k} h) e = keeps-free r (s .steps) (s .frees) (s .windows) (s .tests) (s .forced) (s .chosen) j k h e
+    keeps-makes s (simulate.test {o} {a} {b} {j} {k} h) e = keeps-test (s .steps) (s .frees) (s .windows) (s .tests) (s .forced) (s .chosen) o a b j k h e
+    keeps-makes s (simulate.returned {v}) e = keeps-still r (ended (returned v) s) (route-eq (sym (append-nil (s .chosen))) ∙ e)
+    keeps-makes s simulate.failed e = keeps-still r (ended failed s) (route-eq (sym (append-nil (s .chosen))) ∙ e)
+    keeps-makes s simulate.cut e = keeps-cut r s e
+
+    -- a turn keeps to the route
+    pub turn-keeps : (m : Machine Value) (s : State) → Goes r m s → Keeps r (turn solver job c m s)
     unfolding turn
-    turn-stays m s h = go (h .does) (h .same)
+    turn-keeps m s h = run (h .does) (h .same)
       where
-        go : {t : Does Value} → Runs known work c (s .steps) m t → at job t s ≡ r → Stays r (turning (advance known work c m) s)
-        go (runs d) e = stays-makes s d e
+        run : {t : Does Value} → Runs known work c (s .steps) m t → at t s ≡ r → Keeps r (turning solver job (advance known work c m) s)
+        run (simulate.runs d) e = keeps-makes s d e
 
-  -- where a path starts
-  abbrev pub begins : ℕ → List Bool → State
-  begins most forced = state most 8 [] [] forced [] 0
+  -- on a program's code, a path goes its route from the start on
+  pub goes-start : (most : ℕ) (p : Program) → Placed c p → (forced : List Bool) → Goes (route solver job (does known work most p) most 8 [] [] forced) (start known work c) (begins most forced)
+  goes-start most p h forced = record { tree = does known work most p; does = does-runs known work c most p h most (le-refl _); same = refl }
 
-  pub still-start : (most : ℕ) (p : Program) → Placed c p → (forced : List Bool) → Still (path job (does known work most p) most 8 [] [] forced) (start known work c) (begins most forced)
-  still-start most p h forced = record { tree = does known work most p; does = does-runs known work c most p h most (le-refl _); same = refl }
+-- ---- the turns come to an end
 
-  -- ---- the turns come to an end
-
+module _ (c : Code) where
   -- no more silent moves than this follow one another
   abbrev pub most-silents : ℕ
   most-silents = 32 * suc (length (c .entries)) + length (c .entries)
 
   -- it falls with each turn
-  abbrev pub ahead : Machine Value → State → ℕ
-  ahead m s = s .steps * suc most-silents + silents known work c m
+  abbrev pub turns-left : Machine Value → State → ℕ
+  turns-left m s = s .steps * suc most-silents + silents known work c m
+
+  -- more turns than a path can have
+  abbrev pub most-turns : ℕ → ℕ
+  most-turns most = suc most * suc most-silents
 
   -- the steps made and the steps left are `most`
   pub record Kept (most : ℕ) (m : Machine Value) (s : State) : Type 0 where
@@ -115,86 +163,97 @@ module _ (job : Window) (c : Code) where
 
   pub record Nearer (most n : ℕ) (m : Machine Value) (s : State) : Type 0 where
     pub kept : Kept most m s
-    pub nearer : ahead m s < n
+    pub nearer : turns-left m s < n
 
-  abbrev pub Nears : ℕ → ℕ → Out (Machine Value) → Type 0
-  Nears most n (go m s) = Nearer most n m s
-  Nears most n (stop q) = Unit {0}
+  abbrev pub Nears : ℕ → ℕ → Went → Type 0
+  Nears most n (on m s) = Nearer most n m s
+  Nears most n (ended e s) = Unit {0}
 
   silents-le : {k : ℕ} {m : Machine Value} → Sound k m → silents known work c m ≤ most-silents
   silents-le {k} {m} s = omega (arith, mul-le-mul-right {m = length (m .callers)} {n = 32} (suc (length (c .entries))) (omega arith))
 
-  module _ (most q : ℕ) where
+  module _ (solver : Solver) (job : Window) (most q : ℕ) where
     -- after a step
     near : {k : ℕ} (l : ℕ) (m : Machine Value) (s : State) → k + suc l ≡ most → s .steps ≡ l → Sound (suc k) m → Nearer most (suc l * suc most-silents + q) m s
     near {k} l m s e f h = record { kept = record { made = suc k; limit = omega arith; sound = h }; nearer = rw f (omega (arith, silents-le h, suc-mul l (suc most-silents))) }
 
-    near-step : (k l f : ℕ) (ws : List Window) (ts : List Test) (p h : List Bool) (n : ℕ) (m : Machine Value) → k + l ≡ most → Sound (suc k) m
-        → Nears most (l * suc most-silents + q) (then (stepD job (state l f ws ts p h n)) λ u s. go m s)
-    unfolding stepD
-    near-step k zero f ws ts p h n m e s = tt
-    near-step k (suc l) f ws ts p h n m e s = near l m _ e refl s
+    near-step : (k l : ℕ) (s : State) (m : Machine Value) → k + l ≡ most → Sound (suc k) m
+        → Nears most (l * suc most-silents + q) ((elim l as (λ l. Turn) [ zero ↦ still (ended cut s) | suc l ↦ counted s (on m (stepped l s)) ]) .went)
+    near-step k zero s m e h = tt
+    near-step k (suc l) s m e h = near l m _ e refl h
 
-    near-free : (k l f : ℕ) (ws : List Window) (ts : List Test) (p h : List Bool) (n : ℕ) (j : Value → Machine Value) → k + l ≡ most → ((v : Value) → Sound (suc k) (j v))
-        → Nears most (l * suc most-silents + q) (then (freeD job (state l f ws ts p h n)) λ v s. go (j v) s)
-    unfolding freeD
-    near-free k zero f ws ts p h n j e s = tt
-    near-free k (suc l) zero ws ts p h n j e s = tt
-    near-free k (suc l) (suc f) ws ts p h n j e s = near l (j _) _ e refl (s _)
+    near-free : (k l f : ℕ) (s : State) (j : Value → Machine Value) → k + l ≡ most → ((v : Value) → Sound (suc k) (j v))
+        → Nears most (l * suc most-silents + q) ((elim l as (λ l. Turn) [
+          | zero ↦ still (ended cut s)
+          | suc l ↦ elim f as (λ f. Turn) [ zero ↦ still (ended cut s) | suc f ↦ counted s (on (j (unknown (length (s .windows)))) (reached job l f s)) ]
+        ]) .went)
+    near-free k zero f s j e h = tt
+    near-free k (suc l) zero s j e h = tt
+    near-free k (suc l) (suc f) s j e h = near l _ _ e refl (h _)
 
-    near-choice : (k l : ℕ) (x : Option Bool) (o : Cmp) (a b : Value) (s : State) (p : List Bool) (j : Bool → Machine Value) → k + suc l ≡ most → s .steps ≡ l → ((q : Bool) → Sound (suc k) (j q))
-        → Nears most (suc l * suc most-silents + q) (then (elim x as (λ x. Out Bool) [ some q ↦ go q s | none ↦ chooses job o a b p s ]) λ q s. go (j q) s)
-    near-choice k l (some r) o a b s p j e f h = near l (j r) _ e f (h r)
-    near-choice k l none o a b s [] j e f h = near l (j true) _ e f (h true)
-    near-choice k l none o a b s (true ∷ p) j e f h = near l (j true) _ e f (h true)
-    near-choice k l none o a b s (false ∷ p) j e f h = near l (j false) _ e f (h false)
+    near-side : (k l : ℕ) (x : Option (List Window)) (o : Cmp) (a b : Value) (s : State) (r : Bool) (m : Machine Value) → k + suc l ≡ most → s .steps ≡ l → Sound (suc k) m
+        → Nears most (suc l * suc most-silents + q) (siding o a b m s r x)
+    near-side k l none o a b s r m e f h = tt
+    near-side k l (some us) o a b s r m e f h = near l m _ e f h
 
-    near-test : (k l f : ℕ) (ws : List Window) (ts : List Test) (p h : List Bool) (n : ℕ) (o : Cmp) (a b : Value) (j : Bool → Machine Value) → k + l ≡ most → ((r : Bool) → Sound (suc k) (j r))
-        → Nears most (l * suc most-silents + q) (then (stepD job (state l f ws ts p h n)) λ u s. then (testD job o a b s) λ r s. go (j r) s)
-    unfolding stepD testD
-    near-test k zero f ws ts p h n o a b j e s = tt
-    near-test k (suc l) f ws ts p h n o a b j e s = near-choice k l (decided o (range ws a) (range ws b)) o a b _ p j e refl s
+    near-choice : (k l : ℕ) (x : Option Bool) (o : Cmp) (a b : Value) (s : State) (j : Bool → Machine Value) → k + suc l ≡ most → s .steps ≡ l → ((q : Bool) → Sound (suc k) (j q))
+        → Nears most (suc l * suc most-silents + q) (elim x as (λ x. Went) [ some r ↦ on (j r) s | none ↦ choosing solver job o a b j s (outcome (s .forced)) ])
+    unfolding choosing
+    near-choice k l (some r) o a b s j e f h = near l (j r) s e f (h r)
+    near-choice k l none o a b s j e f h = near-side k l (solver .narrow (holding (outcome (s .forced)) o) a b (s .windows)) o a b s (outcome (s .forced)) (j (outcome (s .forced))) e f (h _)
 
-    near-turn : (d : Doing Value) (s : State) (k : ℕ) → k + s .steps ≡ most → Sounds k d → Falls known work c q d → Nears most (s .steps * suc most-silents + q) (turning d s)
+    near-test : (k l : ℕ) (s : State) (o : Cmp) (a b : Value) (j : Bool → Machine Value) → k + l ≡ most → ((r : Bool) → Sound (suc k) (j r))
+        → Nears most (l * suc most-silents + q) ((elim l as (λ l. Turn) [ zero ↦ still (ended cut s) | suc l ↦ counted s (comparing solver job o a b j (stepped l s)) ]) .went)
+    unfolding comparing
+    near-test k zero s o a b j e h = tt
+    near-test k (suc l) s o a b j e h = near-choice k l (solver .decide o a b (s .windows)) o a b (stepped l s) j e refl h
+
+    near-turn : (d : Doing Value) (s : State) (k : ℕ) → k + s .steps ≡ most → Sounds k d → Falls known work c q d → Nears most (s .steps * suc most-silents + q) (turning solver job d s .went)
+    unfolding turning
     near-turn (Doing.silent m) s k e h f = record { kept = record { made = k; limit = e; sound = h }; nearer = omega arith }
-    near-turn (Doing.step m) s k e h f = near-step k (s .steps) (s .frees) (s .windows) (s .tests) (s .forced) (s .chosen) (s .moved) m e h
-    near-turn (Doing.free j) s k e h f = near-free k (s .steps) (s .frees) (s .windows) (s .tests) (s .forced) (s .chosen) (s .moved) j e h
-    near-turn (Doing.test o a b j) s k e h f = near-test k (s .steps) (s .frees) (s .windows) (s .tests) (s .forced) (s .chosen) (s .moved) o a b j e h
+    near-turn (Doing.step m) s k e h f = near-step k (s .steps) s m e h
+    near-turn (Doing.free j) s k e h f = near-free k (s .steps) (s .frees) s j e h
+    near-turn (Doing.test o a b j) s k e h f = near-test k (s .steps) s o a b j e h
     near-turn (Doing.returned v) s k e h f = tt
     near-turn Doing.failed s k e h f = tt
     near-turn Doing.cut s k e h f = tt
 
   -- a turn keeps the bounds, and the end is nearer
-  pub turn-nears : (most : ℕ) (m : Machine Value) (s : State) → Kept most m s → Nears most (ahead m s) (turn m s)
+  pub turn-nears : (solver : Solver) (job : Window) (most : ℕ) (m : Machine Value) (s : State) → Kept most m s → Nears most (turns-left m s) (turn solver job c m s .went)
   unfolding turn
-  turn-nears most m s h = near-turn most (silents known work c m) (advance known work c m) s (h .made) (h .limit) (sound-advance known work c (h .made) m (h .sound)) (silent-falls known work c m)
+  turn-nears solver job most m s h = near-turn solver job most (silents known work c m) (advance known work c m) s (h .made) (h .limit) (sound-advance known work c (h .made) m (h .sound)) (silent-falls known work c m)
 
   pub kept-start : (most : ℕ) (forced : List Bool) → Kept most (start known work c) (begins most forced)
   kept-start most forced = record { made = 0; limit = omega arith; sound = sound-start known work c }
 
-  -- ---- the whole path
+  pub turns-le : (most : ℕ) (m : Machine Value) (s : State) → Kept most m s → turns-left m s < most-turns most
+  turns-le most m s h = omega (arith, silents-le (h .sound), mul-le-mul-right {m = s .steps} {n = most} (suc most-silents) (omega arith), suc-mul most (suc most-silents), h .limit)
 
-  unfoldable pub drive : ℕ → Machine Value → State → Path
+-- ---- the whole path
+
+module _ (solver : Solver) (job : Window) (c : Code) where
+  -- the route that the machine goes, in at most n turns
+  unfoldable pub drive : ℕ → Machine Value → State → Route
   drive zero m s = ending []
-  drive (suc n) m s = rest (turn m s) (drive n)
+  drive (suc n) m s = moving (turn solver job c m s .move) (elim (turn solver job c m s .went) [ on m₂ s₂ ↦ drive n m₂ s₂ | ended e s₂ ↦ record { moves = last e s₂; choices = s₂ .chosen } ])
 
-  drive-ok : (most n : ℕ) (r : Path) (m : Machine Value) (s : State) → Still r m s → Kept most m s → ahead m s < n → drive n m s ≡ r
+  drive-ok : (most n : ℕ) (r : Route) (m : Machine Value) (s : State) → Goes solver job c r m s → Kept c most m s → turns-left c m s < n → drive n m s ≡ r
   unfolding drive
   drive-ok most zero r m s h k l = absurd (omega arith)
-  drive-ok most (suc n) r m s h k l = on (drive-ok most n r) (turn m s) (turn-stays r m s h) (turn-nears most m s k)
+  drive-ok most (suc n) r m s h k l =
+      let x = turn-keeps solver job c r m s h in
+      ap (moving (turn solver job c m s .move)) (by (drive-ok most n) (x .rest) (turn solver job c m s .went) (x .goes) (turn-nears c solver job most m s k)) ∙ x .first
     where
-      on : ((m : Machine Value) (s : State) → Still r m s → Kept most m s → ahead m s < n → drive n m s ≡ r) → (o : Out (Machine Value)) → Stays r o → Nears most (ahead m s) o → rest o (drive n) ≡ r
-      on g (go m₂ s₂) a b = g m₂ s₂ a (b .kept) (lt-of-lt-of-le (b .nearer) (le-of-suc-le-suc l))
-      on g (stop q) a b = a
+      by : ((r : Route) (m : Machine Value) (s : State) → Goes solver job c r m s → Kept c most m s → turns-left c m s < n → drive n m s ≡ r) → (r : Route) (w : Went) → GoesOn solver job c r w → Nears c most (turns-left c m s) w
+          → elim w as (λ w. Route) [ on m₂ s₂ ↦ drive n m₂ s₂ | ended e s₂ ↦ record { moves = last e s₂; choices = s₂ .chosen } ] ≡ r
+      by g r (on m₂ s₂) a b = g r m₂ s₂ a (b .kept) (lt-of-lt-of-le (b .nearer) (le-of-suc-le-suc l))
+      by g r (ended e s₂) a b = a
 
-  unfoldable pub driven : ℕ → List Bool → Path
-  driven most forced = drive (suc (ahead (start known work c) (begins most forced))) (start known work c) (begins most forced)
+  pub driven-ok : (most : ℕ) (p : Program) → Placed c p → (forced : List Bool) (n : ℕ) → most-turns c most ≤ n
+      → drive n (start known work c) (begins most forced) ≡ route solver job (does known work most p) most 8 [] [] forced
+  driven-ok most p h forced n l = drive-ok most n _ _ _ (goes-start solver job c most p h forced) (kept-start c most forced) (lt-of-lt-of-le (turns-le c most _ _ (kept-start c most forced)) l)
 
-  pub driven-ok : (most : ℕ) (p : Program) → Placed c p → (forced : List Bool) → driven most forced ≡ path job (does known work most p) most 8 [] [] forced
-  unfolding driven
-  driven-ok most p h forced = drive-ok most _ _ _ _ (still-start most p h forced) (kept-start most forced) (le-refl _)
-
--- a path that the machine runs from the start of main with forced outcomes is that path of the search
-pub replay-ok : (job : Window) (most : ℕ) (p : Program) (forced : List Bool) → Has (paths job (within most 8 (does known work most p)) [] []) forced
-    → driven job (codeOf p) most forced ≡ record { moves = replayed (paths job (within most 8 (does known work most p)) [] []) forced; choices = chosenIn (paths job (within most 8 (does known work most p)) [] []) forced }
-replay-ok job most p forced h = driven-ok job (codeOf p) most p (placed p) forced ∙ path-of job (does known work most p) most 8 [] [] forced h
+-- the path that the machine goes from the start of main with forced outcomes is that path of the search
+pub replay-ok : (solver : Solver) (job : Window) (most : ℕ) (p : Program) (forced : List Bool) → Has (paths solver job (within most 8 (does known work most p)) [] []) forced → (n : ℕ) → most-turns (codeOf p) most ≤ n
+    → drive solver job (codeOf p) n (start known work (codeOf p)) (begins most forced) ≡ of (paths solver job (within most 8 (does known work most p)) [] []) forced
+replay-ok solver job most p forced h n l = driven-ok solver job (codeOf p) most p (placed p) forced n l ∙ route-of solver job (does known work most p) most 8 [] [] forced h

@@ -1,10 +1,15 @@
--- Theorems: the machine does what the rules say, and its path is the search's.
+-- Theorems: the machine does what the rules say, its path is the search's, and the search that it makes gives the answer of the definitions.
 pub mod Replay
-pub mod Path
-pub mod State
+pub mod Route
 pub mod Placed
 pub mod Simulate
 pub mod Bounds
 pub mod Drive
+pub mod Spending
+pub mod Listing
+pub mod Back
+pub mod Nodes
+pub mod Odometer
+pub mod Space
 pub mod Inside
-pub mod Flat
+pub mod Words

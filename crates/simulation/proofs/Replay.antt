@@ -5,6 +5,7 @@ use mathlib.Core.Bool.{Bool, true, false}
 use mathlib.Core.Option.{Option, none, some}
 use mathlib.Core.List.{List, [], _∷_, _++_, append-assoc, append-nil}
 use Rattle.semantics.specs.Search.{Move, plain, stepped, back, Paths, leaf, onward, fork, moves}
+use Rattle.simulation.specs.Lister.{following, next}
 
 -- the tree has these choices
 unfoldable pub Has : Paths → List Bool → Type 0
@@ -53,16 +54,6 @@ chosen (leaf ms) (o ∷ p) = []
 chosen (onward t) (o ∷ p) = chosen t (o ∷ p)
 chosen (fork a b) (true ∷ p) = true ∷ chosen a p
 chosen (fork a b) (false ∷ p) = false ∷ chosen b p
-
--- where the search goes on: the newest choice that is true is taken back and goes false
-abbrev pub following : Bool → Option (List Bool) → Option (List Bool)
-following o (some q) = some (o ∷ q)
-following true none = some (false ∷ [])
-following false none = none
-
-unfoldable pub next : List Bool → Option (List Bool)
-next [] = none
-next (o ∷ p) = following o (next p)
 
 after-step : (t : Paths) (p : List Bool) → after (onward t) p ≡ after t p
 unfolding after

@@ -7,29 +7,42 @@ use lib.IntN.{ℤ}
 use Rattle.semantics.specs.Int.{Op, Cmp}
 use Rattle.semantics.specs.Program.{Address, Expr, Exprs, Cond, Stmt, Stmts, Program}
 
--- An operand that is no work: its value is read where it is used.
+-- An operand that takes no work, a number or a variable: it is read where it is used.
 pub data Leaf : Type 0 where
   number : ℤ → Leaf
   name : Address → Leaf
 
 pub data Act : Type 0 where
-  -- the right operand ends just before this entry, and so many entries long is its code; the left operand ends before that
+  -- an operation on two operands: the right one's code ends just before this entry and is so many entries long, and the left one's ends before that
   operate : Op → ℕ → Act
+  -- a comparison of two operands, which lie as for an operation; its outcome is the flag
   compare : Cmp → ℕ → Act
-  -- a function and the count of its arguments, the last of which ends just before this entry
+  -- a call of a function, by its number, with so many arguments, the last of which ends just before this entry
   call : ℕ → ℕ → Act
+  -- the flag is set to this
   constant : Bool → Act
-  -- over so many entries if the flag is as said; over so many entries in any case; back by so many entries, which is a step
+  -- forward over so many entries, if the flag is as said
   jump : Bool → ℕ → Act
-  skip again : ℕ → Act
-  -- a statement begun
+  -- forward over so many entries
+  skip : ℕ → Act
+  -- back by so many entries, to a while's condition, which is a step
+  again : ℕ → Act
+  -- a statement begun, which is a step
   begin : Act
-  clear ask store : Address → Act
-  return fail : Act
+  -- a variable declared: begun, and set to 0
+  clear : Address → Act
+  -- a variable declared free: begun, and set to a new unknown
+  ask : Address → Act
+  -- the operand that ends just before this entry goes into a variable
+  store : Address → Act
+  -- the operand that ends just before this entry is returned
+  return : Act
+  -- the run fails
+  fail : Act
 
 pub data Entry : Type 0 where
   leaf : Leaf → Entry
-  -- the end of an argument: so many entries long is its code
+  -- the end of an argument, whose code is so many entries long
   argument : ℕ → Entry
   act : Act → Entry
 
@@ -38,6 +51,9 @@ pub record Code : Type 0 where
   pub entries : List Entry
   pub starts : List ℕ
 
+-- ---- the code of each part of a program
+
+-- n and the count of the arguments
 unfoldable pub count : Exprs → ℕ → ℕ
 count Exprs.none n = n
 count (Exprs.more e es) n = count es (suc n)
@@ -76,10 +92,11 @@ unfoldable mutual
   codeSs Stmts.end = []
   codeSs (Stmts.next s ss) = codeS s ++ codeSs ss
 
--- a body that reaches its end fails
+-- a body, after which the run fails: no body of an accepted text reaches its end
 unfoldable pub codeB : Stmts → List Entry
 codeB ss = codeSs ss ++ act fail ∷ []
 
+-- the bodies one after another, and where each begins, the first one at i
 unfoldable pub entriesOf : List Stmts → List Entry
 entriesOf [] = []
 entriesOf (b ∷ bs) = codeB b ++ entriesOf bs
@@ -88,6 +105,6 @@ unfoldable pub startsOf : ℕ → List Stmts → List ℕ
 startsOf i [] = []
 startsOf i (b ∷ bs) = i ∷ startsOf (i + length (codeB b)) bs
 
--- first comes the call of main, whose value is returned, and the body of what is no function
+-- First comes the call of main, whose value is returned; then, at 2, where a call of what is no function would go.
 unfoldable pub codeOf : Program → Code
 codeOf p = record { entries = act (call (p .main) 0) ∷ act return ∷ act fail ∷ entriesOf (p .bodies); starts = startsOf 3 (p .bodies) }

@@ -9,24 +9,28 @@ use Rattle.semantics.specs.Int.{Op, Cmp}
 use Rattle.semantics.specs.Does.{fetch, store, frame}
 use Rattle.simulation.specs.Code.{number, name, Act, Entry, leaf, argument, act, Code}
 
--- where a caller goes on, with its temporaries and its frame
+-- a call that waits: where it goes on, with its temporaries and its variables
 pub record Caller (X : Type 0) : Type 0 where
   pub pc : ℕ
   pub temps : List X
   pub frame : List X
 
+-- The machine's state, over any kind X of values.
 pub record Machine (X : Type 0) : Type 0 where
+  -- the entry to be worked next
   pub pc : ℕ
   -- the outcome of the last comparison or constant
   pub flag : Bool
-  -- the newest first
+  -- the temporaries of the function that runs: results of operations and calls that are still to be used, the newest first
   pub temps : List X
+  -- its variables
   pub frame : List X
+  -- the calls that wait for it, the newest first
   pub callers : List (Caller X)
-  -- the calls that may still nest
+  -- how many calls may still nest
   pub left : ℕ
 
--- what one entry does; a test is a step and then the comparison
+-- What working one entry does: the machine goes on without a step, or after one; it asks for the value of a free declaration (a step); it asks for the outcome of a comparison (a step, then the comparison); or the run has ended.
 pub data Doing (X : Type 0) : Type 0 where
   silent step : Machine X → Doing X
   free : (X → Machine X) → Doing X
@@ -34,16 +38,18 @@ pub data Doing (X : Type 0) : Type 0 where
   returned : X → Doing X
   failed cut : Doing X
 
--- an operand taken, two operands taken, or the arguments of a call, and the temporaries that are left
+-- an operand, and the temporaries that are left
 pub record Taken (X : Type 0) : Type 0 where
   pub value : X
   pub rest : List X
 
+-- two operands, and the temporaries that are left
 pub record Two (X : Type 0) : Type 0 where
   pub first : X
   pub second : X
   pub rest : List X
 
+-- the arguments of a call, and the temporaries that are left
 pub record Gathered (X : Type 0) : Type 0 where
   pub values : List X
   pub rest : List X
@@ -52,16 +58,18 @@ module _ {X : Type 0} where
   abbrev pub machine : ℕ → Bool → List X → List X → List (Caller X) → ℕ → Machine X
   machine i b ts f cs d = record { pc = i; flag = b; temps = ts; frame = f; callers = cs; left = d }
 
--- how far apart the ends of two arguments are
+-- how many entries the argument has that ends here
 abbrev pub extent : Entry → ℕ
 extent (leaf l) = 0
 extent (argument d) = d
 extent (act a) = 0
 
+-- the entry before
 abbrev pub before : ℕ → ℕ
 before zero = zero
 before (suc j) = j
 
+-- where a jump over d entries goes that is made if the flag is as said, from the entry i after it
 abbrev pub landing : Bool → Bool → ℕ → ℕ → ℕ
 landing true true d i = i + d
 landing true false d i = i
@@ -69,13 +77,16 @@ landing false true d i = i
 landing false false d i = i + d
 
 module _ {X : Type 0} (num : ℤ → X) (work : Op → X → X → X) (c : Code) where
+  -- beside the code the run fails
   abbrev pub entryAt : ℕ → Entry
   entryAt i = getD (c .entries) i (act Act.fail)
 
+  -- the newest temporary
   abbrev pub popped : List X → Taken X
   popped [] = record { value = num (pos 0); rest = [] }
   popped (v ∷ ts) = record { value = v; rest = ts }
 
+  -- the operand whose code ends with this entry: a leaf is read, and any other has left its value as the newest temporary
   abbrev pub reading : List X → List X → Entry → Taken X
   reading f ts (leaf (number z)) = record { value = num z; rest = ts }
   reading f ts (leaf (name a)) = record { value = fetch (num (pos 0)) f a; rest = ts }

@@ -1,0 +1,62 @@
+use native.Mathlib.Omega.{arith}
+use borrow.Author.Needs.{needs}
+use Rattle.lexer.proofs.Fronts.{name-piece}
+use Rattle.lexer.proofs.name_at.Statement.{statement}
+use Rattle.lexer.proofs.name_at.Tie as tie
+use Rattle.lexer.proofs.name_at.Reads as reads
+use Rattle.lexer.proofs.name_at.Lts as lts
+use Rattle.lexer.proofs.run_end.Reads as run-end-reads
+use Rattle.lexer.proofs.word_kind.Reads as word-kind-reads
+
+-- src/lib.rt:194:29
+add-run-end : tie.Need-add-run-end
+add-run-end c = search needs
+
+-- src/lib.rt:194:9
+run-end-requires : tie.Need-run-end-requires
+run-end-requires c κs = search needs
+
+-- src/lib.rt:195:16
+sub-size : tie.Need-sub-size
+sub-size c = search needs
+
+-- src/lib.rt:196:26
+sub-word-kind : tie.Need-sub-word-kind
+sub-word-kind c = search needs
+
+-- src/lib.rt:196:26
+part-word-kind-start : tie.Need-part-word-kind-start
+part-word-kind-start c = search needs
+
+-- src/lib.rt:196:26
+part-word-kind-end : tie.Need-part-word-kind-end
+part-word-kind-end c = search needs
+
+-- src/lib.rt:196:9
+word-kind-requires : tie.Need-word-kind-requires
+word-kind-requires c κs = search needs
+
+-- src/lib.rt:200:16
+cast-t10 : tie.Need-cast-t10
+cast-t10 c = search needs
+
+-- src/lib.rt:190:1
+returns : tie.Need-returns
+returns c =
+    let l = c .before .before .before .before .args .text .now in
+    let i = c .before .before .before .before .args .at in
+    name-piece l i (c .before .before .before .before .pre .0) (omega (arith, c .before .before .before .shared-slice-known .given i)) (c .before .before .run-end .result) (c .word-kind .result) (c .before .before .before .before .pre .2) (c .before .before .run-end .ensures .0) (c .word-kind .ensures)
+
+pub name-at-spec : {M : Type 1} → statement M
+name-at-spec =
+    tie.close
+    (tie.spec
+    add-run-end
+    run-end-requires
+    sub-size
+    sub-word-kind
+    part-word-kind-start
+    part-word-kind-end
+    word-kind-requires
+    cast-t10
+    returns)

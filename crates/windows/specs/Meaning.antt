@@ -1,0 +1,54 @@
+-- What the code's types stand for, in the words of `semantics`.
+use Prim.Native.Nat.{ℕ, _<_}
+use mathlib.Core.Path.{_≡_}
+use mathlib.Core.Bool.{Bool, true, false}
+use mathlib.Core.Option.{Option, none, some}
+use mathlib.Core.List.{List, map}
+use lib.ListN.{getD, length}
+use lib.IntN.{ℤ, pos}
+use lib.Signed.{leZ}
+use Rattle.semantics.specs.Int.{Op}
+use Rattle.semantics.specs.Run.{Window}
+use Rattle.semantics.specs.Search.{to, all32, range, Value, known, unknown, open′}
+use Rattle.windows.specs.declared.Window as code
+use Rattle.windows.specs.declared.Decided.{Decided}
+use Rattle.windows.specs.declared.Decided.the-variants.{True, False, Open}
+use Rattle.windows.specs.declared.Side.{Side}
+use Rattle.windows.specs.declared.Side.the-variants.{Free, Other}
+
+abbrev pub ofWindow : code.Window → Window
+ofWindow w = to (w .low) (w .high)
+
+-- there is a number from low to high
+abbrev pub Filled : Window → Type 0
+Filled w = leZ (w .low) (w .high) ≡ true
+
+-- a pair is low and high
+abbrev pub ofPair : List ℤ → Window
+ofPair p = to (getD p 0 (pos 0)) (getD p 1 (pos 0))
+
+-- "The windows of a path are eight pairs, low and high"
+abbrev pub ofPairs : List (List ℤ) → List Window
+ofPairs ps = map ofPair ps
+
+-- "If the two ranges decide a comparison, it is decided."
+abbrev pub ofDecided : Decided → Option Bool
+ofDecided True = some true
+ofDecided False = some false
+ofDecided Open = none
+
+-- the range of a side, in these windows
+abbrev pub rangeOf : List Window → Side → Window
+rangeOf ws (Free i) = getD ws i all32
+rangeOf ws (Other r) = ofWindow r
+
+-- a free variable has its place among the eight
+pub data Placed : Side → Type 0 where
+  free : {i : ℕ} → i < 8 → Placed (Free i)
+  other : {r : code.Window} → Placed (Other r)
+
+-- the value that a side stands for, where these are the windows: "one side is just a free variable"
+pub data Stands (ws : List Window) : Side → Value → Type 0 where
+  free : {i : ℕ} → i < length ws → Stands ws (Free i) (unknown i)
+  number : {r : code.Window} {z : ℤ} → ofWindow r ≡ range ws (known z) → Stands ws (Other r) (known z)
+  operation : {r : code.Window} {o : Op} {a b : Value} → ofWindow r ≡ range ws (open′ o a b) → Stands ws (Other r) (open′ o a b)
