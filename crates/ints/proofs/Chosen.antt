@@ -1,8 +1,8 @@
 -- The numbers of comparisons and operations. A `match` that comes to its last arm: the number is none of those before.
 use mathlib.Core.Path.{_≡_, refl}
 use Prim.Native.Nat.{ℕ, zero, suc}
-use Rattle.semantics.specs.Int.{mul, Cmp, lt, le, gt, ge, eq, ne, numberOf}
-use Rattle.ints.specs.Numbers.{comparison, operation}
+use Rattle.semantics.specs.Int.{mul, Cmp, lt, le, gt, ge, eq, ne}
+use Rattle.ints.specs.Numbers.{numberOf, comparison, operation}
 
 pub last-comparison : (c : ℕ) → (c ≡ 0 → ⊥) → (c ≡ 1 → ⊥) → (c ≡ 2 → ⊥) → (c ≡ 3 → ⊥) → (c ≡ 4 → ⊥) → comparison c ≡ ne
 last-comparison zero f g h j k = absurd (f refl)

@@ -8,15 +8,26 @@ use native.Mathlib.Numerals.{add-one}
 use native.Mathlib.Decide.{decLt}
 use lib.ListN.{length, getD, take, drop, drop-of-length-le}
 use lib.Seq.{drop-cons}
-use lib.Dec.{T, eqb, leb, ltb}
+use lib.Dec.{T, eqb, leb, ltb, eqb→eq}
 use borrow.Author.Tests.{eq-eqb, ne-eqb, eqb-true, leb-true}
 use Rattle.syntax.specs.Token.{kName, kNumber}
-use Rattle.lexer.proofs.Table.{both, both-left, both-right}
 use Rattle.lexer.specs.Lex.{isWord, isDigit, isLetter, isBlank, all, same, kindIn, decimal}
 use Rattle.lexer.specs.Parts.{classOf, atLeast, span, limit, largeAs}
 
+abbrev pub both : Bool → Bool → Bool
+both true b = b
+both false b = false
+
+both-left : (a b : Bool) → T (both a b) → T a
+both-left true b t = tt
+both-left false b t = t
+
+both-right : (a b : Bool) → T (both a b) → T b
+both-right true b t = t
+both-right false b t = absurd t
+
 -- a test that antt computes for each number below n
-abbrev upto : ℕ → (ℕ → Bool) → Bool
+abbrev pub upto : ℕ → (ℕ → Bool) → Bool
 upto zero f = true
 upto (suc n) f = both (f n) (upto n f)
 
@@ -248,3 +259,16 @@ class-four b = go (isDigit b) (isLetter b) (eqb b 95) (isBlank b)
     go false false true w = omega arith
     go false false false true = omega arith
     go false false false false = omega arith
+
+-- the class of the bytes of a range, by one test that antt computes
+pub class-range : (lo n v b : ℕ) → T (upto n (λ k. eqb (classOf (lo + k)) v)) → lo ≤ b → b < lo + n → v ≡ classOf b
+class-range lo n v b t h k =
+    let z : lo + (b - lo) ≡ b = omega arith in
+    sym (subst (λ (x : ℕ). classOf x ≡ v) z (eqb→eq _ _ (upto-at n (λ k. eqb (classOf (lo + k)) v) t (b - lo) (omega arith))))
+
+pub class-low : (b : ℕ) → b < 48 → isBlank b ≡ false → 0 ≡ classOf b
+class-low b h e = go (isBlank b) e (upto-at 48 (λ k. elim (isBlank k) [ true ↦ true | false ↦ eqb (classOf k) 0 ]) tt b h)
+  where
+    go : (t : Bool) → t ≡ false → T (elim t [ true ↦ true | false ↦ eqb (classOf b) 0 ]) → 0 ≡ classOf b
+    go true q r = absurd (subst (λ (x : Bool). T x) q tt)
+    go false q r = sym (eqb→eq _ _ r)

@@ -29,7 +29,7 @@ use Rattle.lexer.proofs.Longest.{
   nothing-longest,
 }
 
-size-value : (l : List ℕ) → eqb (kindOf l) kNumber ≡ false → valueOf l ≡ length l
+pub size-value : (l : List ℕ) → eqb (kindOf l) kNumber ≡ false → valueOf l ≡ length l
 unfolding valueOf
 size-value l e = rw (e, valueOf)
 

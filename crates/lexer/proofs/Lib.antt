@@ -1,6 +1,7 @@
-pub mod Table
 pub mod Bytes
 pub mod Longest
 pub mod Fronts
 pub mod Loop
 pub mod Turns
+pub mod Theorems
+pub mod Examples

@@ -4,3 +4,4 @@ pub mod Spelling
 pub mod Rules
 pub mod Names
 pub mod Resolve
+pub mod Answers

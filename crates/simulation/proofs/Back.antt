@@ -4,15 +4,14 @@ use mathlib.Core.Path.{_≡_, refl, sym, ap, _∙_, subst}
 use mathlib.Core.Bool.{Bool, true, false}
 use mathlib.Core.Option.{Option, none, some}
 use mathlib.Core.List.{List, [], _∷_, _++_, append-assoc, append-nil}
-use lib.ListN.{length}
 use Rattle.semantics.specs.Int.{Cmp}
 use Rattle.semantics.specs.Run.{Window}
-use Rattle.semantics.specs.Search.{Value, known, unknown, work, Solver, Test}
+use Rattle.semantics.specs.Search.{Value, known, work, Solver, Test}
 use Rattle.simulation.specs.Code.{Code}
 use Rattle.simulation.specs.Machine.{Machine, Doing, advance, start}
-use Rattle.simulation.specs.Path.{State, state, begins, outcome, later, holding, End, cut, Went, on, ended, Turn, still, counted, stepped, siding, choosing, comparing, turning, turn}
+use Rattle.simulation.specs.Path.{State, state, begins, outcome, later, holding, End, cut, Went, on, ended, stepped, siding, choosing, comparing, turning, turn}
 use Rattle.simulation.specs.Lister.{following, next}
-use Rattle.simulation.specs.Back.{Standing, standing, Passes, here, turned, Choice, TakenBack}
+use Rattle.simulation.specs.Back.{standing, Passes, here, turned, Choice, TakenBack}
 
 -- ---- the newest true choice
 
@@ -44,6 +43,18 @@ flips (o ∷ p) = by o (next p) (flips p)
     by false none f = f
     by true (some q) f = record { front = true ∷ f .front; rest = f .rest; split = ap (λ l. true ∷ l) (f .split); dropped = f .dropped; flipped = ap (λ l. true ∷ l) (f .flipped) }
     by false (some q) f = record { front = false ∷ f .front; rest = f .rest; split = ap (λ l. false ∷ l) (f .split); dropped = f .dropped; flipped = ap (λ l. false ∷ l) (f .flipped) }
+
+-- and so they are found: from the end, past the false ones, to the newest true one
+pub next-none : (h : List Bool) → AllFalse h → next h ≡ none
+unfolding next
+next-none [] f = refl
+next-none (true ∷ h) f = absurd f
+next-none (false ∷ h) f = ap (following false) (next-none h f)
+
+pub next-newest : (g r : List Bool) → AllFalse r → next (g ++ true ∷ r) ≡ some (g ++ false ∷ [])
+unfolding next
+next-newest [] r f = ap (following true) (next-none r f)
+next-newest (o ∷ g) r f = ap (following o) (next-newest g r f)
 
 -- ---- lists of outcomes
 
@@ -252,6 +263,7 @@ module _ (solver : Solver) (job : Window) (c : Code) where
       made = f .passes;
       choice = f .choice;
       went = f .went;
+      place = ap (λ h. h ++ false ∷ []) (sym (trace-chosen (f .trace) ∙ f .is));
       machine₂ = f .machine;
       state₂ = forcing (false ∷ []) (f .state);
       again = subst (λ h. Passes solver job c (start known work c) (begins most (h ++ false ∷ [])) (f .machine) (forcing (false ∷ []) (f .state))) (f .is) (replay (f .trace) (false ∷ []));

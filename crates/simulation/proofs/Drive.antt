@@ -15,7 +15,7 @@ use Rattle.semantics.specs.Search as search
 use Rattle.semantics.specs.Search.{Value, known, unknown, work, Solver, Test, settings, Move, plain, tried, probed, made, paths}
 use Rattle.simulation.specs.Code.{Code, codeOf}
 use Rattle.simulation.specs.Machine.{Machine, Doing, advance, start}
-use Rattle.simulation.specs.Path.{holding, outcome, later, State, state, begins, End, returned, failed, cut, Went, on, ended, Turn, fresh, counted, still, chose, siding, choosing, stepped, reached, comparing, turning, turn}
+use Rattle.simulation.specs.Path.{holding, outcome, later, State, state, begins, End, returned, failed, cut, Went, on, ended, Turn, fresh, counted, still, siding, choosing, stepped, reached, comparing, turning, turn}
 use Rattle.simulation.proofs.Replay.{Has}
 use Rattle.simulation.proofs.Route.{Route, stepping, taking, ending, sided, route, of, route-of}
 use Rattle.simulation.proofs.Placed.{Placed, placed}

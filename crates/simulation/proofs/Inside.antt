@@ -8,7 +8,7 @@ use lib.IntN.{ℤ}
 use Rattle.semantics.specs.Int.{Op}
 use Rattle.semantics.specs.Program.{Expr, Exprs, Cond, Stmt, Stmts, Program}
 use Rattle.simulation.specs.Code.{Act, Entry, leaf, argument, act, Code, codeE, codeEs, codeC, codeS, codeSs, codeB, entriesOf, startsOf, codeOf}
-use Rattle.simulation.specs.Machine.{Caller, Machine, Doing, Gathered, machine, landing, entryAt, taken, gather, entering, leaving, working, advance}
+use Rattle.simulation.specs.Machine.{Caller, Machine, Doing, Gathered, landing, entryAt, taken, gather, entering, leaving, working, advance}
 
 -- how many entries have to follow this one
 unfoldable pub needs : Entry → ℕ

@@ -10,6 +10,12 @@ pub mod Listing
 pub mod Back
 pub mod Nodes
 pub mod Odometer
-pub mod Space
 pub mod Inside
+pub mod Emitted
+pub mod Size
 pub mod Words
+pub mod Mapped
+pub mod Held
+pub mod Cells
+pub mod Bounded
+pub mod Going

@@ -1,11 +1,10 @@
 -- The table of nodes: what is worked for all nodes in one pass is what the definitions say of the values that they stand for, and a table that grows keeps the values that it has.
 use Prim.Native.Nat.{ℕ, zero, suc, _+_, _<_}
 use mathlib.Core.Path.{_≡_, refl, sym, ap, ap₂, _∙_, subst}
-use mathlib.Core.Bool.{Bool, true, false, _&&_}
+use mathlib.Core.Bool.{_&&_}
 use mathlib.Core.Option.{Option, none, some}
 use mathlib.Core.List.{List, [], _∷_, _++_, map, map-append, append-nil}
 use native.Mathlib.Omega.{arith}
-use native.Mathlib.Nat.{lt-of-lt-of-le}
 use lib.ListN.{getD, length, length-append, List·getD-eq-default, List·getD-append, List·getD-map}
 use lib.Seq.{getD-at}
 use lib.IntN.{ℤ, pos}
@@ -13,8 +12,8 @@ use Rattle.semantics.specs.Int as int
 use Rattle.semantics.specs.Int.{Op, Cmp, holds}
 use Rattle.semantics.specs.Run.{Window}
 use Rattle.semantics.specs.Search as search
-use Rattle.semantics.specs.Search.{Value, known, open′, work, under, range, Test, meets, to, all32, span, fitted, mirrored, clipped, narrowed, byRanges}
-use Rattle.simulation.specs.Nodes.{Cell, Known, Open, Node, unknown, operation, cell, node, pass, values, meaning, ranges, rangeIn, numbers, numberIn, Within, Held, adding, working, Noted, testOf, meetsIn, decidedIn, freeBy, freeIn, clippedBy, narrowedIn}
+use Rattle.semantics.specs.Search.{Value, known, open′, work, under, range, meets, to, all32, span, fitted, mirrored, clipped, narrowed, byRanges}
+use Rattle.simulation.specs.Nodes.{Cell, Known, Open, Node, unknown, operation, cell, node, pass, values, meaning, ranges, rangeIn, numbers, numberIn, Within, working, Noted, testOf, meetsIn, decidedIn, freeBy, freeIn, clippedBy, narrowedIn}
 
 -- ---- a pass
 
@@ -140,6 +139,10 @@ pub numbers-ok : (s : List ℤ) (ns : List Node) → numbers s ns ≡ map (under
 unfolding numbers values
 numbers-ok s ns = sym (pass-map _ _ _ (under s) (under-num s) (under-free s) (under-op s) [] ns)
 
+pub numbers-last : (s : List ℤ) (ns : List Node) (n : Node) → numbers s (ns ++ n ∷ []) ≡ numbers s ns ++ node (λ z. z) (λ i. getD s i (pos 0)) int.arith (numbers s ns) n ∷ []
+unfolding numbers
+numbers-last s ns n = pass-last _ _ _ ns n
+
 number-in : (s zs : List ℤ) (vs : List Value) (v : Cell) → zs ≡ map (under s) vs → numberIn zs v ≡ under s (cell known search.unknown open′ vs v)
 number-in s zs vs (Known z) e = sym (under-num s z)
 number-in s zs vs (Open j) e = ap (λ l. getD l j (pos 0)) e ∙ ap (λ d. getD (map (under s) vs) j d) (sym (under-num s (pos 0))) ∙ List·getD-map (under s) vs j (known (pos 0))
@@ -251,8 +254,8 @@ clipped-ok c r ws ns (Known z) = refl
 clipped-ok c r ws ns (Open j) = sym (free-there c r ws ns j _
     (subst (λ k. clippedAt c r ws (getD (map some ns) j none) (getD (values ns) k (known (pos 0)))) (omega arith) (pass-at known search.unknown open′ (clippedAt c r ws) (known (pos 0)) (free-by c r ws) refl [] ns j)))
 
-pub narrowed-ok : (ws : List Window) (ns : List Node) (c : Cmp) (a b : Cell) → some (narrowedIn ns (ranges ws ns) c a b ws) ≡ byRanges .narrow c (meaning ns a) (meaning ns b) ws
+pub narrowed-ok : (ws : List Window) (ns : List Node) (c : Cmp) (a b : Cell) → narrowedIn ns (ranges ws ns) c a b ws ≡ narrowed c (meaning ns a) (meaning ns b) ws
 unfolding narrowedIn narrowed
 narrowed-ok ws ns c a b =
-    ap some (ap₂ (λ r us. clippedBy (mirrored c) (freeIn ns b) r us) (range-ok ws ns a) (ap (λ r. clippedBy c (freeIn ns a) r ws) (range-ok ws ns b) ∙ clipped-ok c (range ws (meaning ns b)) ws ns a)
-    ∙ clipped-ok (mirrored c) (range ws (meaning ns a)) (clipped c (meaning ns a) (range ws (meaning ns b)) ws) ns b)
+    ap₂ (λ r us. clippedBy (mirrored c) (freeIn ns b) r us) (range-ok ws ns a) (ap (λ r. clippedBy c (freeIn ns a) r ws) (range-ok ws ns b) ∙ clipped-ok c (range ws (meaning ns b)) ws ns a)
+    ∙ clipped-ok (mirrored c) (range ws (meaning ns a)) (clipped c (meaning ns a) (range ws (meaning ns b)) ws) ns b

@@ -1,10 +1,11 @@
 -- The odometer goes through all settings in their order.
-use Prim.Native.Nat.{ℕ, zero, suc, _+_, _-_, _≤_, _<_}
-use mathlib.Core.Path.{_≡_, refl, sym, ap, _∙_, subst}
+use Prim.Native.Nat.{ℕ, suc, _+_, _-_}
+use mathlib.Core.Path.{_≡_, refl, ap, _∙_}
 use mathlib.Core.Bool.{Bool, true, false, not, _&&_}
 use mathlib.Core.Option.{Option, none, some}
-use mathlib.Core.List.{List, [], _∷_, _++_, map, append-assoc, append-nil}
+use mathlib.Core.List.{List, [], _∷_, _++_, map}
 use native.Mathlib.Omega.{arith}
+use lib.ListN.{length}
 use lib.IntN.{ℤ, pos, negsuc, sucℤ, _-ℤ_}
 use lib.Dec.{T}
 use lib.Signed.{ltZ, leZ}
@@ -162,3 +163,36 @@ lies-after [] [] h = tt
 lies-after [] (v ∷ s) h = absurd h
 lies-after (w ∷ ws) [] h = absurd h
 lies-after (w ∷ ws) (v ∷ s) h = lies-at w ws v (after ws s) (ltZ v (w .high)) (lies-filled ws s (h .2)) (h .0) (h .1) (ltZ→ v (w .high)) (lies-after ws s (h .2))
+
+-- ---- the next setting, found from the end
+
+-- each value is at its window's high end
+abbrev pub AtHigh : List Window → List ℤ → Type 0
+AtHigh [] [] = Unit {0}
+AtHigh [] (v ∷ s) = ⊥
+AtHigh (w ∷ ws) [] = ⊥
+AtHigh (w ∷ ws) (v ∷ s) = T (not (ltZ v (w .high))) × AtHigh ws s
+
+carried-false : (o : Bool) (ws : List Window) (v : ℤ) → T (not o) → carried o ws v none ≡ none
+carried-false true ws v t = absurd t
+carried-false false ws v t = refl
+
+carried-true : (o : Bool) (ws : List Window) (v : ℤ) → T o → carried o ws v none ≡ some (sucℤ v ∷ lowest ws)
+carried-true true ws v t = refl
+carried-true false ws v t = absurd t
+
+-- where all are, this was the last setting
+pub after-last : (ws : List Window) (s : List ℤ) → AtHigh ws s → after ws s ≡ none
+unfolding after
+after-last [] s h = refl
+after-last (w ∷ ws) [] h = refl
+after-last (w ∷ ws) (v ∷ s) h = ap (carried (ltZ v (w .high)) ws v) (after-last ws s (h .1)) ∙ carried-false (ltZ v (w .high)) ws v (h .0)
+
+-- otherwise the last value that is not goes up by one, and those behind it start anew
+pub after-up : (us : List Window) (r : List ℤ) → length us ≡ length r → (w : Window) (ws : List Window) (v : ℤ) (s : List ℤ) → T (ltZ v (w .high)) → AtHigh ws s
+    → after (us ++ w ∷ ws) (r ++ v ∷ s) ≡ some (r ++ sucℤ v ∷ lowest ws)
+unfolding after
+after-up [] [] e w ws v s l h = ap (carried (ltZ v (w .high)) ws v) (after-last ws s h) ∙ carried-true (ltZ v (w .high)) ws v l
+after-up [] (x ∷ r) e w ws v s l h = absurd (omega arith)
+after-up (u ∷ us) [] e w ws v s l h = absurd (omega arith)
+after-up (u ∷ us) (x ∷ r) e w ws v s l h = ap (carried (ltZ x (u .high)) (us ++ w ∷ ws) x) (after-up us r (omega arith) w ws v s l h)

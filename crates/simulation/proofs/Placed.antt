@@ -11,7 +11,7 @@ use Rattle.semantics.specs.Int.{Op, Cmp}
 use Rattle.semantics.specs.Program.{Address, Expr, Exprs, Cond, Stmt, Stmts, Program}
 use Rattle.simulation.specs.Code.{Leaf, Act, Entry, leaf, argument, act, Code, count, codeE, codeEs, codeC, codeS, codeSs, codeB, entriesOf, startsOf, codeOf}
 
-abbrev at : List Entry → ℕ → Entry
+abbrev pub at : List Entry → ℕ → Entry
 at l i = getD l i (act Act.fail)
 
 module _ (l : List Entry) where

@@ -97,5 +97,5 @@ module _ (solver : Solver) (job : Window) where
       (λ o. side (solver .narrow (holding o c) a b ws) (λ us. paths solver job (within l f (k o)) us (made (holding o c) a b ∷ ts)))
       (λ o. route-of (k o) l f ws ts p)
       (λ o q. of-side (solver .narrow (holding o c) a b ws) q (λ us. route solver job (k o) l f us (made (holding o c) a b ∷ ts) q) (λ us. paths solver job (within l f (k o)) us (made (holding o c) a b ∷ ts))
-          (λ us. route-of (k o) l f us (made (holding o c) a b ∷ ts) q))
+      (λ us. route-of (k o) l f us (made (holding o c) a b ∷ ts) q))
       h

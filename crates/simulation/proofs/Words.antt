@@ -11,7 +11,7 @@ use Rattle.semantics.specs.Int.{add, sub, mul, lt, le, gt, ge, eq, ne}
 use Rattle.semantics.specs.Program.{slot, Expr, Exprs, Cond, Stmt, Stmts, Program}
 use Rattle.semantics.specs.Does.{frame}
 use Rattle.simulation.specs.Code.{number, name, operate, compare, call, constant, jump, skip, again, begin, clear, ask, store, return, fail, Entry, leaf, argument, act, Code, codeE, codeEs, codeC, codeS, codeSs, codeB, entriesOf, startsOf, codeOf}
-use Rattle.simulation.specs.Words.{entryOf, entriesIn, codeIn, kindOf, wordOf, wordsOf, wordsIn, Plain, Small, FitsE, FitsEs, FitsC, FitsS, FitsSs, FitsBs, Fits}
+use Rattle.simulation.specs.Words.{entryOf, entriesIn, codeIn, kindOf, wordOf, wordsOf, wordsIn, Plain, FitsE, FitsEs, FitsC, FitsS, FitsSs, FitsBs, Fits}
 use Rattle.simulation.proofs.Placed.{Placed, InB, placed}
 use Rattle.simulation.proofs.Inside.{Closed, closed}
 
@@ -73,7 +73,7 @@ words-at [] h ws before rest i e n = refl
 words-at (x ∷ xs) h ws before rest i e n =
     ap₂ (λ y ys. y ∷ ys)
     (ap₂ entryOf (ap (λ l. getD l i 0) e ∙ getD-at before (kindOf x) (wordOf x ∷ (wordsOf xs ++ rest)) 0 i n)
-        (ap (λ l. getD l (suc i) 0) (e ∙ sym (append-assoc before (kindOf x ∷ []) (wordOf x ∷ (wordsOf xs ++ rest)))) ∙ getD-at (before ++ kindOf x ∷ []) (wordOf x) (wordsOf xs ++ rest) 0 (suc i) (omega (arith, length-append before (kindOf x ∷ []))))
+    (ap (λ l. getD l (suc i) 0) (e ∙ sym (append-assoc before (kindOf x ∷ []) (wordOf x ∷ (wordsOf xs ++ rest)))) ∙ getD-at (before ++ kindOf x ∷ []) (wordOf x) (wordsOf xs ++ rest) 0 (suc i) (omega (arith, length-append before (kindOf x ∷ []))))
     ∙ read-back x (h .0))
     (words-at xs (h .1) ws (before ++ kindOf x ∷ wordOf x ∷ []) rest (suc (suc i)) (e ∙ sym (append-assoc before (kindOf x ∷ wordOf x ∷ []) (wordsOf xs ++ rest))) (omega (arith, length-append before (kindOf x ∷ wordOf x ∷ []))))
 

@@ -3,12 +3,12 @@ use Prim.Native.Nat.{ℕ, suc}
 use mathlib.Core.Path.{_≡_}
 use mathlib.Core.Bool.{Bool, true, false}
 use mathlib.Core.Option.{none}
-use mathlib.Core.List.{List, [], _∷_, map}
+use mathlib.Core.List.{List, [], _∷_, _++_, map}
 use Rattle.semantics.specs.Int.{Cmp}
 use Rattle.semantics.specs.Run.{Window}
 use Rattle.semantics.specs.Search.{Value, known, work, Solver, Test}
 use Rattle.simulation.specs.Code.{Code}
-use Rattle.simulation.specs.Machine.{Caller, Machine, Doing, advance, start}
+use Rattle.simulation.specs.Machine.{Machine, Doing, advance, start}
 use Rattle.simulation.specs.Path.{State, begins, outcome, on, turn}
 
 -- what stands at a point of a path
@@ -60,6 +60,8 @@ module _ (solver : Solver) (job : Window) (c : Code) where
     pub made : Passes (start known work c) (begins most p) machine state
     pub choice : Choice machine state
     pub went : outcome (state .forced) ≡ true
+    -- the outcomes before it stay, and it goes false
+    pub place : q ≡ state .chosen ++ false ∷ []
     pub machine₂ : Machine Value
     pub state₂ : State
     pub again : Passes (start known work c) (begins most q) machine₂ state₂

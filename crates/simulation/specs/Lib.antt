@@ -7,3 +7,4 @@ pub mod Back
 pub mod Nodes
 pub mod Odometer
 pub mod Words
+pub mod Cells

@@ -8,7 +8,7 @@ use Rattle.semantics.specs.Run.{Window, Row}
 use Rattle.semantics.specs.Search.{Value, known, work, under, Solver, Test, meets, settings, Close, whole, cuts, full, spent, Answer}
 use Rattle.simulation.specs.Code.{Code}
 use Rattle.simulation.specs.Machine.{Machine, start}
-use Rattle.simulation.specs.Path.{State, begins, End, returned, failed, cut, Went, on, ended, turn}
+use Rattle.simulation.specs.Path.{State, begins, End, returned, failed, cut, on, ended, turn}
 
 -- what has been counted so far
 pub record Tally : Type 0 where
@@ -45,15 +45,16 @@ abbrev pub closing : Bool → Close
 closing true = cuts
 closing false = whole
 
--- a move: one more is made, or the budget is spent
+-- "A move is one step, one setting tried, or one choice taken back": one more is made, or the budget is spent
 unfoldable pub charge : Tally → Next Tally
 charge t = elim (t .budget) [ zero ↦ over (closed spent t) | suc n ↦ go (tally n (t .skip) (t .room) (t .rows) (suc (t .moves)) (t .cut)) ]
 
+-- a turn, if it is a move
 abbrev pub charged : Bool → Tally → Next Tally
 charged false t = go t
 charged true t = charge t
 
--- a row found: it is skipped, has no place, or is written
+-- A row found: it is skipped, or written, or "a row past the skipped ones was found and has no place; it is not written".
 unfoldable pub place : Row → Tally → Next Tally
 place r t = elim (t .skip) [
   | suc k ↦ go (tally (t .budget) k (t .room) (t .rows) (t .moves) (t .cut))
@@ -62,7 +63,7 @@ place r t = elim (t .skip) [
 
 -- ---- a path's end
 
--- a setting tried at a return: it is a row if it meets the tests made
+-- a setting tried at a return: "one that meets every test made is a row"
 unfoldable pub trial : Value → List Test → List ℤ → Tally → Next Tally
 trial v ts s t = then (charge t) λ u. elim (meets ts s) [ true ↦ place (record { result = under s v; values = s }) u | false ↦ go u ]
 
@@ -70,11 +71,11 @@ unfoldable pub trials : Value → List Test → List (List ℤ) → Tally → Ne
 trials v ts [] t = go t
 trials v ts (s ∷ ss) t = then (trial v ts s t) (trials v ts ss)
 
--- a setting tried at a cut: a cut run is found if it meets the tests made
+-- a setting tried at a cut, which finds a cut run or not
 unfoldable pub probe : List Test → List ℤ → Tally → Next Tally
 probe ts s t = then (charge t) λ u. go (tally (u .budget) (u .skip) (u .room) (u .rows) (u .moves) (meets ts s))
 
--- until one does; none, once a cut run was found
+-- "At a cut, settings are tried until one meets the tests; once a cut run is found, later cut paths try none."
 unfoldable pub probes : List Test → List (List ℤ) → Tally → Next Tally
 probes ts [] t = go t
 probes ts (s ∷ ss) t = elim (t .cut) [ true ↦ go t | false ↦ then (probe ts s t) (probes ts ss) ]
@@ -86,7 +87,7 @@ finish cut s t = probes (s .tests) (settings (s .windows)) t
 
 -- ---- the next path
 
--- The newest choice goes false; those already false are dropped first. Where no choice is left, there is none.
+-- "Then the newest choice is taken back and goes false; one already false is dropped first, which is no move." Where no choice is left, there is no next path.
 abbrev pub following : Bool → Option (List Bool) → Option (List Bool)
 following o (some q) = some (o ∷ q)
 following true none = some (false ∷ [])
@@ -101,20 +102,20 @@ pub record Start : Type 0 where
   pub forced : List Bool
   pub tally : Tally
 
--- a choice taken back is a move; with no choice left the search has ended
+-- a choice taken back, which is a move; "With no choice left the search has ended"
 unfoldable pub back : List Bool → Tally → Next Start
 back h t = elim (next h) [ none ↦ over (closed (closing (t .cut)) t) | some q ↦ then (charge t) λ u. go (record { forced = q; tally = u }) ]
 
 -- ---- the search
 
 module _ (solver : Solver) (job : Window) (c : Code) (most : ℕ) where
-  -- One path, from a machine and a state on, and what is done after it; n bounds its turns.
+  -- One path, from a machine and a state on, and what is done after it; n bounds its turns, and they end before it does.
   unfoldable pub path : ℕ → Machine Value → State → Tally → Next Start
   path zero m s t = over (closed spent t)
   path (suc n) m s t = then (charged (turn solver job c m s .move) t) λ u.
       elim (turn solver job c m s .went) [ on m₂ s₂ ↦ path n m₂ s₂ u | ended e s₂ ↦ then (finish e s₂ u) (back (s₂ .chosen)) ]
 
-  -- path after path; k bounds their number, and n the turns of each
+  -- path after path; k bounds their number, and the budget ends before it does; n bounds the turns of each
   unfoldable pub searching : ℕ → ℕ → Start → Answer
   searching zero n b = closed spent (b .tally)
   searching (suc k) n b = elim (path n (start known work c) (begins most (b .forced)) (b .tally)) [ go b₂ ↦ searching k n b₂ | over a ↦ a ]

@@ -1,7 +1,6 @@
 -- What narrowing keeps, by the cases that the code tells apart, and what fits 32 bits there.
-use Prim.Native.Nat.{ℕ, _≤_, _<_, _+_, _^_}
 use mathlib.Core.Path.{_≡_, refl, sym, ap, ap₂, _∙_, subst}
-use mathlib.Core.Bool.{Bool, true, false, not, cond}
+use mathlib.Core.Bool.{true, false}
 use mathlib.Core.Option.{none}
 use native.Mathlib.Omega.{arith}
 use lib.IntN.{ℤ, pos, sucℤ, predℤ, _+ℤ_, _-ℤ_, +ℤ-one, -ℤ-one}
@@ -9,10 +8,10 @@ use lib.Signed.{ltZ, leZ}
 use lib.Dec.{T, not-T}
 use mir.Syntax.{w32}
 use mir.Val.{SFits}
-use Rattle.semantics.specs.Int.{Cmp, lt, le, gt, ge, eq, ne, eqZ}
+use Rattle.semantics.specs.Int.{lt, le, gt, ge, eq, ne, eqZ}
 use Rattle.semantics.specs.Run.{Window}
 use Rattle.semantics.specs.Search.{to, minZ, maxZ, decided, clip}
-use Rattle.semantics.proofs.Order.{up, down, _≼_, _≺_, cond-cases, leZ→, →leZ, ltZ→, nltZ→, nleZ→, antisym, eqZ→, eqZ-refl, neqZ→, of-suc, of-pred}
+use Rattle.semantics.proofs.Order.{_≼_, _≺_, cond-cases, leZ→, →leZ, ltZ→, nltZ→, nleZ→, antisym, eqZ→, eqZ-refl, of-suc, of-pred}
 use Rattle.ints.proofs.Fits.{within, fits}
 use Rattle.windows.proofs.Undecided.{yes, no, false-of, true-of, around}
 

@@ -1,7 +1,7 @@
 -- The two sides of a comparison: which of them narrows a window. Where the ranges do not decide, at most one does.
-use Prim.Native.Nat.{ℕ, _≤_, _<_, min}
+use Prim.Native.Nat.{ℕ, _≤_, _<_}
 use mathlib.Core.Path.{_≡_, refl, sym, ap, ap₂, _∙_, subst}
-use mathlib.Core.Bool.{Bool, true, false}
+use mathlib.Core.Bool.{Bool, true, false, cond}
 use mathlib.Core.Option.{none}
 use mathlib.Core.List.{List}
 use native.Mathlib.Omega.{arith}
@@ -16,12 +16,14 @@ use Rattle.semantics.proofs.Order.{_≺_, eqZ→}
 use Rattle.windows.specs.declared.Window as code
 use Rattle.windows.specs.declared.Side.{Side}
 use Rattle.windows.specs.declared.Side.the-variants.{Free, Other}
-use Rattle.windows.specs.Meaning.{ofWindow, rangeOf, Placed, Stands}
+use Rattle.windows.specs.Meaning.{rangeOf, variableOf, narrowedBy, Placed, Stands}
 use Rattle.windows.proofs.Undecided.{false-of, around, decided-mirrored}
 use Rattle.windows.proofs.Narrow.{same}
 
 pub placed : {i : ℕ} → Placed (Free i) → i < 8
 placed (Placed.free h) = h
+
+-- ---- sides that stand for values. The first n windows are those of a path with n free variables
 
 -- the range of a value is that of the side that stands for it
 pub stands-range : (ws : List Window) (n : ℕ) {s : Side} {x : Value} → Stands (take n ws) s x → range (take n ws) x ≡ rangeOf ws s
@@ -30,23 +32,38 @@ stands-range ws n (Stands.free {i} h) = getD-take n ws i all32 (omega (arith, le
 stands-range ws n (Stands.number e) = sym e
 stands-range ws n (Stands.operation e) = sym e
 
+-- and the side narrows what the value does
+stands-clipped : {us : List Window} (c : Cmp) (r : Window) (ws : List Window) (n : ℕ) {s : Side} {x : Value} → length us ≤ n → Stands us s x → take n (clipped c (variableOf s) r ws) ≡ clipped c x r (take n ws)
+unfolding clipped
+stands-clipped c r ws n l (Stands.free {i} h) = go (eqZ (r .low) (r .high))
+  where
+    go : (b : Bool) → take n (cond b (set ws i (clip c (r .low) (getD ws i all32))) ws) ≡ cond b (set (take n ws) i (clip c (r .low) (getD (take n ws) i all32))) (take n ws)
+    go true = take-set-lt n ws i (clip c (r .low) (getD ws i all32)) (omega arith) ∙ rw (getD-take n ws i all32 (omega arith))
+    go false = refl
+stands-clipped c r ws n l (Stands.number e) = refl
+stands-clipped c r ws n l (Stands.operation e) = refl
+
+-- narrowing by sides is narrowing by the values that they stand for
+pub narrowed-by : (c : Cmp) (ws : List Window) (n : ℕ) {a b : Side} {x y : Value} → Stands (take n ws) a x → Stands (take n ws) b y → take n (narrowedBy c a b ws) ≡ narrowed c x y (take n ws)
+unfolding narrowed
+narrowed-by c ws n {a} {b} {x} {y} p q =
+    let l : length (take n ws) ≤ n = omega (arith, length-take n ws) in
+    stands-clipped (mirrored c) (rangeOf ws a) (clipped c (variableOf a) (rangeOf ws b) ws) n l q
+    ∙ ap (clipped (mirrored c) y (rangeOf ws a)) (stands-clipped c (rangeOf ws b) ws n l p)
+    ∙ ap₂ (λ (r s : Window). clipped (mirrored c) y r (clipped c x s (take n ws))) (sym (stands-range ws n p)) (sym (stands-range ws n q))
+
 -- ---- one side
 
-pub side-free : (c : Cmp) (k : ℤ) (ws us : List Window) (i n : ℕ) {x : Value} → us ≡ set ws i (clip c k (getD ws i all32)) → Stands (take n ws) (Free i) x → take n us ≡ clipped c x (to k k) (take n ws)
+pub free-clipped : (c : Cmp) (k : ℤ) (i : ℕ) (ws : List Window) → set ws i (clip c k (getD ws i all32)) ≡ clipped c (unknown i) (to k k) ws
 unfolding clipped
-side-free c k ws us i n e (Stands.free h) =
-    let l : i < n = omega (arith, length-take n ws) in
-    ap (take n) e
-    ∙ take-set-lt n ws i (clip c k (getD ws i all32)) l
-    ∙ rw (same k k refl, getD-take n ws i all32 l)
+free-clipped c k i ws = rw (same k k refl)
 
-pub side-other : (c : Cmp) (k : ℤ) (us : List Window) {r : code.Window} {x : Value} → Stands us (Other r) x → us ≡ clipped c x (to k k) us
+pub other-clipped : (c : Cmp) (k : ℤ) (r : code.Window) (ws : List Window) → ws ≡ clipped c (variableOf (Other r)) (to k k) ws
 unfolding clipped
-side-other c k us (Stands.number e) = refl
-side-other c k us (Stands.operation e) = refl
+other-clipped c k r ws = refl
 
 -- a range of more than one number narrows nothing
-pub wide : (c : Cmp) (x : Value) (r : Window) (us : List Window) → eqZ (r .low) (r .high) ≡ false → clipped c x r us ≡ us
+wide : (c : Cmp) (x : Value) (r : Window) (us : List Window) → eqZ (r .low) (r .high) ≡ false → clipped c x r us ≡ us
 unfolding clipped
 wide c (known z) r us e = refl
 wide c (unknown i) r us e = rw e
@@ -58,7 +75,7 @@ one : (w : Window) → w .low ≡ w .high → w ≡ to (w .low) (w .low)
 one w e = ap (to (w .low)) (sym e)
 
 -- against one number, the other range has more than one
-pub not-one : (c : Cmp) (v w : Window) → decided c v w ≡ none → w .low ≡ w .high → eqZ (v .low) (v .high) ≡ false
+not-one : (c : Cmp) (v w : Window) → decided c v w ≡ none → w .low ≡ w .high → eqZ (v .low) (v .high) ≡ false
 not-one c v w d e = false-of (eqZ (v .low) (v .high)) (not-T (eqZ (v .low) (v .high)) (λ t. apart (eqZ→ (v .low) (v .high) t)))
   where
     far : v .low ≺ v .high
@@ -67,28 +84,17 @@ not-one c v w d e = false-of (eqZ (v .low) (v .high)) (not-T (eqZ (v .low) (v .h
     apart : v .low ≡ v .high → ⊥
     apart q = let l : v .low ≺ v .low = subst (λ (z : ℤ). v .low ≺ z) (sym q) far in omega arith
 
-module _ (c : Cmp) (us : List Window) (x y : Value) (v w : Window) (p : range us x ≡ v) (q : range us y ≡ w) where
+module _ (c : Cmp) (ws : List Window) (x y : Value) (v w : Window) where
   -- the right side is one number
-  pub left-narrows : decided c v w ≡ none → w .low ≡ w .high → clipped c x (to (w .low) (w .low)) us ≡ narrowed c x y us
-  unfolding narrowed
-  left-narrows d e =
-      ap (λ (r : Window). clipped c x r us) (sym (one w e))
-      ∙ sym (wide (mirrored c) y v (clipped c x w us) (not-one c v w d e))
-      ∙ ap₂ (λ (r s : Window). clipped (mirrored c) y r (clipped c x s us)) (sym p) (sym q)
+  pub left-narrows : decided c v w ≡ none → w .low ≡ w .high → clipped c x (to (w .low) (w .low)) ws ≡ clipped (mirrored c) y v (clipped c x w ws)
+  left-narrows d e = ap (λ (r : Window). clipped c x r ws) (sym (one w e)) ∙ sym (wide (mirrored c) y v (clipped c x w ws) (not-one c v w d e))
 
   -- the right side is more, and the left side is one number
-  pub right-narrows : eqZ (w .low) (w .high) ≡ false → v .low ≡ v .high → clipped (mirrored c) y (to (v .low) (v .low)) us ≡ narrowed c x y us
-  unfolding narrowed
-  right-narrows d e =
-      ap₂ (λ (r : Window) (vs : List Window). clipped (mirrored c) y r vs) (sym (one v e)) (sym (wide c x w us d))
-      ∙ ap₂ (λ (r s : Window). clipped (mirrored c) y r (clipped c x s us)) (sym p) (sym q)
+  pub right-narrows : eqZ (w .low) (w .high) ≡ false → v .low ≡ v .high → clipped (mirrored c) y (to (v .low) (v .low)) ws ≡ clipped (mirrored c) y v (clipped c x w ws)
+  right-narrows d e = ap₂ (λ (r : Window) (us : List Window). clipped (mirrored c) y r us) (sym (one v e)) (sym (wide c x w ws d))
 
-  pub none-narrows : eqZ (w .low) (w .high) ≡ false → eqZ (v .low) (v .high) ≡ false → us ≡ narrowed c x y us
-  unfolding narrowed
-  none-narrows d e =
-      sym (wide c x w us d)
-      ∙ sym (wide (mirrored c) y v (clipped c x w us) e)
-      ∙ ap₂ (λ (r s : Window). clipped (mirrored c) y r (clipped c x s us)) (sym p) (sym q)
+  pub none-narrows : eqZ (w .low) (w .high) ≡ false → eqZ (v .low) (v .high) ≡ false → ws ≡ clipped (mirrored c) y v (clipped c x w ws)
+  none-narrows d e = sym (wide c x w ws d) ∙ sym (wide (mirrored c) y v (clipped c x w ws) e)
 
 -- what the code asks of the side that narrows
 pub asked-left : (c : Cmp) (v w : Window) → decided c v w ≡ none → w .low ≡ w .high → decided c v (to (w .low) (w .low)) ≡ none

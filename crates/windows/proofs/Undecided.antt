@@ -1,8 +1,8 @@
 -- What is known where two ranges do not decide a comparison.
 use Prim.Native.Nat.{ℕ}
-use mathlib.Core.Path.{_≡_, refl, sym, ap, ap₂, _∙_, subst}
+use mathlib.Core.Path.{_≡_, refl, sym, ap, _∙_, subst}
 use mathlib.Core.Bool.{Bool, true, false, not, cond, _&&_}
-use mathlib.Core.Option.{Option, none, some}
+use mathlib.Core.Option.{none, some}
 use mathlib.Core.Logic.{_⊎_, inl, inr, ⊎-elim}
 use native.Mathlib.Omega.{arith}
 use lib.IntN.{ℤ}
@@ -11,7 +11,7 @@ use lib.Dec.{T, not-T}
 use Rattle.semantics.specs.Int.{Cmp, lt, le, gt, ge, eq, ne}
 use Rattle.semantics.specs.Run.{Window}
 use Rattle.semantics.specs.Search.{to, always, decided, negated, mirrored}
-use Rattle.semantics.proofs.Order.{up, down, _≼_, _≺_, leZ→, ltZ→, →ltZ, nltZ→, nleZ→}
+use Rattle.semantics.proofs.Order.{_≼_, _≺_, leZ→, ltZ→, →ltZ, nltZ→, nleZ→}
 
 pub yes : {b : Bool} → b ≡ true → T b
 yes e = subst T (sym e) tt

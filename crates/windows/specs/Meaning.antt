@@ -7,9 +7,9 @@ use mathlib.Core.List.{List, map}
 use lib.ListN.{getD, length}
 use lib.IntN.{ℤ, pos}
 use lib.Signed.{leZ}
-use Rattle.semantics.specs.Int.{Op}
+use Rattle.semantics.specs.Int.{Op, Cmp}
 use Rattle.semantics.specs.Run.{Window}
-use Rattle.semantics.specs.Search.{to, all32, range, Value, known, unknown, open′}
+use Rattle.semantics.specs.Search.{to, all32, range, mirrored, clipped, Value, known, unknown, open′}
 use Rattle.windows.specs.declared.Window as code
 use Rattle.windows.specs.declared.Decided.{Decided}
 use Rattle.windows.specs.declared.Decided.the-variants.{True, False, Open}
@@ -37,17 +37,28 @@ ofDecided True = some true
 ofDecided False = some false
 ofDecided Open = none
 
--- the range of a side, in these windows
-abbrev pub rangeOf : List Window → Side → Window
-rangeOf ws (Free i) = getD ws i all32
-rangeOf ws (Other r) = ofWindow r
+-- ---- the sides of a comparison: "where one side is just a free variable and the other's range is one number"
 
 -- a free variable has its place among the eight
 pub data Placed : Side → Type 0 where
   free : {i : ℕ} → i < 8 → Placed (Free i)
   other : {r : code.Window} → Placed (Other r)
 
--- the value that a side stands for, where these are the windows: "one side is just a free variable"
+-- the range of a side, in these windows
+abbrev pub rangeOf : List Window → Side → Window
+rangeOf ws (Free i) = getD ws i all32
+rangeOf ws (Other r) = ofWindow r
+
+-- the side's free variable; anything else narrows no window, as a number does not
+abbrev pub variableOf : Side → Value
+variableOf (Free i) = unknown i
+variableOf (Other r) = known (pos 0)
+
+-- the windows where the sides compare so: `narrowed` of `semantics`, with the ranges that the sides have
+abbrev pub narrowedBy : Cmp → Side → Side → List Window → List Window
+narrowedBy c a b ws = clipped (mirrored c) (variableOf b) (rangeOf ws a) (clipped c (variableOf a) (rangeOf ws b) ws)
+
+-- a side stands for a value, where these are the windows
 pub data Stands (ws : List Window) : Side → Value → Type 0 where
   free : {i : ℕ} → i < length ws → Stands ws (Free i) (unknown i)
   number : {r : code.Window} {z : ℤ} → ofWindow r ≡ range ws (known z) → Stands ws (Other r) (known z)

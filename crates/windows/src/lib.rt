@@ -1,16 +1,13 @@
 // Ranges, deciding and narrowing, over 32-bit numbers.
 ghost use mathlib.Core.Path.{_≡_};
-ghost use mathlib.Core.Bool.{true};
 ghost use mathlib.Core.Option.{none};
-ghost use mathlib.Core.List.{[]};
-ghost use Prim.Native.Nat.{ℕ, _+_, _<_, _≤_};
+ghost use Prim.Native.Nat.{_+_, _<_, _≤_};
 ghost use lib.IntN.{_+ℤ_, _-ℤ_, _*ℤ_};
-ghost use lib.ListN.{getD, set, take, length};
-ghost use lib.Signed.{leZ};
-ghost use Rattle.semantics.specs.Int.{numberOf, add, sub, mul, lt, le, gt, ge, eq, ne};
-ghost use Rattle.semantics.specs.Search.{to, minZ, maxZ, span, fitted, always as alwaysOf, decided, negated as negatedOf, mirrored as mirroredOf, clip, clipped, narrowed as narrowedOf, Value, all32};
-ghost use Rattle.ints.specs.Numbers.{comparison, operation};
-ghost use Rattle.windows.specs.Meaning.{ofWindow, Filled, ofPair, ofPairs, ofDecided, Placed, rangeOf, Stands};
+ghost use lib.ListN.{getD, set, length};
+ghost use Rattle.semantics.specs.Int.{add, sub, mul, lt, le, gt, ge, eq, ne};
+ghost use Rattle.semantics.specs.Search.{to, minZ, maxZ, span, fitted, always as alwaysOf, decided, negated as negatedOf, mirrored as mirroredOf, clip, clipped, all32};
+ghost use Rattle.ints.specs.Numbers.{numberOf, comparison, operation};
+ghost use Rattle.windows.specs.Meaning.{ofWindow, Filled, ofPair, ofPairs, ofDecided, Placed, rangeOf, variableOf, narrowedBy};
 ghost use Rattle.windows.specs.Memory.{pairAt, pairsAt, putPair, putPairs};
 
 // From low to high; none, where low is above high.
@@ -300,8 +297,8 @@ pub fn window_at(ws: [[i32; 2]; 8], i: usize) -> Window
     }
 }
 
-// The windows with another pair at i.
-fn with_pair(ws: [[i32; 2]; 8], i: usize, p: [i32; 2]) -> [[i32; 2]; 8]
+// The windows with another pair at i, as that of a free declaration that is reached.
+pub fn with_pair(ws: [[i32; 2]; 8], i: usize, p: [i32; 2]) -> [[i32; 2]; 8]
     requires { ⌜ i < 8 ⌝ }
     ensures { λ r. ⌜ r ≡ set ws i p ⌝ }
 {
@@ -332,7 +329,7 @@ pub fn range_of(ws: [[i32; 2]; 8], s: Side) -> Window
 // The windows, narrowed if the side is just a free variable, which compares so with a number.
 fn narrow_side(ws: [[i32; 2]; 8], s: Side, c: u32, k: i32) -> [[i32; 2]; 8]
     requires { ⌜ Placed s × (decided (comparison c) (rangeOf (ofPairs ws) s) (to k k) ≡ none) ⌝ }
-    ensures { λ r. ⌜ ((n : ℕ) (x : Value) → Stands (take n (ofPairs ws)) s x → take n (ofPairs r) ≡ clipped (comparison c) x (to k k) (take n (ofPairs ws))) ⌝ }
+    ensures { λ r. ⌜ ofPairs r ≡ clipped (comparison c) (variableOf s) (to k k) (ofPairs ws) ⌝ }
 {
     match s {
         Side::Free(i) => narrow_at(ws, i, c, k),
@@ -340,11 +337,11 @@ fn narrow_side(ws: [[i32; 2]; 8], s: Side, c: u32, k: i32) -> [[i32; 2]; 8]
     }
 }
 
-// The windows where the comparison, which the ranges of its sides do not decide, holds. The first n are those of the path's n free variables.
+// The windows where the comparison, which the ranges of its sides do not decide, holds.
 pub fn narrowed(ws: [[i32; 2]; 8], c: u32, a: Side, b: Side) -> [[i32; 2]; 8]
     requires { ⌜ Placed a × Placed b ⌝ }
     requires { ⌜ decided (comparison c) (rangeOf (ofPairs ws) a) (rangeOf (ofPairs ws) b) ≡ none ⌝ }
-    ensures { λ r. ⌜ ((n : ℕ) (x y : Value) → Stands (take n (ofPairs ws)) a x → Stands (take n (ofPairs ws)) b y → take n (ofPairs r) ≡ narrowedOf (comparison c) x y (take n (ofPairs ws))) ⌝ }
+    ensures { λ r. ⌜ ofPairs r ≡ narrowedBy (comparison c) a b (ofPairs ws) ⌝ }
 {
     let w = range_of(ws, b);
     if w.low == w.high {

@@ -1,4 +1,4 @@
-use mathlib.Core.Path.{_≡_, ap}
+use mathlib.Core.Path.{ap}
 use mathlib.Core.Bool.{not}
 use mir.Facts.{toZ-ofZ}
 use Rattle.semantics.specs.Int.{holds}

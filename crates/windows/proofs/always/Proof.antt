@@ -1,4 +1,3 @@
-use mathlib.Core.Path.{_≡_, sym, ap}
 use mir.Syntax.{w32}
 use mir.Val.{SFits}
 use mir.Facts.{toZ-ofZ}

@@ -1,11 +1,11 @@
 use Prim.Native.Nat.{ℕ}
 use mathlib.Core.Path.{_≡_, sym, ap, _∙_}
-use mathlib.Core.Bool.{Bool, true, false}
+use mathlib.Core.Bool.{Bool}
 use borrow.Author.Needs.{needs}
-use Rattle.semantics.specs.Int.{Cmp, numberOf}
+use Rattle.semantics.specs.Int.{Cmp}
 use Rattle.semantics.specs.Run.{Window}
 use Rattle.semantics.specs.Search.{always, decided, negated}
-use Rattle.ints.specs.Numbers.{comparison}
+use Rattle.ints.specs.Numbers.{numberOf, comparison}
 use Rattle.ints.proofs.Chosen.{comparison-number}
 use Rattle.windows.specs.Meaning.{ofWindow}
 use Rattle.windows.proofs.decide.Statement.{statement}

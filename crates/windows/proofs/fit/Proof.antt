@@ -1,9 +1,7 @@
 use mathlib.Core.Path.{_≡_, sym}
 use mathlib.Core.Bool.{true, false}
-use lib.IntN.{ℤ, pos, negsuc}
+use lib.IntN.{pos, negsuc}
 use lib.Signed.{leZ}
-use mir.Syntax.{w32}
-use mir.Val.{SFits}
 use mir.Facts.{toZ-ofZ}
 use Rattle.windows.proofs.Ranges.{low-fits, high-fits, fitted-inside, fitted-over, fitted-under}
 use Rattle.windows.proofs.fit.Statement.{statement}

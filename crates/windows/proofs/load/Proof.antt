@@ -1,4 +1,3 @@
-use mathlib.Core.Path.{_≡_}
 use borrow.Author.Needs.{needs}
 use Rattle.windows.proofs.Stored.{eight}
 use Rattle.windows.proofs.load.Statement.{statement}

@@ -1,13 +1,12 @@
-use mathlib.Core.Path.{_≡_, sym, subst}
+use mathlib.Core.Path.{_≡_, sym, ap, _∙_, subst}
 use mathlib.Core.Option.{none}
-use lib.ListN.{take}
 use mir.Facts.{toZ-ofZ}
 use borrow.Author.Needs.{needs}
-use Rattle.semantics.specs.Search.{Value, to, decided}
+use Rattle.semantics.specs.Search.{to, decided, clipped}
 use Rattle.ints.specs.Numbers.{comparison}
 use Rattle.windows.specs.declared.Side.{Side}
-use Rattle.windows.specs.Meaning.{ofPairs, rangeOf, Placed, Stands}
-use Rattle.windows.proofs.Sides.{placed, side-free, side-other}
+use Rattle.windows.specs.Meaning.{ofPairs, rangeOf, variableOf, Placed}
+use Rattle.windows.proofs.Sides.{placed, free-clipped, other-clipped}
 use Rattle.windows.proofs.narrow_side.Statement.{statement}
 use Rattle.windows.proofs.narrow_side.Tie as tie
 
@@ -27,16 +26,18 @@ enum-told : tie.Need-enum-told
 enum-told c = search needs
 
 returns : tie.Need-returns
-returns c n x h =
+returns c =
     let s = c .before .before .before .before in
     let a = s .args in
     let g = c .before .before .s .given in
-    side-free (comparison (a .c)) (a .k) (ofPairs (a .ws)) (ofPairs (c .narrow-at .result)) (g .0 .0) n (rw (toZ-ofZ (s .fits .k)) at (c .narrow-at .ensures)) (subst (λ (t : Side). Stands (take n (ofPairs (a .ws))) t x) (g .1) h)
+    rw (g .1, ← free-clipped (comparison (a .c)) (a .k) (g .0 .0) (ofPairs (a .ws))) (rw (toZ-ofZ (s .fits .k)) at (c .narrow-at .ensures))
 
 returns-2 : tie.Need-returns-2
-returns-2 c n x h =
+returns-2 c =
     let a = c .before .before .args in
-    side-other (comparison (a .c)) (a .k) (take n (ofPairs (a .ws))) (subst (λ (t : Side). Stands (take n (ofPairs (a .ws))) t x) (c .enum-told .given .1) h)
+    let g = c .enum-told .given in
+    other-clipped (comparison (a .c)) (a .k) (g .0 .0) (ofPairs (a .ws))
+    ∙ ap (λ (t : Side). clipped (comparison (a .c)) (variableOf t) (to (a .k) (a .k)) (ofPairs (a .ws))) (sym (g .1))
 
 pub narrow-side-spec : {M : Type 1} → statement M
 narrow-side-spec = tie.close (tie.spec enum-known-s narrow-at-requires enum-told returns returns-2)

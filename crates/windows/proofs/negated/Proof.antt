@@ -1,6 +1,7 @@
-use mathlib.Core.Path.{_≡_, sym, ap}
+use mathlib.Core.Path.{sym, ap}
 use borrow.Author.Needs.{needs}
-use Rattle.semantics.specs.Int.{Cmp, numberOf}
+use Rattle.semantics.specs.Int.{Cmp}
+use Rattle.ints.specs.Numbers.{numberOf}
 use Rattle.semantics.specs.Search.{negated}
 use Rattle.ints.proofs.Chosen.{last-comparison}
 use Rattle.windows.proofs.negated.Statement.{statement}

@@ -1,17 +1,16 @@
-use mathlib.Core.Path.{_≡_, ap}
 use borrow.Author.Needs.{needs}
 use Rattle.ints.proofs.Chosen.{last-operation}
 use Rattle.windows.proofs.range.Statement.{statement}
 use Rattle.windows.proofs.range.Tie as tie
 
 sum-requires : tie.Need-sum-requires
-sum-requires c κs = c .before .pre
+sum-requires c κs = search needs
 
 difference-requires : tie.Need-difference-requires
-difference-requires c κs = c .before .pre
+difference-requires c κs = search needs
 
 product-requires : tie.Need-product-requires
-product-requires c κs = c .before .pre
+product-requires c κs = search needs
 
 returns : tie.Need-returns
 returns c = rw (c .before .match .keys1) (c .sum .ensures)

@@ -1,4 +1,4 @@
-use mathlib.Core.Path.{_≡_, refl, sym, ap, _∙_, subst}
+use mathlib.Core.Path.{sym, ap, _∙_, subst}
 use borrow.Author.Needs.{needs}
 use Rattle.windows.specs.Meaning.{ofPairs, rangeOf, Placed}
 use Rattle.windows.proofs.Sides.{placed}

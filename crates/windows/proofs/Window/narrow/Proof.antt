@@ -1,4 +1,4 @@
-use mathlib.Core.Path.{_≡_, sym, ap}
+use mathlib.Core.Path.{_≡_, ap}
 use mathlib.Core.Option.{none}
 use lib.IntN.{ℤ}
 use mir.Syntax.{w32}

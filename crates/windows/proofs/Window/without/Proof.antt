@@ -1,11 +1,10 @@
-use mathlib.Core.Path.{_≡_, sym, subst}
-use mathlib.Core.Bool.{false}
+use mathlib.Core.Path.{subst}
 use lib.IntN.{ℤ}
 use mir.Syntax.{w32}
 use mir.Val.{SFits}
 use mir.Facts.{toZ-ofZ}
 use borrow.Author.Needs.{needs}
-use Rattle.semantics.specs.Int.{ne, eqZ}
+use Rattle.semantics.specs.Int.{ne}
 use Rattle.semantics.proofs.Order.{_≺_}
 use Rattle.ints.proofs.Fits.{same-bits, other-bits}
 use Rattle.windows.specs.Meaning.{ofWindow}

@@ -1,0 +1,9 @@
+-- Theorems.
+pub mod Laws
+pub mod Nodes
+pub mod Leaves
+pub mod Helpers
+pub mod Widths
+pub mod Capacity
+pub mod Tokens
+pub mod Enough

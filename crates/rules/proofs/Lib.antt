@@ -1,0 +1,5 @@
+-- Laws of the rules.
+pub mod Collects
+pub mod Functions
+pub mod Items
+pub mod Scans

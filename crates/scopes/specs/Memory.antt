@@ -1,0 +1,50 @@
+-- The scope in a slice of words, three at each place: the name and the slot of declaration k, and the first declaration of block k.
+use Prim.Native.Nat.{ℕ, zero, suc, _+_, _-_, _*_, _^_, _≤_, _<_}
+use mathlib.Core.Path.{_≡_}
+use mathlib.Core.List.{List, [], _∷_}
+use lib.ListN.{length, getD}
+use Rattle.events.specs.Event.{Event}
+use Rattle.rules.specs.Names as N
+use Rattle.rules.specs.Names.{Declared, entered}
+use Rattle.scopes.specs.declared.scope.Scope.{Scope}
+
+abbrev pub declaration : List ℕ → ℕ → Declared
+declaration l k = record { name = getD l (3 * k) 0; slot = getD l (3 * k + 1) 0 }
+
+abbrev pub start : List ℕ → ℕ → ℕ
+start l b = getD l (3 * b + 2) 0
+
+-- n declarations from k on
+unfoldable pub from : List ℕ → ℕ → ℕ → List Declared
+from l k zero = []
+from l k (suc n) = declaration l k ∷ from l (suc k) n
+
+-- b blocks, the innermost first; the declarations of the innermost end before `end`
+unfoldable pub blocksOf : List ℕ → ℕ → ℕ → List (List Declared)
+blocksOf l zero end = []
+blocksOf l (suc b) end = from l (start l b) (end - start l b) ∷ blocksOf l b (start l b)
+
+-- what the words and the counts mean
+abbrev pub scopeOf : List ℕ → Scope → N.Scope
+scopeOf l s = N.scope (blocksOf l (s .blocks) (s .seen)) (s .next)
+
+-- b blocks lie one after the other, and end before `end`
+pub data Ordered (l : List ℕ) : ℕ → ℕ → Type 0 where
+  none : {end : ℕ} → Ordered l zero end
+  more : {b end : ℕ} → start l b ≤ end → Ordered l b (start l b) → Ordered l (suc b) end
+
+-- the blocks are in the words, and there is room for one more declaration
+pub record Room (l : List ℕ) (s : Scope) : Type 0 where
+  pub ordered : Ordered l (s .blocks) (s .seen)
+  pub blocks : 3 * s .blocks ≤ length l
+  pub seen : 3 * s .seen + 3 ≤ length l
+  pub small : s .seen < 2 ^ 32
+  pub next : s .next < 2 ^ 32
+
+-- an event has been entered
+pub record Moved (l : List ℕ) (s : Scope) (e : Event) (l′ : List ℕ) (s′ : Scope) : Type 0 where
+  pub means : scopeOf l′ s′ ≡ entered (scopeOf l s) e
+  pub ordered : Ordered l′ (s′ .blocks) (s′ .seen)
+  pub blocks : s′ .blocks ≤ s .blocks + 1
+  pub seen : s′ .seen ≤ s .seen + 1
+  pub next : s′ .next ≤ s .next + 1

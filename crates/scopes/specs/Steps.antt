@@ -1,0 +1,44 @@
+-- One event, as the code takes it.
+use Prim.Native.Nat.{ℕ, _<_}
+use mathlib.Core.Path.{_≡_}
+use mathlib.Core.Bool.{Bool}
+use mathlib.Core.List.{List, [], _∷_, _++_}
+use mathlib.Core.Option.{Option}
+use lib.ListN.{length, getD, set}
+use Rattle.events.specs.Event.{Event, function, parameter, thing, opens, closes, declares, uses, calls, ends}
+use Rattle.rules.specs.Scan as S
+use Rattle.rules.specs.Answers.{leastWith}
+use Rattle.rules.specs.Rules.{Head}
+use Rattle.rules.specs.Names.{Scope, misnamed, uncalled, badNames, Meaning, meant, meanings}
+
+-- the token of an event, 0 where it has none
+unfoldable pub tokenOf : Event → ℕ
+tokenOf (function i) = i
+tokenOf (parameter i) = i
+tokenOf (thing d i) = i
+tokenOf opens = 0
+tokenOf closes = 0
+tokenOf (declares i) = i
+tokenOf (uses i) = i
+tokenOf (calls i n) = i
+tokenOf (ends i b) = i
+
+-- the tokens at which an event breaks rule 6, but for the repeated names of functions
+abbrev pub wrong : (ℕ → ℕ → Bool) → List Head → Scope → Event → List ℕ
+wrong same hs s e = misnamed same s e ++ uncalled same hs e
+
+-- meanings, written at their tokens; a token past the end is passed over
+unfoldable pub noted : List ℕ → List Meaning → List ℕ
+noted l [] = l
+noted l (m ∷ ms) = noted (set l (m .token) (m .means)) ms
+
+-- tokens that break the rule and meanings have been seen: the least token so far, and the words of the meanings, before and after
+pub record Seen (tokens : List ℕ) (meanings : List Meaning) (best : Option ℕ) (slots : List ℕ) (best′ : Option ℕ) (slots′ : List ℕ) : Type 0 where
+  pub least : best′ ≡ leastWith tokens best
+  pub written : slots′ ≡ noted slots meanings
+
+-- rule 6 is judged over the events es, and what each name means is written at its token
+pub record Named (same : ℕ → ℕ → Bool) (es : List Event) (slots : List ℕ) (best : Option ℕ) (slots′ : List ℕ) : Type 0 where
+  pub least : best ≡ S.least (badNames same es)
+  pub means : (i : ℕ) → i < length slots → getD slots′ i 0 ≡ meant (λ j. getD slots j 0) (meanings same es) i
+  pub kept : length slots′ ≡ length slots
