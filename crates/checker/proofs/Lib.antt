@@ -1,2 +1,3 @@
 -- Theorems about check.
+pub mod Faults
 pub mod Texts

@@ -46,26 +46,45 @@ pub record Rule : Type 0 where
 abbrev pub rule : ℕ → List ℕ → Rule
 rule n is = record { number = n; broken = is }
 
--- rules 5 to 10 of a text with these tokens and events; the last token is the end, at the text's length
-unfoldable pub rules : List ℕ → List Token → List Event → List Rule
-rules text ts es =
-    let same = sameName text (places ts) (values ts) in
+-- rules 5 to 10 of a text with these events; the token `end` is the end, at the text's length
+unfoldable pub rules : (same : ℕ → ℕ → Bool) (isMain : ℕ → Bool) (end : ℕ) → List Event → List Rule
+rules same isMain end es =
     rule 5 (tooDeep es)
     ∷ rule 6 (badNames same es)
     ∷ rule 7 (miscalls same es)
-    ∷ rule 8 (mainless (isMain text (places ts) (values ts)) (length ts - 1) es)
+    ∷ rule 8 (mainless isMain end es)
     ∷ rule 9 (openEnds es)
     ∷ rule 10 (tooMany es)
     ∷ []
 
--- "each over the whole text before the next, the smallest place within a number winning" (the places of tokens ascend with their numbers)
-unfoldable pub firstBroken : List Token → List Rule → Verdict
-firstBroken ts [] = accepted
-firstBroken ts (r ∷ rs) = elim (least (r .broken)) [ none ↦ firstBroken ts rs | some i ↦ refused (r .number) (placeOf ts i) ]
+-- a rule that is broken: its number, and the first token that breaks it
+pub record Fault : Type 0 where
+  pub number : ℕ
+  pub token : ℕ
+
+abbrev pub fault : ℕ → ℕ → Fault
+fault n i = record { number = n; token = i }
+
+abbrev pub orElse : ℕ → Option ℕ → Option Fault → Option Fault
+orElse n none later = later
+orElse n (some i) later = some (fault n i)
+
+-- "each over the whole text before the next, the smallest place within a number winning": the places of tokens ascend with their numbers
+unfoldable pub firstBroken : List Rule → Option Fault
+firstBroken [] = none
+firstBroken (r ∷ rs) = orElse (r .number) (least (r .broken)) (firstBroken rs)
+
+abbrev pub verdict : List Token → Option Fault → Verdict
+verdict ts none = accepted
+verdict ts (some f) = refused (f .number) (placeOf ts (f .token))
+
+-- the rules of a text with these tokens
+abbrev pub rulesOf : List ℕ → List Token → List Event → List Rule
+rulesOf text ts es = rules (sameName text (places ts) (values ts)) (isMain text (places ts) (values ts)) (length ts - 1) es
 
 -- "4 the first token that no program could have there", and then the other rules
 unfoldable pub checkedTokens : List ℕ → List Token → Verdict
-checkedTokens text ts = elim (parsed (kinds ts)) [ bad m ↦ refused 4 (placeOf ts m) | ok t m ↦ firstBroken ts (rules text ts (events (ast t))) ]
+checkedTokens text ts = elim (parsed (kinds ts)) [ bad m ↦ refused 4 (placeOf ts m) | ok t m ↦ verdict ts (firstBroken (rulesOf text ts (events (ast t)))) ]
 
 -- numbers 1 to 3 are the lexer's
 unfoldable pub checked : List ℕ → Verdict

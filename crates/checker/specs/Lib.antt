@@ -1,3 +1,4 @@
 -- Check and remarks.
 pub mod Check
 pub mod Remarks
+pub mod Judge

@@ -1,1 +1,81 @@
 // Check and remarks.
+ghost use mathlib.Core.Path.{_≡_};
+ghost use Prim.Native.Nat.{_*_, _≤_, _<_};
+ghost use lib.ListN.{length};
+ghost use Rattle.events.specs.Stored.{stored};
+ghost use Rattle.rules.specs.Spelling.{sameName, isMain};
+ghost use Rattle.rules.specs.Answers.{storedHeads};
+ghost use Rattle.checker.specs.Judge.{unless, chosen, Ruled, Judges};
+
+use rules::broken::Broken;
+
+// What the rules 5 to 10 say of a text: the number of a broken one with the first token that breaks it, or how many functions there are.
+pub enum Judged {
+    Broken(u32, usize),
+    Kept(usize),
+}
+
+// What a rule with this number says, before what the later rules say.
+fn before(number: u32, broken: Broken, later: Judged) -> Judged
+    ensures { λ r. ⌜ r ≡ unless number broken later ⌝ }
+{
+    match broken {
+        Broken::Nowhere => later,
+        Broken::At(i) => Judged::Broken(number, i),
+    }
+}
+
+// The first of the rules 5 to 10 that is broken, where h functions are there.
+fn choose(deep: Broken, misnamed: Broken, miscalled: Broken, mainless: Broken, unended: Broken, many: Broken, h: usize) -> Judged
+    ensures { λ r. ⌜ r ≡ chosen deep misnamed miscalled mainless unended many h ⌝ }
+{
+    let last = before(10, many, Judged::Kept(h));
+    let ends = before(9, unended, last);
+    let main = before(8, mainless, ends);
+    let calls = before(7, miscalled, main);
+    let names = before(6, misnamed, calls);
+    before(5, deep, names)
+}
+
+// What the rules say of n events with the h functions `heads`, where `misnamed` is what rule 6 says. `end` is the number of the end's token.
+fn rule_all(
+    text: &[u8],
+    places: &[u32],
+    values: &[u32],
+    events: &[u32],
+    n: usize,
+    end: usize,
+    heads: &[u32],
+    h: usize,
+    misnamed: Broken,
+) -> Judged
+    requires { ⌜ (3 * n ≤ length (now events)) × (2 * h ≤ length (now heads)) ⌝ }
+    ensures { λ r. ⌜ Ruled (sameName (now (text .entry)) (now (places .entry)) (now (values .entry))) (isMain (now (text .entry)) (now (places .entry)) (now (values .entry))) end (stored (now (events .entry)) n) (storedHeads (now (heads .entry)) h) h misnamed r ⌝ }
+{
+    let deep = rules::depth::too_deep(events, n);
+    let miscalled = rules::calls::miscalls(text, places, values, events, n, heads, h);
+    let mainless = rules::mains::main_rule(text, places, values, heads, h, end);
+    let unended = rules::ends::open_ends(events, n);
+    let many = rules::counts::too_many(events, n);
+    choose(deep, misnamed, miscalled, mainless, unended, many, h)
+}
+
+// What the rules say of n events.
+pub fn judge(
+    text: &[u8],
+    places: &[u32],
+    values: &[u32],
+    events: &[u32],
+    n: usize,
+    end: usize,
+    heads: &mut [u32],
+    scope: &mut [u32],
+    slots: &mut [u32],
+) -> Judged
+    requires { ⌜ (3 * n ≤ length (now events)) × (2 * n ≤ length (now heads)) × (3 * n ≤ length (now scope)) × (n < 4294967296) ⌝ }
+    ensures { λ r. ⌜ Judges (sameName (now (text .entry)) (now (places .entry)) (now (values .entry))) (isMain (now (text .entry)) (now (places .entry)) (now (values .entry))) end (stored (now (events .entry)) n) (now (slots .entry)) (now (slots .exit)) (now (heads .exit)) r ⌝ }
+{
+    let h = rules::heads::collect_heads(events, n, heads);
+    let misnamed = scopes::names::names(text, places, values, events, n, heads, h, scope, slots);
+    rule_all(text, places, values, events, n, end, heads, h, misnamed)
+}
