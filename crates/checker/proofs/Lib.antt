@@ -1,3 +1,4 @@
 -- Theorems about check.
 pub mod Faults
+pub mod Inspecting
 pub mod Texts

@@ -34,10 +34,6 @@ places ts = map (λ t. t .place) ts
 abbrev pub values : List Token → List ℕ
 values ts = map (λ t. t .value) ts
 
--- the place of token i
-abbrev pub placeOf : List Token → ℕ → ℕ
-placeOf ts i = getD (places ts) i 0
-
 -- a rule's number, and the tokens that break it
 pub record Rule : Type 0 where
   pub number : ℕ
@@ -74,21 +70,21 @@ unfoldable pub firstBroken : List Rule → Option Fault
 firstBroken [] = none
 firstBroken (r ∷ rs) = orElse (r .number) (least (r .broken)) (firstBroken rs)
 
-abbrev pub verdict : List Token → Option Fault → Verdict
-verdict ts none = accepted
-verdict ts (some f) = refused (f .number) (placeOf ts (f .token))
+abbrev pub verdict : List ℕ → Option Fault → Verdict
+verdict ps none = accepted
+verdict ps (some f) = refused (f .number) (getD ps (f .token) 0)
 
--- the rules of a text with these tokens
-abbrev pub rulesOf : List ℕ → List Token → List Event → List Rule
-rulesOf text ts es = rules (sameName text (places ts) (values ts)) (isMain text (places ts) (values ts)) (length ts - 1) es
+-- the rules 5 to 10 of a text whose tokens have these places and values (of a name, its size), n tokens with the end
+abbrev pub rulesOf : (text ps vs : List ℕ) → ℕ → List Event → List Rule
+rulesOf text ps vs n es = rules (sameName text ps vs) (isMain text ps vs) (n - 1) es
 
 -- "4 the first token that no program could have there", and then the other rules
-unfoldable pub checkedTokens : List ℕ → List Token → Verdict
-checkedTokens text ts = elim (parsed (kinds ts)) [ bad m ↦ refused 4 (placeOf ts m) | ok t m ↦ verdict ts (firstBroken (rulesOf text ts (events (ast t)))) ]
+unfoldable pub checkedTokens : (text ks ps vs : List ℕ) → Verdict
+checkedTokens text ks ps vs = elim (parsed ks) [ bad m ↦ refused 4 (getD ps m 0) | ok t m ↦ verdict ps (firstBroken (rulesOf text ps vs (length ks) (events (ast t)))) ]
 
 -- numbers 1 to 3 are the lexer's
 unfoldable pub checked : List ℕ → Verdict
-checked text = elim (lexed text) [ L.refused n p ↦ refused n p | L.tokens ts ↦ checkedTokens text ts ]
+checked text = elim (lexed text) [ L.refused n p ↦ refused n p | L.tokens ts ↦ checkedTokens text (kinds ts) (places ts) (values ts) ]
 
 -- ---- the program of a text
 

@@ -2,3 +2,4 @@
 pub mod Check
 pub mod Remarks
 pub mod Judge
+pub mod Analysis

@@ -5,7 +5,9 @@ ghost use lib.ListN.{length};
 ghost use Rattle.events.specs.Stored.{stored};
 ghost use Rattle.rules.specs.Spelling.{sameName, isMain};
 ghost use Rattle.rules.specs.Answers.{storedHeads};
+ghost use Rattle.events.specs.Walk.{Ready};
 ghost use Rattle.checker.specs.Judge.{unless, chosen, Ruled, Judges};
+ghost use Rattle.checker.specs.Analysis.{concluded, Inspected};
 
 use rules::broken::Broken;
 
@@ -78,4 +80,47 @@ pub fn judge(
     let h = rules::heads::collect_heads(events, n, heads);
     let misnamed = scopes::names::names(text, places, values, events, n, heads, h, scope, slots);
     rule_all(text, places, values, events, n, end, heads, h, misnamed)
+}
+
+// What an analysis answers: a refusal's number and place, or the count of tokens, the root of the tree, the count of events and the count of functions.
+pub enum Analysed {
+    Refused(u32, usize),
+    Fine { tokens: usize, root: usize, events: usize, functions: usize },
+}
+
+// What check answers.
+pub enum Checked {
+    Accepted,
+    Refused(u32, usize),
+}
+
+// The answer by what the rules say: the place of a token that breaks one, or what the analysis found.
+fn conclude(places: &[u32], judged: Judged, tokens: usize, root: usize, events: usize) -> Analysed
+    ensures { λ r. ⌜ r ≡ concluded (now (places .entry)) tokens root events judged ⌝ }
+{
+    match judged {
+        Judged::Broken(number, i) => Analysed::Refused(number, rules::spelling::word(places, i)),
+        Judged::Kept(functions) => Analysed::Fine { tokens, root, events, functions },
+    }
+}
+
+// The rules of a text of n tokens whose tree stands at node `root`.
+fn inspect(
+    text: &[u8],
+    places: &[u32],
+    values: &[u32],
+    nodes: &[u32],
+    root: usize,
+    n: usize,
+    items: &mut [u32],
+    heads: &mut [u32],
+    scope: &mut [u32],
+    slots: &mut [u32],
+) -> Analysed
+    requires { ⌜ Ready (now nodes) root (now items) × (length (now items) ≡ 12288) × (8192 ≤ length (now heads)) × (12288 ≤ length (now scope)) × (0 < n) ⌝ }
+    ensures { λ r. ⌜ Inspected (now (text .entry)) (now (places .entry)) (now (values .entry)) (now (nodes .entry)) (now (items .exit)) (now (heads .exit)) (now (slots .entry)) (now (slots .exit)) n root r ⌝ }
+{
+    let e = events::walk(nodes, root, items);
+    let judged = judge(text, places, values, items, e, n - 1, heads, scope, slots);
+    conclude(places, judged, n, root, e)
 }

@@ -2,7 +2,7 @@
 pub mod Laws
 pub mod Nodes
 pub mod Leaves
-pub mod Helpers
+pub mod Steps
 pub mod Widths
 pub mod Capacity
 pub mod Tokens

@@ -10,8 +10,10 @@ use Rattle.events.specs.Event.{Event, opens, closes, first, count, stops
 use Rattle.events.specs.Stored.{stored}
 use Rattle.events.specs.Walk.{Below, Rooted}
 
--- a tree of any sort
-pub record Fine (l : List ℕ) (i : ℕ) : Type 0 where
+-- ---- what is asked
+
+-- a tree of some sort stands at node i
+pub record Stands (l : List ℕ) (i : ℕ) : Type 0 where
   pub sort : Sort
   pub rooted : Rooted sort l i
 
@@ -28,7 +30,7 @@ level params = 2
 level fun = 2
 level prog = 2
 
--- the tree at node i has the level v; there is room in out, after n events, for its events at the depth d
+-- the tree at node i has the level v, and out has room after n events for its events at the depth d
 pub record Placed (v : ℕ) (l : List ℕ) (i d : ℕ) (out : List ℕ) (n : ℕ) : Type 0 where
   pub sort : Sort
   pub rooted : Rooted sort l i

@@ -9,7 +9,7 @@ use Rattle.syntax.specs.Table.{Holds}
 use Rattle.events.specs.Event.{events}
 use Rattle.events.specs.Stored.{stored}
 
--- the tokens that a tree names are below m
+-- the tokens that a tree names are below m (a declaration names the token after its first, too)
 unfoldable pub Below : {s : Sort} → ℕ → Ast s → Type 0
 Below m (A.number i) = i < m
 Below m (A.negative i) = i < m

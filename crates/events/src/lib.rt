@@ -6,7 +6,7 @@ ghost use lib.ListN.{length};
 ghost use Rattle.syntax.specs.Ast.{expr, args, stmt, body};
 ghost use Rattle.events.specs.Stored.{eventOf};
 ghost use Rattle.events.specs.Walk.{Rooted, Ready, Walked};
-ghost use Rattle.events.specs.Visit.{Fine, Placed, First, Count, Stops, Grown, Visited, Enclosed};
+ghost use Rattle.events.specs.Visit.{Stands, Placed, First, Count, Stops, Grown, Visited, Enclosed};
 use syntax::fetch;
 use syntax::kind;
 
@@ -62,7 +62,7 @@ fn arity(nodes: &[u32], i: usize) -> usize
 
 // Whether the tree at node i is one that can't reach its end.
 fn stops(nodes: &[u32], i: usize) -> bool
-    requires { ⌜ Fine (now nodes) i ⌝ }
+    requires { ⌜ Stands (now nodes) i ⌝ }
     ensures { λ r. ⌜ Stops (now (nodes .entry)) i r ⌝ }
 {
     let node = fetch(nodes, i);

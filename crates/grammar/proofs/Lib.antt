@@ -3,3 +3,6 @@ pub mod Machine
 pub mod Accept
 pub mod Right
 pub mod Place
+pub mod Steps
+pub mod Marks
+pub mod Whole

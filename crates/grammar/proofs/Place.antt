@@ -78,7 +78,7 @@ module _ (ks : List ℕ) (ends : (a : ℕ) → suc a ≡ length ks → getD ks a
   unfolding onto
   start r = refl
 
-  pub text-right : (d : ℕ) → 8 * length ks + 1 ≤ d → Text (readText ks d)
+  pub text-right : (d : ℕ) → 8 * length ks + 2 ≤ d → Text (readText ks d)
   unfolding readText
   text-right d f = go (moreProg ks d noFuns 0) (prog-right ks ends d noFuns 0 0 some (start) (omega arith))
     where

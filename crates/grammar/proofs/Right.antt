@@ -18,7 +18,7 @@ use Rattle.syntax.specs.Tree.{operand, term, sum, args, argList, cmp, atom, con
 use Rattle.syntax.specs.Tree.{number, negative, name, call, bracket, noArgs, someArgs, firstArg, nextArg, factor, times, addend, plus, minus, cmpMark, always, never, compare, oneAtom, both, oneConj, either, empty, declare, declareFree, assign, eval, block, ifElse, while, return, fail, noStmts, moreStmts, braced, noParams, someParams, firstParam, nextParam, function, noFuns, moreFuns}
 use Rattle.grammar.proofs.Machine.{Sym, Stack, Out, fine, stuck, step, run, goOn, on}
 use Rattle.grammar.proofs.Machine.{tok, sOperand, sTerm, sTerms, sSum, sSums, sCall, sArgs, sMore, sCmp, sAtom, sConj, sConjs, sCond, sConds, sStmt, sDecl, sNamed, sBody, sParams, sParamMore, sFuns}
-use Rattle.grammar.specs.Parse.{Res, ok, bad, andThen, peek, expect, readOperand, readBracket, readCall, readArgs, moreArgs, readTerm, moreTerm, readSum, moreSum, readCmp, readAtom, moreConj, readConj, moreCond, readCond, readEval, readAssign, readDecl, readReturn, readStmt, readIf, readWhile, moreBody, moreParams, readParams, readFun, moreProg}
+use Rattle.grammar.specs.Parse.{Res, ok, bad, andThen, peek, expect, readOperand, readBracket, readCall, readArgs, moreArgs, readTerm, moreTerm, readSum, moreSum, readCmp, readAtom, moreConj, readConj, moreCond, readCond, readGuard, readEnded, readNamed, readDecl, readFail, readStmt, readBlock, readIf, readWhile, moreBody, moreParams, readParams, readFun, moreProg}
 
 -- a tree has tokens, or none
 grows : {c : Cat} (t : Tree c) (ks : List ℕ) → length ks ≤ length (onto t ks)
@@ -80,6 +80,7 @@ stmt-grows (return i e) ks = omega (arith, grows e (kSemi ∷ ks))
 stmt-grows (fail i) ks = omega arith
 
 module _ (ks : List ℕ) (ends : (a : ℕ) → suc a ≡ length ks → getD ks a 0 ≡ 0) where
+
   -- the first a tokens, then r
   abbrev pub upto : ℕ → List ℕ → List ℕ
   upto a r = take a ks ++ r
@@ -121,11 +122,10 @@ module _ (ks : List ℕ) (ends : (a : ℕ) → suc a ≡ length ks → getD ks a
   eat : (a k : ℕ) → a < length ks → eqb (peek ks a) k ≡ true → eqb k 0 ≡ false → Eat a k
   eat a k h e z =
       let q : peek ks a ≡ k = eqb-true _ _ e in
-      record {
-        inside = not-last a h (λ p. eqb-false k 0 z (sym q ∙ p));
-        read = λ r. rw (add-one, take-suc ks a 0, append-assoc, q);
-        ahead = head a h ∙ ap (λ (x : ℕ). x ∷ drop (a + 1) ks) q;
-      }
+      record
+      { inside = not-last a h (λ p. eqb-false k 0 z (sym q ∙ p))
+      ; read = λ r. rw (add-one, take-suc ks a 0, append-assoc, q)
+      ; ahead = head a h ∙ ap (λ (x : ℕ). x ∷ drop (a + 1) ks) q }
 
   move : {c : Cat} {b at m : ℕ} {S S′ : Stack → Stack} {r : Res c} → at ≤ m → ((ss : Stack) → run (S ss) (drop at ks) ≡ run (S′ ss) (drop m ks)) → Reads b S′ m r → Reads b S at r
   move l e (good k) = good (record { past = le-trans l (k .past); inside = k .inside; read = k .read; ran = λ ss. e ss ∙ k .ran ss })
@@ -156,25 +156,23 @@ module _ (ks : List ℕ) (ends : (a : ℕ) → suc a ≡ length ks → getD ks a
 
   -- one reader, and another after it. Where the first stops, its tree is wrapped, and `tail` is what is then missing
   after : {c e : Cat} {b₁ b₂ at : ℕ} {S₁ S₂ : Stack → Stack} {r : Res c} {f : Tree c → ℕ → Res e}
-      → (wrap : Tree c → Tree e) (tail : List ℕ → List ℕ) → ((t : Tree c) (r : List ℕ) → upto b₁ (onto t (tail r)) ≡ upto b₂ (onto (wrap t) r))
-      → Reads b₁ S₁ at r
-      → ((t : Tree c) (m : ℕ) → Ok b₁ S₁ at t m → Reads b₂ S₂ m (f t m))
-      → Reads b₂ (λ ss. S₁ (S₂ ss)) at (andThen r f)
+    → (wrap : Tree c → Tree e) (tail : List ℕ → List ℕ) → ((t : Tree c) (r : List ℕ) → upto b₁ (onto t (tail r)) ≡ upto b₂ (onto (wrap t) r))
+    → Reads b₁ S₁ at r
+    → ((t : Tree c) (m : ℕ) → Ok b₁ S₁ at t m → Reads b₂ S₂ m (f t m))
+    → Reads b₂ (λ ss. S₁ (S₂ ss)) at (andThen r f)
   after wrap tail w (good {t} {m} h) g = join h (g t m h)
-  after {S₂ = S₂} wrap tail w (wrong h) g = wrong (record {
-    inside = h .inside;
-    whole = wrap (h .whole);
-    rest = λ r. h .rest (tail r);
-    read = λ r. h .read (tail r) ∙ w (h .whole) r;
-    ran = λ ss. h .ran (S₂ ss);
-  })
+  after {S₂ = S₂} wrap tail w (wrong h) g = wrong (record
+    { inside = h .inside
+    ; whole = wrap (h .whole)
+    ; rest = λ r. h .rest (tail r)
+    ; read = λ r. h .read (tail r) ∙ w (h .whole) r
+    ; ran = λ ss. h .ran (S₂ ss) })
 
   abbrev pub Fuel : ℕ → ℕ → ℕ → Type 0
   Fuel c d at = 8 * length ks + c ≤ d + 8 * at
 
   mutual
     unfolding readOperand onto run step
-
     pub operand-right : (d at : ℕ) → at < length ks → Fuel 2 d at → Reads at (λ ss. sOperand ∷ ss) at (readOperand ks d at)
     operand-right zero at i f = absurd (omega arith)
     operand-right (suc d) at i f =
@@ -182,9 +180,9 @@ module _ (ks : List ℕ) (ends : (a : ℕ) → suc a ≡ length ks → getD ks a
         (λ e. let x = eat at kNumber i e refl in eatThen x (λ ss r. refl) (done (x .inside) (x .read)))
         (λ e₁. split (eqb (peek ks at) kMinus)
         (λ e. let x = eat at kMinus i e refl in eatThen {S′ = λ ss. tok kNumber ∷ ss} x (λ ss r. refl)
-        (split (eqb (peek ks (at + 1)) kNumber)
-        (λ e′. let y = eat (at + 1) kNumber (x .inside) e′ refl in eatThen y (λ ss r. refl) (done (y .inside) (λ r. y .read r ∙ x .read (kNumber ∷ r))))
-        (λ e′. stop (x .inside) (negative 0) (λ r. kNumber ∷ r) (λ r. x .read (kNumber ∷ r)) (λ ss. rw e′))))
+          (split (eqb (peek ks (at + 1)) kNumber)
+          (λ e′. let y = eat (at + 1) kNumber (x .inside) e′ refl in eatThen y (λ ss r. refl) (done (y .inside) (λ r. y .read r ∙ x .read (kNumber ∷ r))))
+          (λ e′. stop (x .inside) (negative 0) (λ r. kNumber ∷ r) (λ r. x .read (kNumber ∷ r)) (λ ss. rw e′))))
         (λ e₂. split (eqb (peek ks at) kName)
         (λ e. let x = eat at kName i e refl in eatThen {S′ = λ ss. sCall ∷ ss} x (λ ss r. refl) (call-right d at x (omega arith)))
         (λ e₃. split (eqb (peek ks at) kOpen)
@@ -196,16 +194,16 @@ module _ (ks : List ℕ) (ends : (a : ℕ) → suc a ≡ length ks → getD ks a
     bracket-right (suc d) at x f =
         after (bracket at) (λ r. kClose ∷ r) (λ t r. x .read (onto t (kClose ∷ r))) (sum-right d (at + 1) (x .inside) (omega arith))
         (λ t m h. split (eqb (peek ks m) kClose)
-        (λ e′. let y = eat m kClose (h .inside) e′ refl in eatThen y (λ ss r. refl) (done (y .inside) (λ r. y .read r ∙ h .read (kClose ∷ r) ∙ x .read (onto t (kClose ∷ r)))))
-        (λ e′. stop (h .inside) (bracket at t) (λ r. kClose ∷ r) (λ r. h .read (kClose ∷ r) ∙ x .read (onto t (kClose ∷ r))) (λ ss. rw e′)))
+          (λ e′. let y = eat m kClose (h .inside) e′ refl in eatThen y (λ ss r. refl) (done (y .inside) (λ r. y .read r ∙ h .read (kClose ∷ r) ∙ x .read (onto t (kClose ∷ r)))))
+          (λ e′. stop (h .inside) (bracket at t) (λ r. kClose ∷ r) (λ r. h .read (kClose ∷ r) ∙ x .read (onto t (kClose ∷ r))) (λ ss. rw e′)))
 
     call-right : (d at : ℕ) → Eat at kName → Fuel 1 d at → Reads at (λ ss. sCall ∷ ss) (at + 1) (readCall ks d at)
     call-right zero at x f = absurd (omega (arith, x .inside))
     call-right (suc d) at x f =
         split (eqb (peek ks (at + 1)) kOpen)
         (λ e. let y = eat (at + 1) kOpen (x .inside) e refl in eatThen {S′ = λ ss. sArgs ∷ ss} y (λ ss r. refl)
-        (after (call 0) (λ r. r) (λ t r. y .read (onto t r) ∙ x .read (kOpen ∷ onto t r)) (args-right d (at + 1 + 1) (y .inside) (omega arith))
-        (λ t m h. done (h .inside) (λ r. h .read r ∙ y .read (onto t r) ∙ x .read (kOpen ∷ onto t r)))))
+          (after (call 0) (λ r. r) (λ t r. y .read (onto t r) ∙ x .read (kOpen ∷ onto t r)) (args-right d (at + 1 + 1) (y .inside) (omega arith))
+          (λ t m h. done (h .inside) (λ r. h .read r ∙ y .read (onto t r) ∙ x .read (kOpen ∷ onto t r)))))
         (λ e. skip (x .inside) (λ ss. rw e) (done (x .inside) (x .read)))
 
     args-right : (d at : ℕ) → at < length ks → Fuel 5 d at → Reads at (λ ss. sArgs ∷ ss) at (readArgs ks d at)
@@ -214,16 +212,16 @@ module _ (ks : List ℕ) (ends : (a : ℕ) → suc a ≡ length ks → getD ks a
         split (eqb (peek ks at) kClose)
         (λ e. let x = eat at kClose i e refl in eatThen x (λ ss r. refl) (done (x .inside) (x .read)))
         (λ e. skip {S′ = λ ss. sSum ∷ sMore ∷ ss} i (λ ss. rw e)
-        (after (λ t. someArgs (firstArg t)) (λ r. kClose ∷ r) (λ t r. refl) (sum-right d at i (omega arith))
-        (λ t m h. more-args d (firstArg t) at m (h .inside) (h .read) (omega (arith, h .past)))))
+          (after (λ t. someArgs (firstArg t)) (λ r. kClose ∷ r) (λ t r. refl) (sum-right d at i (omega arith))
+          (λ t m h. more-args d (firstArg t) at m (h .inside) (h .read) (omega (arith, h .past)))))
 
     more-args : (d : ℕ) (l : Tree argList) (b at : ℕ) → at < length ks → ((r : List ℕ) → upto at r ≡ upto b (onto l r)) → Fuel 1 d at → Reads b (λ ss. sMore ∷ ss) at (moreArgs ks d l at)
     more-args zero l b at i w f = absurd (omega arith)
     more-args (suc d) l b at i w f =
         split (eqb (peek ks at) kComma)
         (λ e. let x = eat at kComma i e refl in eatThen {S′ = λ ss. sSum ∷ sMore ∷ ss} x (λ ss r. refl)
-        (after (λ t. someArgs (nextArg l t)) (λ r. kClose ∷ r) (λ t r. x .read _ ∙ w _) (sum-right d (at + 1) (x .inside) (omega arith))
-        (λ t m h. more-args d (nextArg l t) b m (h .inside) (λ r. h .read r ∙ x .read _ ∙ w _) (omega (arith, h .past)))))
+          (after (λ t. someArgs (nextArg l t)) (λ r. kClose ∷ r) (λ t r. x .read _ ∙ w _) (sum-right d (at + 1) (x .inside) (omega arith))
+          (λ t m h. more-args d (nextArg l t) b m (h .inside) (λ r. h .read r ∙ x .read _ ∙ w _) (omega (arith, h .past)))))
         (λ e₁. split (eqb (peek ks at) kClose)
         (λ e. let x = eat at kClose i e refl in eatThen x (λ ss r. refl) (done (x .inside) (λ r. x .read r ∙ w _)))
         (λ e₂. stop i (someArgs l) (λ r. kClose ∷ r) (λ r. w _) (λ ss. rw (e₁, e₂))))
@@ -239,8 +237,8 @@ module _ (ks : List ℕ) (ends : (a : ℕ) → suc a ≡ length ks → getD ks a
     more-term (suc d) l b at i w f =
         split (eqb (peek ks at) kTimes)
         (λ e. let x = eat at kTimes i e refl in eatThen {S′ = λ ss. sOperand ∷ sTerms ∷ ss} x (λ ss r. refl)
-        (after (times l) (λ r. r) (λ t r. x .read _ ∙ w _) (operand-right d (at + 1) (x .inside) (omega arith))
-        (λ t m h. more-term d (times l t) b m (h .inside) (λ r. h .read r ∙ x .read _ ∙ w _) (omega (arith, h .past)))))
+          (after (times l) (λ r. r) (λ t r. x .read _ ∙ w _) (operand-right d (at + 1) (x .inside) (omega arith))
+          (λ t m h. more-term d (times l t) b m (h .inside) (λ r. h .read r ∙ x .read _ ∙ w _) (omega (arith, h .past)))))
         (λ e. skip i (λ ss. rw e) (done i w))
 
     pub sum-right : (d at : ℕ) → at < length ks → Fuel 4 d at → Reads at (λ ss. sSum ∷ ss) at (readSum ks d at)
@@ -254,12 +252,12 @@ module _ (ks : List ℕ) (ends : (a : ℕ) → suc a ≡ length ks → getD ks a
     more-sum (suc d) l b at i w f =
         split (eqb (peek ks at) kPlus)
         (λ e. let x = eat at kPlus i e refl in eatThen {S′ = λ ss. sTerm ∷ sSums ∷ ss} x (λ ss r. refl)
-        (after (plus l) (λ r. r) (λ t r. x .read _ ∙ w _) (term-right d (at + 1) (x .inside) (omega arith))
-        (λ t m h. more-sum d (plus l t) b m (h .inside) (λ r. h .read r ∙ x .read _ ∙ w _) (omega (arith, h .past)))))
+          (after (plus l) (λ r. r) (λ t r. x .read _ ∙ w _) (term-right d (at + 1) (x .inside) (omega arith))
+          (λ t m h. more-sum d (plus l t) b m (h .inside) (λ r. h .read r ∙ x .read _ ∙ w _) (omega (arith, h .past)))))
         (λ e₁. split (eqb (peek ks at) kMinus)
         (λ e. let x = eat at kMinus i e refl in eatThen {S′ = λ ss. sTerm ∷ sSums ∷ ss} x (λ ss r. refl)
-        (after (minus l) (λ r. r) (λ t r. x .read _ ∙ w _) (term-right d (at + 1) (x .inside) (omega arith))
-        (λ t m h. more-sum d (minus l t) b m (h .inside) (λ r. h .read r ∙ x .read _ ∙ w _) (omega (arith, h .past)))))
+          (after (minus l) (λ r. r) (λ t r. x .read _ ∙ w _) (term-right d (at + 1) (x .inside) (omega arith))
+          (λ t m h. more-sum d (minus l t) b m (h .inside) (λ r. h .read r ∙ x .read _ ∙ w _) (omega (arith, h .past)))))
         (λ e₂. skip i (λ ss. rw (e₁, e₂)) (done i w)))
 
   cmp-right : (at : ℕ) → at < length ks → Reads at (λ ss. sCmp ∷ ss) at (readCmp ks at)
@@ -279,18 +277,19 @@ module _ (ks : List ℕ) (ends : (a : ℕ) → suc a ≡ length ks → getD ks a
       (λ e. let x = eat at kUnequal i e refl in eatThen x (λ ss r. refl) (done (x .inside) (x .read)))
       (λ e6. stop i (cmpMark less) (λ r. kLess ∷ r) (λ r. refl) (λ ss. rw (e1, e2, e3, e4, e5, e6))))))))
 
-  atom-right : (d at : ℕ) → at < length ks → Fuel 4 d at → Reads at (λ ss. sAtom ∷ ss) at (readAtom ks d at)
+  atom-right : (d at : ℕ) → at < length ks → Fuel 5 d at → Reads at (λ ss. sAtom ∷ ss) at (readAtom ks d at)
   unfolding readAtom onto run step
-  atom-right d at i f =
+  atom-right zero at i f = absurd (omega arith)
+  atom-right (suc d) at i f =
       split (eqb (peek ks at) kTrue)
       (λ e. let x = eat at kTrue i e refl in eatThen x (λ ss r. refl) (done (x .inside) (x .read)))
       (λ e₁. split (eqb (peek ks at) kFalse)
       (λ e. let x = eat at kFalse i e refl in eatThen x (λ ss r. refl) (done (x .inside) (x .read)))
       (λ e₂. skip {S′ = λ ss. sSum ∷ sCmp ∷ sSum ∷ ss} i (λ ss. rw (e₁, e₂))
-      (after (λ a. compare a (cmpMark less) (addend (factor (number 0)))) (λ r. kLess ∷ kNumber ∷ r) (λ t r. refl) (sum-right d at i f)
-      (λ a m h. after (λ o. compare a o (addend (factor (number 0)))) (λ r. kNumber ∷ r) (λ t r. h .read _) (cmp-right m (h .inside))
-      (λ o n h₂. after (λ b. compare a o b) (λ r. r) (λ t r. h₂ .read _ ∙ h .read _) (sum-right d n (h₂ .inside) (omega (arith, h .past, h₂ .past)))
-      (λ b p h₃. done (h₃ .inside) (λ r. h₃ .read r ∙ h₂ .read _ ∙ h .read _)))))))
+        (after (λ a. compare a (cmpMark less) (addend (factor (number 0)))) (λ r. kLess ∷ kNumber ∷ r) (λ t r. refl) (sum-right d at i (omega arith))
+        (λ a m h. after (λ o. compare a o (addend (factor (number 0)))) (λ r. kNumber ∷ r) (λ t r. h .read _) (cmp-right m (h .inside))
+        (λ o n h₂. after (λ b. compare a o b) (λ r. r) (λ t r. h₂ .read _ ∙ h .read _) (sum-right d n (h₂ .inside) (omega (arith, h .past, h₂ .past)))
+        (λ b p h₃. done (h₃ .inside) (λ r. h₃ .read r ∙ h₂ .read _ ∙ h .read _)))))))
 
   more-conj : (d : ℕ) (l : Tree conj) (b at : ℕ) → at < length ks → ((r : List ℕ) → upto at r ≡ upto b (onto l r)) → Fuel 1 d at → Reads b (λ ss. sConjs ∷ ss) at (moreConj ks d l at)
   unfolding moreConj onto run step
@@ -298,11 +297,11 @@ module _ (ks : List ℕ) (ends : (a : ℕ) → suc a ≡ length ks → getD ks a
   more-conj (suc d) l b at i w f =
       split (eqb (peek ks at) kAnd)
       (λ e. let x = eat at kAnd i e refl in eatThen {S′ = λ ss. sAtom ∷ sConjs ∷ ss} x (λ ss r. refl)
-      (after (both l) (λ r. r) (λ t r. x .read _ ∙ w _) (atom-right d (at + 1) (x .inside) (omega arith))
-      (λ t m h. more-conj d (both l t) b m (h .inside) (λ r. h .read r ∙ x .read _ ∙ w _) (omega (arith, h .past)))))
+        (after (both l) (λ r. r) (λ t r. x .read _ ∙ w _) (atom-right d (at + 1) (x .inside) (omega arith))
+        (λ t m h. more-conj d (both l t) b m (h .inside) (λ r. h .read r ∙ x .read _ ∙ w _) (omega (arith, h .past)))))
       (λ e. skip i (λ ss. rw e) (done i w))
 
-  conj-right : (d at : ℕ) → at < length ks → Fuel 5 d at → Reads at (λ ss. sConj ∷ ss) at (readConj ks d at)
+  conj-right : (d at : ℕ) → at < length ks → Fuel 6 d at → Reads at (λ ss. sConj ∷ ss) at (readConj ks d at)
   unfolding readConj onto run step
   conj-right zero at i f = absurd (omega arith)
   conj-right (suc d) at i f = skip {S′ = λ ss. sAtom ∷ sConjs ∷ ss} i (λ ss. refl)
@@ -315,11 +314,11 @@ module _ (ks : List ℕ) (ends : (a : ℕ) → suc a ≡ length ks → getD ks a
   more-cond (suc d) l b at i w f =
       split (eqb (peek ks at) kOr)
       (λ e. let x = eat at kOr i e refl in eatThen {S′ = λ ss. sConj ∷ sConds ∷ ss} x (λ ss r. refl)
-      (after (either l) (λ r. r) (λ t r. x .read _ ∙ w _) (conj-right d (at + 1) (x .inside) (omega arith))
-      (λ t m h. more-cond d (either l t) b m (h .inside) (λ r. h .read r ∙ x .read _ ∙ w _) (omega (arith, h .past)))))
+        (after (either l) (λ r. r) (λ t r. x .read _ ∙ w _) (conj-right d (at + 1) (x .inside) (omega arith))
+        (λ t m h. more-cond d (either l t) b m (h .inside) (λ r. h .read r ∙ x .read _ ∙ w _) (omega (arith, h .past)))))
       (λ e. skip i (λ ss. rw e) (done i w))
 
-  pub cond-right : (d at : ℕ) → at < length ks → Fuel 6 d at → Reads at (λ ss. sCond ∷ ss) at (readCond ks d at)
+  pub cond-right : (d at : ℕ) → at < length ks → Fuel 7 d at → Reads at (λ ss. sCond ∷ ss) at (readCond ks d at)
   unfolding readCond onto run step
   cond-right zero at i f = absurd (omega arith)
   cond-right (suc d) at i f = skip {S′ = λ ss. sConj ∷ sConds ∷ ss} i (λ ss. refl)
@@ -337,30 +336,49 @@ module _ (ks : List ℕ) (ends : (a : ℕ) → suc a ≡ length ks → getD ks a
 
   -- a token that must come
   expects : {c : Cat} {b at : ℕ} {S′ : Stack → Stack} {r : Res c} (k : ℕ) (t : Tree c) (w : List ℕ → List ℕ) → at < length ks → eqb k 0 ≡ false → ((q : List ℕ) → upto at (w q) ≡ upto b (onto t q))
-      → (Eat at k → Reads b S′ (at + 1) r) → Reads b (λ ss. tok k ∷ S′ ss) at (expect ks k at r)
+    → (Eat at k → Reads b S′ (at + 1) r) → Reads b (λ ss. tok k ∷ S′ ss) at (expect ks k at r)
   unfolding run step
   expects {at = at} k t w i z e f =
       split (eqb (peek ks at) k)
       (λ q. let x = eat at k i q z in eatThen x (λ ss r. rw (eq-eqb k k refl)) (f x))
       (λ q. stop i t w e (λ ss. rw q))
 
-  sum-semi : (d b at : ℕ) (wrap : Tree sum → Tree stmt) → at < length ks → Fuel 4 d at → ((t : Tree sum) (r : List ℕ) → upto at (onto t (kSemi ∷ r)) ≡ upto b (onto (wrap t) r))
-      → Reads b (λ ss. sSum ∷ tok kSemi ∷ ss) at (andThen (readSum ks d at) (λ e m. expect ks kSemi m (ok (wrap e) (m + 1))))
-  sum-semi d b at wrap i f w =
-      after wrap (λ r. kSemi ∷ r) w (sum-right d at i f)
+  abbrev someCond : Tree cond
+  someCond = oneConj (oneAtom always)
+
+  guard-is : {e : Cat} (d x : ℕ) (f : Tree cond → ℕ → Res e) → andThen (readGuard ks (suc d) x) f ≡ expect ks kOpen x (andThen (readCond ks d (x + 1)) (λ c m. expect ks kClose m (f c (m + 1))))
+  unfolding readGuard
+  guard-is {e} d x f = go (eqb (peek ks x) kOpen) (readCond ks d (x + 1))
+    where
+      close : (c : Tree cond) (m : ℕ) (b : Bool) → _≡_ {A = Res e} (andThen (elim b [ true ↦ ok c (m + 1) | false ↦ bad m ]) f) (elim b [ true ↦ f c (m + 1) | false ↦ bad m ])
+      close c m true = refl
+      close c m false = refl
+
+      go : (b : Bool) (r : Res cond) → _≡_ {A = Res e} (andThen (elim b [ true ↦ andThen r (λ c m. expect ks kClose m (ok c (m + 1))) | false ↦ bad x ]) f) (elim b [ true ↦ andThen r (λ c m. expect ks kClose m (f c (m + 1))) | false ↦ bad x ])
+      go true (ok c m) = close c m (eqb (peek ks m) kClose)
+      go true (bad m) = refl
+      go false r = refl
+
+  -- a condition in brackets at x, and what comes after it; `form` makes a tree of it, and `tail` what is then missing
+  guard-then : {e : Cat} {b : ℕ} {S₂ : Stack → Stack} (f : Tree cond → ℕ → Res e) (d x : ℕ) → x < length ks → Fuel 1 (suc d) x → (form : Tree cond → Tree e) (tail : List ℕ → List ℕ)
+    → ((c : Tree cond) (r : List ℕ) → upto x (kOpen ∷ onto c (kClose ∷ tail r)) ≡ upto b (onto (form c) r))
+    → ((c : Tree cond) (m : ℕ) → x < m → m < length ks → ((r : List ℕ) → upto m r ≡ upto x (kOpen ∷ onto c (kClose ∷ r))) → Reads b S₂ m (f c m))
+    → Reads b (λ ss. tok kOpen ∷ sCond ∷ tok kClose ∷ S₂ ss) x (andThen (readGuard ks (suc d) x) f)
+  unfolding onto
+  guard-then {e} {b} {S₂} f d x i g form tail w h =
+      subst (λ (v : Res e). Reads b (λ ss. tok kOpen ∷ sCond ∷ tok kClose ∷ S₂ ss) x v) (sym (guard-is d x f))
+      (expects kOpen (form someCond) (λ r. kOpen ∷ kTrue ∷ kClose ∷ tail r) i refl (λ r. w someCond r)
+      (λ y. after form (λ r. kClose ∷ tail r) (λ t r. y .read _ ∙ w t r) (cond-right d (x + 1) (y .inside) (omega arith))
+      (λ c m k. expects kClose (form c) (λ r. kClose ∷ tail r) (k .inside) refl (λ r. k .read _ ∙ y .read _ ∙ w c r)
+      (λ z. h c (m + 1) (omega (arith, k .past)) (z .inside) (λ r. z .read _ ∙ k .read _ ∙ y .read _)))))
+
+  ended-right : (w : Tree sum → Tree stmt) (d b at : ℕ) → at < length ks → Fuel 5 d at → ((t : Tree sum) (r : List ℕ) → upto at (onto t (kSemi ∷ r)) ≡ upto b (onto (w t) r))
+    → Reads b (λ ss. sSum ∷ tok kSemi ∷ ss) at (readEnded ks w d at)
+  unfolding readEnded
+  ended-right wrap zero b at i f w = absurd (omega arith)
+  ended-right wrap (suc d) b at i f w =
+      after wrap (λ r. kSemi ∷ r) w (sum-right d at i (omega arith))
       (λ t m h. expects kSemi (wrap t) (λ r. kSemi ∷ r) (h .inside) refl (λ r. h .read _ ∙ w t r) (λ y. done (y .inside) (λ r. y .read r ∙ h .read _ ∙ w t r)))
-
-  eval-right : (d at : ℕ) → at < length ks → Fuel 4 d at → Reads at (λ ss. sSum ∷ tok kSemi ∷ ss) at (readEval ks d at)
-  unfolding readEval onto
-  eval-right d at i f = sum-semi d at at eval i f (λ t r. refl)
-
-  assign-right : (d at : ℕ) → Eat at kName → Eat (at + 1) kAssign → Fuel 4 d at → Reads at (λ ss. sSum ∷ tok kSemi ∷ ss) (at + 1 + 1) (readAssign ks d at)
-  unfolding readAssign onto
-  assign-right d at x y f = sum-semi d at (at + 1 + 1) (assign at) (y .inside) (omega arith) (λ t r. y .read _ ∙ x .read _)
-
-  return-right : (d at : ℕ) → Eat at kReturn → Fuel 4 d at → Reads at (λ ss. sSum ∷ tok kSemi ∷ ss) (at + 1) (readReturn ks d at)
-  unfolding readReturn onto
-  return-right d at x f = sum-semi d at (at + 1) (return at) (x .inside) (omega arith) (λ t r. x .read _)
 
   decl-right : (at : ℕ) → Eat at kInt → Reads at (λ ss. tok kName ∷ sDecl ∷ ss) (at + 1) (readDecl ks at)
   unfolding readDecl onto run step
@@ -382,13 +400,23 @@ module _ (ks : List ℕ) (ends : (a : ℕ) → suc a ≡ length ks → getD ks a
   two-ahead : (at : ℕ) → (x : Eat at kName) → drop at ks ≡ kName ∷ peek ks (at + 1) ∷ drop (at + 1 + 1) ks
   two-ahead at x = x .ahead ∙ ap (λ l. kName ∷ l) (head (at + 1) (x .inside))
 
-  abbrev someCond : Tree cond
-  someCond = oneConj (oneAtom always)
+  named-right : (d at : ℕ) → at < length ks → Eat at kName → Fuel 6 d at → Reads at (λ ss. sStmt ∷ ss) at (readNamed ks d at)
+  unfolding readNamed onto run step
+  named-right zero at i x f = absurd (omega arith)
+  named-right (suc d) at i x f =
+      split (eqb (peek ks (at + 1)) kAssign)
+      (λ e. let y = eat (at + 1) kAssign (x .inside) e refl in eatThen {S′ = λ ss. sNamed ∷ ss} x (λ ss r. refl)
+        (eatThen {S′ = λ ss. sSum ∷ tok kSemi ∷ ss} y (λ ss r. refl) (ended-right (assign at) d at (at + 1 + 1) (y .inside) (omega arith) (λ t r. y .read _ ∙ x .read _))))
+      (λ e. let z = two-ahead at x in move (le-refl _) (λ ss. ap (run (sStmt ∷ ss)) z ∙ named-run (peek ks (at + 1)) ss (drop (at + 1 + 1) ks) e ∙ sym (ap (run (sSum ∷ tok kSemi ∷ ss)) z))
+        (ended-right eval d at at i (omega arith) (λ t r. refl)))
+
+  fail-right : (at : ℕ) → Eat at kFail → Reads at (λ ss. tok kSemi ∷ ss) (at + 1) (readFail ks at)
+  unfolding readFail onto
+  fail-right at x = expects kSemi (fail at) (λ r. kSemi ∷ r) (x .inside) refl (λ r. x .read _) (λ y. done (y .inside) (λ r. y .read r ∙ x .read _))
 
   mutual
     unfolding readStmt onto run step
-
-    pub stmt-right : (d at : ℕ) → at < length ks → Fuel 5 d at → Reads at (λ ss. sStmt ∷ ss) at (readStmt ks d at)
+    pub stmt-right : (d at : ℕ) → at < length ks → Fuel 7 d at → Reads at (λ ss. sStmt ∷ ss) at (readStmt ks d at)
     stmt-right zero at i f = absurd (omega arith)
     stmt-right (suc d) at i f =
         split (eqb (peek ks at) kSemi)
@@ -396,52 +424,51 @@ module _ (ks : List ℕ) (ends : (a : ℕ) → suc a ≡ length ks → getD ks a
         (λ e₁. split (eqb (peek ks at) kInt)
         (λ e. let x = eat at kInt i e refl in eatThen {S′ = λ ss. tok kName ∷ sDecl ∷ ss} x (λ ss r. refl) (decl-right at x))
         (λ e₂. split (eqb (peek ks at) kName)
-        (λ e. let x = eat at kName i e refl in split (eqb (peek ks (at + 1)) kAssign)
-        (λ e′. let y = eat (at + 1) kAssign (x .inside) e′ refl in eatThen {S′ = λ ss. sNamed ∷ ss} x (λ ss r. refl) (eatThen {S′ = λ ss. sSum ∷ tok kSemi ∷ ss} y (λ ss r. refl) (assign-right d at x y (omega arith))))
-        (λ e′. let z = two-ahead at x in move (le-refl _) (λ ss. ap (run (sStmt ∷ ss)) z ∙ named-run (peek ks (at + 1)) ss (drop (at + 1 + 1) ks) e′ ∙ sym (ap (run (sSum ∷ tok kSemi ∷ ss)) z)) (eval-right d at i (omega arith))))
+        (λ e. named-right d at i (eat at kName i e refl) (omega arith))
         (λ e₃. split (eqb (peek ks at) kLbrace)
-        (λ e. let x = eat at kLbrace i e refl in eatThen {S′ = λ ss. sBody ∷ ss} x (λ ss r. refl)
-        (after (block at) (λ r. r) (λ t r. x .read _) (body-right d noStmts (at + 1) (at + 1) (x .inside) (λ r. refl) (omega arith))
-        (λ t m h. done (h .inside) (λ r. h .read r ∙ x .read _))))
+        (λ e. let x = eat at kLbrace i e refl in eatThen {S′ = λ ss. sBody ∷ ss} x (λ ss r. refl) (block-right d at x (omega arith)))
         (λ e₄. split (eqb (peek ks at) kIf)
         (λ e. let x = eat at kIf i e refl in eatThen {S′ = λ ss. tok kOpen ∷ sCond ∷ tok kClose ∷ sStmt ∷ tok kElse ∷ sStmt ∷ ss} x (λ ss r. refl) (if-right d at x (omega arith)))
         (λ e₅. split (eqb (peek ks at) kWhile)
         (λ e. let x = eat at kWhile i e refl in eatThen {S′ = λ ss. tok kOpen ∷ sCond ∷ tok kClose ∷ sStmt ∷ ss} x (λ ss r. refl) (while-right d at x (omega arith)))
         (λ e₆. split (eqb (peek ks at) kReturn)
-        (λ e. let x = eat at kReturn i e refl in eatThen {S′ = λ ss. sSum ∷ tok kSemi ∷ ss} x (λ ss r. refl) (return-right d at x (omega arith)))
+        (λ e. let x = eat at kReturn i e refl in eatThen {S′ = λ ss. sSum ∷ tok kSemi ∷ ss} x (λ ss r. refl) (ended-right (return at) d at (at + 1) (x .inside) (omega arith) (λ t r. x .read _)))
         (λ e₇. split (eqb (peek ks at) kFail)
-        (λ e. let x = eat at kFail i e refl in eatThen {S′ = λ ss. tok kSemi ∷ ss} x (λ ss r. refl)
-        (expects kSemi (fail at) (λ r. kSemi ∷ r) (x .inside) refl (λ r. x .read _) (λ y. done (y .inside) (λ r. y .read r ∙ x .read _))))
-        (λ e₈. skip {S′ = λ ss. sSum ∷ tok kSemi ∷ ss} i (λ ss. rw (e₁, e₂, e₃, e₄, e₅, e₆, e₇, e₈)) (eval-right d at i (omega arith))))))))))
+        (λ e. let x = eat at kFail i e refl in eatThen {S′ = λ ss. tok kSemi ∷ ss} x (λ ss r. refl) (fail-right at x))
+        (λ e₈. skip {S′ = λ ss. sSum ∷ tok kSemi ∷ ss} i (λ ss. rw (e₁, e₂, e₃, e₄, e₅, e₆, e₇, e₈)) (ended-right eval d at at i (omega arith) (λ t r. refl))))))))))
+
+    block-right : (d at : ℕ) → Eat at kLbrace → Fuel 1 d at → Reads at (λ ss. sBody ∷ ss) (at + 1) (readBlock ks d at)
+    block-right zero at x f = absurd (omega (arith, x .inside))
+    block-right (suc d) at x f =
+        after (block at) (λ r. r) (λ t r. x .read _) (body-right d noStmts (at + 1) (at + 1) (x .inside) (λ r. refl) (omega arith))
+        (λ t m h. done (h .inside) (λ r. h .read r ∙ x .read _))
 
     if-right : (d at : ℕ) → Eat at kIf → Fuel 1 d at → Reads at (λ ss. tok kOpen ∷ sCond ∷ tok kClose ∷ sStmt ∷ tok kElse ∷ sStmt ∷ ss) (at + 1) (readIf ks d at)
     if-right zero at x f = absurd (omega (arith, x .inside))
-    if-right (suc d) at x f =
-        expects kOpen (ifElse at someCond (empty 0) (empty 0)) (λ r. kOpen ∷ kTrue ∷ kClose ∷ kSemi ∷ kElse ∷ kSemi ∷ r) (x .inside) refl (λ r. x .read _)
-        (λ y. after (λ c. ifElse at c (empty 0) (empty 0)) (λ r. kClose ∷ kSemi ∷ kElse ∷ kSemi ∷ r) (λ t r. y .read _ ∙ x .read _) (cond-right d (at + 1 + 1) (y .inside) (omega arith))
-        (λ c m h. expects kClose (ifElse at c (empty 0) (empty 0)) (λ r. kClose ∷ kSemi ∷ kElse ∷ kSemi ∷ r) (h .inside) refl (λ r. h .read _ ∙ y .read _ ∙ x .read _)
-        (λ z. after (λ s. ifElse at c s (empty 0)) (λ r. kElse ∷ kSemi ∷ r) (λ t r. z .read _ ∙ h .read _ ∙ y .read _ ∙ x .read _) (stmt-right d (m + 1) (z .inside) (omega (arith, h .past)))
-        (λ s n g. expects kElse (ifElse at c s (empty 0)) (λ r. kElse ∷ kSemi ∷ r) (g .inside) refl (λ r. g .read _ ∙ z .read _ ∙ h .read _ ∙ y .read _ ∙ x .read _)
-        (λ u. after (λ t. ifElse at c s t) (λ r. r) (λ t r. u .read _ ∙ g .read _ ∙ z .read _ ∙ h .read _ ∙ y .read _ ∙ x .read _) (stmt-right d (n + 1) (u .inside) (omega (arith, h .past, g .past)))
-        (λ t p o. done (o .inside) (λ r. o .read r ∙ u .read _ ∙ g .read _ ∙ z .read _ ∙ h .read _ ∙ y .read _ ∙ x .read _)))))))
+    if-right (suc zero) at x f = absurd (omega (arith, x .inside))
+    if-right (suc (suc d)) at x f =
+        guard-then {S₂ = λ ss. sStmt ∷ tok kElse ∷ sStmt ∷ ss} _ d (at + 1) (x .inside) (omega arith) (λ c. ifElse at c (empty 0) (empty 0)) (λ r. kSemi ∷ kElse ∷ kSemi ∷ r) (λ c r. x .read _)
+        (λ c m l h y. after (λ s. ifElse at c s (empty 0)) (λ r. kElse ∷ kSemi ∷ r) (λ t r. y _ ∙ x .read _) (stmt-right (suc d) m h (omega arith))
+        (λ s n g. expects kElse (ifElse at c s (empty 0)) (λ r. kElse ∷ kSemi ∷ r) (g .inside) refl (λ r. g .read _ ∙ y _ ∙ x .read _)
+        (λ u. after (λ t. ifElse at c s t) (λ r. r) (λ t r. u .read _ ∙ g .read _ ∙ y _ ∙ x .read _) (stmt-right (suc d) (n + 1) (u .inside) (omega (arith, g .past)))
+        (λ t p o. done (o .inside) (λ r. o .read r ∙ u .read _ ∙ g .read _ ∙ y _ ∙ x .read _)))))
 
     while-right : (d at : ℕ) → Eat at kWhile → Fuel 1 d at → Reads at (λ ss. tok kOpen ∷ sCond ∷ tok kClose ∷ sStmt ∷ ss) (at + 1) (readWhile ks d at)
     while-right zero at x f = absurd (omega (arith, x .inside))
-    while-right (suc d) at x f =
-        expects kOpen (while at someCond (empty 0)) (λ r. kOpen ∷ kTrue ∷ kClose ∷ kSemi ∷ r) (x .inside) refl (λ r. x .read _)
-        (λ y. after (λ c. while at c (empty 0)) (λ r. kClose ∷ kSemi ∷ r) (λ t r. y .read _ ∙ x .read _) (cond-right d (at + 1 + 1) (y .inside) (omega arith))
-        (λ c m h. expects kClose (while at c (empty 0)) (λ r. kClose ∷ kSemi ∷ r) (h .inside) refl (λ r. h .read _ ∙ y .read _ ∙ x .read _)
-        (λ z. after (λ s. while at c s) (λ r. r) (λ t r. z .read _ ∙ h .read _ ∙ y .read _ ∙ x .read _) (stmt-right d (m + 1) (z .inside) (omega (arith, h .past)))
-        (λ s n g. done (g .inside) (λ r. g .read r ∙ z .read _ ∙ h .read _ ∙ y .read _ ∙ x .read _)))))
+    while-right (suc zero) at x f = absurd (omega (arith, x .inside))
+    while-right (suc (suc d)) at x f =
+        guard-then {S₂ = λ ss. sStmt ∷ ss} _ d (at + 1) (x .inside) (omega arith) (λ c. while at c (empty 0)) (λ r. kSemi ∷ r) (λ c r. x .read _)
+        (λ c m l h y. after (λ s. while at c s) (λ r. r) (λ t r. y _ ∙ x .read _) (stmt-right (suc d) m h (omega arith))
+        (λ s n g. done (g .inside) (λ r. g .read r ∙ y _ ∙ x .read _)))
 
-    pub body-right : (d : ℕ) (l : Tree stmts) (b at : ℕ) → at < length ks → ((r : List ℕ) → upto at r ≡ upto b (onto l r)) → Fuel 6 d at → Reads b (λ ss. sBody ∷ ss) at (moreBody ks d l at)
+    pub body-right : (d : ℕ) (l : Tree stmts) (b at : ℕ) → at < length ks → ((r : List ℕ) → upto at r ≡ upto b (onto l r)) → Fuel 8 d at → Reads b (λ ss. sBody ∷ ss) at (moreBody ks d l at)
     body-right zero l b at i w f = absurd (omega arith)
     body-right (suc d) l b at i w f =
         split (eqb (peek ks at) kRbrace)
         (λ e. let x = eat at kRbrace i e refl in eatThen x (λ ss r. refl) (done (x .inside) (λ r. x .read r ∙ w _)))
         (λ e. skip {S′ = λ ss. sStmt ∷ sBody ∷ ss} i (λ ss. rw e)
-        (after (λ s. braced (moreStmts l s) 0) (λ r. kRbrace ∷ r) (λ t r. w _) (stmt-right d at i (omega arith))
-        (λ s m h. body-right d (moreStmts l s) b m (h .inside) (λ r. h .read r ∙ w _) (omega (arith, strict h)))))
+          (after (λ s. braced (moreStmts l s) 0) (λ r. kRbrace ∷ r) (λ t r. w _) (stmt-right d at i (omega arith))
+          (λ s m h. body-right d (moreStmts l s) b m (h .inside) (λ r. h .read r ∙ w _) (omega (arith, strict h)))))
 
   more-params : (d : ℕ) (l : Tree paramList) (b at : ℕ) → at < length ks → ((r : List ℕ) → upto at r ≡ upto b (onto l r)) → Fuel 1 d at → Reads b (λ ss. sParamMore ∷ ss) at (moreParams ks d l at)
   unfolding moreParams onto run step
@@ -449,26 +476,28 @@ module _ (ks : List ℕ) (ends : (a : ℕ) → suc a ≡ length ks → getD ks a
   more-params (suc d) l b at i w f =
       split (eqb (peek ks at) kComma)
       (λ e. let x = eat at kComma i e refl in eatThen {S′ = λ ss. tok kInt ∷ tok kName ∷ sParamMore ∷ ss} x (λ ss r. refl)
-      (expects kInt (someParams (nextParam l 0)) (λ r. kInt ∷ kName ∷ kClose ∷ r) (x .inside) refl (λ r. x .read _ ∙ w _)
-      (λ y. expects kName (someParams (nextParam l 0)) (λ r. kName ∷ kClose ∷ r) (y .inside) refl (λ r. y .read _ ∙ x .read _ ∙ w _)
-      (λ z. more-params d (nextParam l (at + 1 + 1)) b (at + 1 + 1 + 1) (z .inside) (λ r. z .read _ ∙ y .read _ ∙ x .read _ ∙ w _) (omega arith)))))
+        (expects kInt (someParams (nextParam l 0)) (λ r. kInt ∷ kName ∷ kClose ∷ r) (x .inside) refl (λ r. x .read _ ∙ w _)
+        (λ y. expects kName (someParams (nextParam l 0)) (λ r. kName ∷ kClose ∷ r) (y .inside) refl (λ r. y .read _ ∙ x .read _ ∙ w _)
+        (λ z. more-params d (nextParam l (at + 1 + 1)) b (at + 1 + 1 + 1) (z .inside) (λ r. z .read _ ∙ y .read _ ∙ x .read _ ∙ w _) (omega arith)))))
       (λ e₁. split (eqb (peek ks at) kClose)
       (λ e. let x = eat at kClose i e refl in eatThen x (λ ss r. refl) (done (x .inside) (λ r. x .read r ∙ w _)))
       (λ e₂. stop i (someParams l) (λ r. kClose ∷ r) (λ r. w _) (λ ss. rw (e₁, e₂))))
 
   params-right : (d at : ℕ) → at < length ks → Fuel 1 d at → Reads at (λ ss. sParams ∷ ss) at (readParams ks d at)
   unfolding readParams onto run step
-  params-right d at i f =
+  params-right zero at i f = absurd (omega arith)
+  params-right (suc d) at i f =
       split (eqb (peek ks at) kClose)
       (λ e. let x = eat at kClose i e refl in eatThen x (λ ss r. refl) (done (x .inside) (x .read)))
       (λ e. skip {S′ = λ ss. tok kInt ∷ tok kName ∷ sParamMore ∷ ss} i (λ ss. rw e)
-      (expects kInt noParams (λ r. kClose ∷ r) i refl (λ r. refl)
-      (λ y. expects kName (someParams (firstParam 0)) (λ r. kName ∷ kClose ∷ r) (y .inside) refl (λ r. y .read _)
-      (λ z. more-params d (firstParam (at + 1)) at (at + 1 + 1) (z .inside) (λ r. z .read _ ∙ y .read _) (omega arith)))))
+        (expects kInt noParams (λ r. kClose ∷ r) i refl (λ r. refl)
+        (λ y. expects kName (someParams (firstParam 0)) (λ r. kName ∷ kClose ∷ r) (y .inside) refl (λ r. y .read _)
+        (λ z. more-params d (firstParam (at + 1)) at (at + 1 + 1) (z .inside) (λ r. z .read _ ∙ y .read _) (omega arith)))))
 
-  fun-right : (d at : ℕ) → Eat at kInt → Fuel 0 d at → Reads at (λ ss. tok kName ∷ tok kOpen ∷ sParams ∷ tok kLbrace ∷ sBody ∷ ss) (at + 1) (readFun ks d at)
+  fun-right : (d at : ℕ) → Eat at kInt → Fuel 1 d at → Reads at (λ ss. tok kName ∷ tok kOpen ∷ sParams ∷ tok kLbrace ∷ sBody ∷ ss) (at + 1) (readFun ks d at)
   unfolding readFun onto run step
-  fun-right d at x f =
+  fun-right zero at x f = absurd (omega (arith, x .inside))
+  fun-right (suc d) at x f =
       expects kName (function 0 noParams (braced noStmts 0)) (λ r. kName ∷ kOpen ∷ kClose ∷ kLbrace ∷ kRbrace ∷ r) (x .inside) refl (λ r. x .read _)
       (λ y. expects kOpen (function 0 noParams (braced noStmts 0)) (λ r. kOpen ∷ kClose ∷ kLbrace ∷ kRbrace ∷ r) (y .inside) refl (λ r. y .read _ ∙ x .read _)
       (λ z. after (λ p. function 0 p (braced noStmts 0)) (λ r. kLbrace ∷ kRbrace ∷ r) (λ t r. z .read _ ∙ y .read _ ∙ x .read _) (params-right d (at + 1 + 1 + 1) (z .inside) (omega arith))
@@ -476,12 +505,12 @@ module _ (ks : List ℕ) (ends : (a : ℕ) → suc a ≡ length ks → getD ks a
       (λ u. after (λ b. function 0 p b) (λ r. r) (λ t r. u .read _ ∙ h .read _ ∙ z .read _ ∙ y .read _ ∙ x .read _) (body-right d noStmts (m + 1) (m + 1) (u .inside) (λ r. refl) (omega (arith, h .past)))
       (λ b n g. done (g .inside) (λ r. g .read r ∙ u .read _ ∙ h .read _ ∙ z .read _ ∙ y .read _ ∙ x .read _))))))
 
-  pub prog-right : (d : ℕ) (l : Tree prog) (b at : ℕ) → at < length ks → ((r : List ℕ) → upto at r ≡ upto b (onto l r)) → Fuel 1 d at → Reads b (λ ss. sFuns ∷ ss) at (moreProg ks d l at)
+  pub prog-right : (d : ℕ) (l : Tree prog) (b at : ℕ) → at < length ks → ((r : List ℕ) → upto at r ≡ upto b (onto l r)) → Fuel 2 d at → Reads b (λ ss. sFuns ∷ ss) at (moreProg ks d l at)
   unfolding moreProg onto run step
   prog-right zero l b at i w f = absurd (omega arith)
   prog-right (suc d) l b at i w f =
       split (eqb (peek ks at) kInt)
       (λ e. let x = eat at kInt i e refl in eatThen {S′ = λ ss. tok kName ∷ tok kOpen ∷ sParams ∷ tok kLbrace ∷ sBody ∷ sFuns ∷ ss} x (λ ss r. refl)
-      (after {S₁ = λ ss. tok kName ∷ tok kOpen ∷ sParams ∷ tok kLbrace ∷ sBody ∷ ss} (λ t. moreFuns l t) (λ r. r) (λ t r. w _) (fun-right d at x (omega arith))
-      (λ t m h. prog-right d (moreFuns l t) b m (h .inside) (λ r. h .read r ∙ w _) (omega (arith, h .past)))))
+        (after {S₁ = λ ss. tok kName ∷ tok kOpen ∷ sParams ∷ tok kLbrace ∷ sBody ∷ ss} (λ t. moreFuns l t) (λ r. r) (λ t r. w _) (fun-right d at x (omega arith))
+        (λ t m h. prog-right d (moreFuns l t) b m (h .inside) (λ r. h .read r ∙ w _) (omega (arith, h .past)))))
       (λ e. skip i (λ ss. rw e) (done i w))

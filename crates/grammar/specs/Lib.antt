@@ -1,2 +1,4 @@
 -- The readers: from tokens to the syntax tree.
 pub mod Parse
+pub mod Readers
+pub mod Answer

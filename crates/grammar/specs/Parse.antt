@@ -154,26 +154,18 @@ module _ (ks : List ℕ) where
 
   -- "operands are true, false or two expressions with one of .. between"
   unfoldable pub readAtom : ℕ → ℕ → Res atom
-  readAtom d at =
-      elim (eqb (peek at) kTrue) [
-        | true ↦ ok always (at + 1)
-        | false ↦
-            elim (eqb (peek at) kFalse) [
-              | true ↦ ok never (at + 1)
-              | false ↦
-                  andThen (readSum d at) (λ a m. andThen (readCmp m) (λ o n. andThen (readSum d n) (λ b p. ok (compare a o b) p)))
-            ]
-      ]
+  readAtom zero at = bad at
+  readAtom (suc d) at =
+      elim (eqb (peek at) kTrue) [ true ↦ ok always (at + 1) | false ↦
+      elim (eqb (peek at) kFalse) [ true ↦ ok never (at + 1) | false ↦
+      andThen (readSum d at) (λ a m. andThen (readCmp m) (λ o n. andThen (readSum d n) (λ b p. ok (compare a o b) p))) ] ]
 
   -- what follows the conjunction l
   unfoldable pub moreConj : ℕ → Tree conj → ℕ → Res conj
   moreConj zero l at = bad at
   moreConj (suc d) l at =
-      elim (eqb (peek at) kAnd) [
-        | true ↦ andThen (readAtom d (at + 1)) (λ a m. moreConj d (both l a) m)
-        | false ↦
-            ok l at
-      ]
+      elim (eqb (peek at) kAnd) [ true ↦ andThen (readAtom d (at + 1)) (λ a m. moreConj d (both l a) m) | false ↦
+      ok l at ]
 
   -- "`&&` above `||`, left to right"
   unfoldable pub readConj : ℕ → ℕ → Res conj
@@ -184,128 +176,99 @@ module _ (ks : List ℕ) where
   unfoldable pub moreCond : ℕ → Tree cond → ℕ → Res cond
   moreCond zero l at = bad at
   moreCond (suc d) l at =
-      elim (eqb (peek at) kOr) [
-        | true ↦ andThen (readConj d (at + 1)) (λ c m. moreCond d (either l c) m)
-        | false ↦
-            ok l at
-      ]
+      elim (eqb (peek at) kOr) [ true ↦ andThen (readConj d (at + 1)) (λ c m. moreCond d (either l c) m) | false ↦
+      ok l at ]
 
   -- a condition
   unfoldable pub readCond : ℕ → ℕ → Res cond
   readCond zero at = bad at
   readCond (suc d) at = andThen (readConj d at) (λ c m. moreCond d (oneConj c) m)
 
-  -- e ;
-  unfoldable pub readEval : ℕ → ℕ → Res stmt
-  readEval d at = andThen (readSum d at) (λ e m. expect kSemi m (ok (eval e) (m + 1)))
+  -- `(b)` of an if or a while
+  unfoldable pub readGuard : ℕ → ℕ → Res cond
+  readGuard zero at = bad at
+  readGuard (suc d) at = expect kOpen at (andThen (readCond d (at + 1)) (λ c m. expect kClose m (ok c (m + 1))))
 
-  -- x = e ;
-  unfoldable pub readAssign : ℕ → ℕ → Res stmt
-  readAssign d at = andThen (readSum d (at + 1 + 1)) (λ e m. expect kSemi m (ok (assign at e) (m + 1)))
+  -- `e;` as the statement w e
+  unfoldable pub readEnded : (Tree sum → Tree stmt) → ℕ → ℕ → Res stmt
+  readEnded w zero at = bad at
+  readEnded w (suc d) at = andThen (readSum d at) (λ e m. expect kSemi m (ok (w e) (m + 1)))
 
-  -- int x ; or int x free ;
+  -- `x = e;`, or `e;` that begins with the name x
+  unfoldable pub readNamed : ℕ → ℕ → Res stmt
+  readNamed zero at = bad at
+  readNamed (suc d) at =
+      elim (eqb (peek (at + 1)) kAssign) [ true ↦ readEnded (assign at) d (at + 1 + 1) | false ↦
+      readEnded eval d at ]
+
+  -- `int x;` or `int x free;`
   unfoldable pub readDecl : ℕ → Res stmt
   readDecl at =
-      expect kName (at + 1) (elim (eqb (peek (at + 1 + 1)) kSemi) [
-        | true ↦ ok (declare at) (at + 1 + 1 + 1)
-        | false ↦
-            expect kFree (at + 1 + 1) (expect kSemi (at + 1 + 1 + 1) (ok (declareFree at) (at + 1 + 1 + 1 + 1)))
-      ])
+      expect kName (at + 1) (elim (eqb (peek (at + 1 + 1)) kSemi) [ true ↦ ok (declare at) (at + 1 + 1 + 1) | false ↦
+      expect kFree (at + 1 + 1) (expect kSemi (at + 1 + 1 + 1) (ok (declareFree at) (at + 1 + 1 + 1 + 1))) ])
 
-  -- return e ;
-  unfoldable pub readReturn : ℕ → ℕ → Res stmt
-  readReturn d at = andThen (readSum d (at + 1)) (λ e m. expect kSemi m (ok (return at e) (m + 1)))
+  -- `fail;`
+  unfoldable pub readFail : ℕ → Res stmt
+  readFail at = expect kSemi (at + 1) (ok (fail at) (at + 1 + 1))
 
   unfoldable mutual
-    -- a statement: its first token decides; of two that begin with a name, the second
+    -- a statement: its first token decides
     pub readStmt : ℕ → ℕ → Res stmt
     readStmt zero at = bad at
     readStmt (suc d) at =
-        elim (eqb (peek at) kSemi) [
-          | true ↦ ok (empty at) (at + 1)
-          | false ↦
-              elim (eqb (peek at) kInt) [
-                | true ↦ readDecl at
-                | false ↦
-                    elim (eqb (peek at) kName) [
-                      | true ↦ elim (eqb (peek (at + 1)) kAssign) [ true ↦ readAssign d at | false ↦ readEval d at ]
-                      | false ↦
-                          elim (eqb (peek at) kLbrace) [
-                            | true ↦ andThen (moreBody d noStmts (at + 1)) (λ b m. ok (block at b) m)
-                            | false ↦
-                                elim (eqb (peek at) kIf) [
-                                  | true ↦ readIf d at
-                                  | false ↦
-                                      elim (eqb (peek at) kWhile) [
-                                        | true ↦ readWhile d at
-                                        | false ↦
-                                            elim (eqb (peek at) kReturn) [
-                                              | true ↦ readReturn d at
-                                              | false ↦
-                                                  elim (eqb (peek at) kFail) [
-                                                    | true ↦ expect kSemi (at + 1) (ok (fail at) (at + 1 + 1))
-                                                    | false ↦
-                                                        readEval d at
-                                                  ]
-                                            ]
-                                      ]
-                                ]
-                          ]
-                    ]
-              ]
-        ]
+        elim (eqb (peek at) kSemi) [ true ↦ ok (empty at) (at + 1) | false ↦
+        elim (eqb (peek at) kInt) [ true ↦ readDecl at | false ↦
+        elim (eqb (peek at) kName) [ true ↦ readNamed d at | false ↦
+        elim (eqb (peek at) kLbrace) [ true ↦ readBlock d at | false ↦
+        elim (eqb (peek at) kIf) [ true ↦ readIf d at | false ↦
+        elim (eqb (peek at) kWhile) [ true ↦ readWhile d at | false ↦
+        elim (eqb (peek at) kReturn) [ true ↦ readEnded (return at) d (at + 1) | false ↦
+        elim (eqb (peek at) kFail) [ true ↦ readFail at | false ↦
+        readEnded eval d at ] ] ] ] ] ] ] ]
+
+    -- `{ statements }`
+    pub readBlock : ℕ → ℕ → Res stmt
+    readBlock zero at = bad at
+    readBlock (suc d) at = andThen (moreBody d noStmts (at + 1)) (λ b m. ok (block at b) m)
 
     -- `if (b) s else s`
     pub readIf : ℕ → ℕ → Res stmt
     readIf zero at = bad at
     readIf (suc d) at =
-        expect kOpen (at + 1) (andThen (readCond d (at + 1 + 1)) (λ c m. expect kClose m
-        (andThen (readStmt d (m + 1)) (λ s n. expect kElse n
-        (andThen (readStmt d (n + 1)) (λ t p. ok (ifElse at c s t) p))))))
+        andThen (readGuard d (at + 1)) (λ c m. andThen (readStmt d m) (λ s n.
+        expect kElse n (andThen (readStmt d (n + 1)) (λ t p. ok (ifElse at c s t) p))))
 
     -- `while (b) s`
     pub readWhile : ℕ → ℕ → Res stmt
     readWhile zero at = bad at
-    readWhile (suc d) at =
-        expect kOpen (at + 1) (andThen (readCond d (at + 1 + 1)) (λ c m. expect kClose m
-        (andThen (readStmt d (m + 1)) (λ s n. ok (while at c s) n))))
+    readWhile (suc d) at = andThen (readGuard d (at + 1)) (λ c m. andThen (readStmt d m) (λ s n. ok (while at c s) n))
 
     -- what follows the statements l: the closing brace, or one more
     pub moreBody : ℕ → Tree stmts → ℕ → Res body
     moreBody zero l at = bad at
     moreBody (suc d) l at =
-        elim (eqb (peek at) kRbrace) [
-          | true ↦ ok (braced l at) (at + 1)
-          | false ↦
-              andThen (readStmt d at) (λ s m. moreBody d (moreStmts l s) m)
-        ]
+        elim (eqb (peek at) kRbrace) [ true ↦ ok (braced l at) (at + 1) | false ↦
+        andThen (readStmt d at) (λ s m. moreBody d (moreStmts l s) m) ]
 
   -- what follows the parameters l: a comma and one more, or the closing bracket
   unfoldable pub moreParams : ℕ → Tree paramList → ℕ → Res params
   moreParams zero l at = bad at
   moreParams (suc d) l at =
-      elim (eqb (peek at) kComma) [
-        | true ↦ expect kInt (at + 1) (expect kName (at + 1 + 1) (moreParams d (nextParam l (at + 1 + 1)) (at + 1 + 1 + 1)))
-        | false ↦
-            elim (eqb (peek at) kClose) [
-              | true ↦ ok (someParams l) (at + 1)
-              | false ↦
-                  bad at
-            ]
-      ]
+      elim (eqb (peek at) kComma) [ true ↦ expect kInt (at + 1) (expect kName (at + 1 + 1) (moreParams d (nextParam l (at + 1 + 1)) (at + 1 + 1 + 1))) | false ↦
+      elim (eqb (peek at) kClose) [ true ↦ ok (someParams l) (at + 1) | false ↦
+      bad at ] ]
 
   -- the parameters with the closing bracket: "each parameter `int name`, comma between"
   unfoldable pub readParams : ℕ → ℕ → Res params
-  readParams d at =
-      elim (eqb (peek at) kClose) [
-        | true ↦ ok noParams (at + 1)
-        | false ↦
-            expect kInt at (expect kName (at + 1) (moreParams d (firstParam (at + 1)) (at + 1 + 1)))
-      ]
+  readParams zero at = bad at
+  readParams (suc d) at =
+      elim (eqb (peek at) kClose) [ true ↦ ok noParams (at + 1) | false ↦
+      expect kInt at (expect kName (at + 1) (moreParams d (firstParam (at + 1)) (at + 1 + 1))) ]
 
   -- `int name ( parameters ) { statements }`
   unfoldable pub readFun : ℕ → ℕ → Res fun
-  readFun d at =
+  readFun zero at = bad at
+  readFun (suc d) at =
       expect kName (at + 1) (expect kOpen (at + 1 + 1) (andThen (readParams d (at + 1 + 1 + 1)) (λ p m.
       expect kLbrace m (andThen (moreBody d noStmts (m + 1)) (λ b n. ok (function (at + 1) p b) n)))))
 
@@ -313,11 +276,8 @@ module _ (ks : List ℕ) where
   unfoldable pub moreProg : ℕ → Tree prog → ℕ → Res prog
   moreProg zero l at = bad at
   moreProg (suc d) l at =
-      elim (eqb (peek at) kInt) [
-        | true ↦ andThen (readFun d at) (λ f m. moreProg d (moreFuns l f) m)
-        | false ↦
-            ok l at
-      ]
+      elim (eqb (peek at) kInt) [ true ↦ andThen (readFun d at) (λ f m. moreProg d (moreFuns l f) m) | false ↦
+      ok l at ]
 
   -- a whole text: functions, and then the end
   unfoldable pub readText : ℕ → Res prog

@@ -45,7 +45,7 @@ fn miscount(
     }
 }
 
-// The name of the first call in n events that has a wrong count of arguments, by the h functions.
+// The least of the called names in n events whose call has a wrong count of arguments, by the h functions.
 pub fn miscalls(
     text: &[u8],
     places: &[u32],

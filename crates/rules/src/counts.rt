@@ -73,7 +73,7 @@ fn exceeds(tally: Tally, item: Item, best: Broken) -> Broken
     }
 }
 
-// The first name in n events that is one too many.
+// The least of the names in n events that are one too many.
 pub fn too_many(events: &[u32], n: usize) -> Broken
     requires { ⌜ 3 * n ≤ length (now events) ⌝ }
     ensures { λ r. ⌜ place r ≡ least (tooMany (stored (now (events .entry)) n)) ⌝ }

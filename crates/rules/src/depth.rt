@@ -27,7 +27,7 @@ fn deeper(item: Item, best: Broken) -> Broken
     }
 }
 
-// The first token of the first thing in n events that is deeper than 24.
+// The least of the first tokens of the things in n events that are deeper than 24.
 pub fn too_deep(events: &[u32], n: usize) -> Broken
     requires { ⌜ 3 * n ≤ length (now events) ⌝ }
     ensures { λ r. ⌜ place r ≡ least (tooDeep (stored (now (events .entry)) n)) ⌝ }

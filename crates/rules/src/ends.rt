@@ -21,7 +21,7 @@ fn reached(item: Item, best: Broken) -> Broken
     }
 }
 
-// The closing brace of the first body in n events that can reach its end.
+// The least of the closing braces of the bodies in n events that can reach their end.
 pub fn open_ends(events: &[u32], n: usize) -> Broken
     requires { ⌜ 3 * n ≤ length (now events) ⌝ }
     ensures { λ r. ⌜ place r ≡ least (openEnds (stored (now (events .entry)) n)) ⌝ }

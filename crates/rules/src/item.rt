@@ -18,6 +18,7 @@ pub enum Item {
     Ends { token: usize, open: bool },
 }
 
+// A word as a number of the machine's size.
 fn wide(x: u32) -> usize
     ensures { λ r. ⌜ r ≡ x ⌝ }
 {

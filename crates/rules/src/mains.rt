@@ -48,7 +48,7 @@ fn main_with(
     best
 }
 
-// The name of the first main of h functions that has parameters.
+// The least of the names of those of h functions that are main and have parameters.
 fn mains_with(text: &[u8], places: &[u32], values: &[u32], heads: &[u32], h: usize) -> Broken
     requires { ⌜ 2 * h ≤ length (now heads) ⌝ }
     ensures { λ r. ⌜ place r ≡ least (withParameters (isMain (now (text .entry)) (now (places .entry)) (now (values .entry))) (mains (isMain (now (text .entry)) (now (places .entry)) (now (values .entry))) (storedHeads (now (heads .entry)) h))) ⌝ }

@@ -33,6 +33,12 @@ pub data Ordered (l : List ℕ) : ℕ → ℕ → Type 0 where
   none : {end : ℕ} → Ordered l zero end
   more : {b end : ℕ} → start l b ≤ end → Ordered l b (start l b) → Ordered l (suc b) end
 
+-- b blocks, and the declarations before `end`, are in the words
+pub record Held (l : List ℕ) (b end : ℕ) : Type 0 where
+  pub ordered : Ordered l b end
+  pub blocks : 3 * b ≤ length l
+  pub declarations : 3 * end ≤ length l
+
 -- the blocks are in the words, and there is room for one more declaration
 pub record Room (l : List ℕ) (s : Scope) : Type 0 where
   pub ordered : Ordered l (s .blocks) (s .seen)

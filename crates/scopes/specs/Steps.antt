@@ -3,13 +3,30 @@ use Prim.Native.Nat.{ℕ, _<_}
 use mathlib.Core.Path.{_≡_}
 use mathlib.Core.Bool.{Bool}
 use mathlib.Core.List.{List, [], _∷_, _++_}
-use mathlib.Core.Option.{Option}
+use mathlib.Core.Option.{Option, none}
 use lib.ListN.{length, getD, set}
 use Rattle.events.specs.Event.{Event, function, parameter, thing, opens, closes, declares, uses, calls, ends}
 use Rattle.rules.specs.Scan as S
 use Rattle.rules.specs.Answers.{leastWith}
-use Rattle.rules.specs.Rules.{Head}
-use Rattle.rules.specs.Names.{Scope, misnamed, uncalled, badNames, Meaning, meant, meanings}
+use Rattle.rules.specs.Rules.{Head, functionOf}
+use Rattle.rules.specs.Names.{
+  Declared,
+  Scope,
+  entered,
+  nowhere,
+  sought,
+  ifFound,
+  unlessFound,
+  misnamed,
+  uncalled,
+  badNames,
+  Meaning,
+  meaning,
+  asFound,
+  named,
+  meanings,
+  meant,
+}
 
 -- the token of an event, 0 where it has none
 unfoldable pub tokenOf : Event → ℕ
@@ -36,6 +53,23 @@ noted l (m ∷ ms) = noted (set l (m .token) (m .means)) ms
 pub record Seen (tokens : List ℕ) (meanings : List Meaning) (best : Option ℕ) (slots : List ℕ) (best′ : Option ℕ) (slots′ : List ℕ) : Type 0 where
   pub least : best′ ≡ leastWith tokens best
   pub written : slots′ ≡ noted slots meanings
+
+-- a name is declared, as number n; a variable is read or assigned; a function is called
+abbrev pub SeenDeclaration : (ℕ → ℕ → Bool) → List (List Declared) → ℕ → ℕ → Option ℕ → List ℕ → Option ℕ → List ℕ → Type 0
+SeenDeclaration same bs n i p l p′ l′ = Seen (ifFound same (sought same bs i) i) (meaning i n ∷ []) p l p′ l′
+
+abbrev pub SeenVariable : (ℕ → ℕ → Bool) → List (List Declared) → ℕ → Option ℕ → List ℕ → Option ℕ → List ℕ → Type 0
+SeenVariable same bs i p l p′ l′ = Seen (unlessFound same (sought same bs i) i) (asFound (sought same bs i) i) p l p′ l′
+
+abbrev pub SeenCall : (ℕ → ℕ → Bool) → List Head → ℕ → Option ℕ → List ℕ → Option ℕ → List ℕ → Type 0
+SeenCall same hs i p l p′ l′ = Seen (unlessFound same (functionOf same hs i) i) (asFound (functionOf same hs i) i) p l p′ l′
+
+-- an event in a scope; all events
+abbrev pub SeenEvent : (ℕ → ℕ → Bool) → List Head → Scope → Event → Option ℕ → List ℕ → Option ℕ → List ℕ → Type 0
+SeenEvent same hs s e p l p′ l′ = Seen (wrong same hs s e) (named same hs s e) p l p′ l′
+
+abbrev pub SeenEvents : (ℕ → ℕ → Bool) → List Head → List Event → List ℕ → Option ℕ → List ℕ → Type 0
+SeenEvents same hs es l p′ l′ = Seen (S.scan entered (wrong same hs) nowhere es) (S.scan entered (named same hs) nowhere es) none l p′ l′
 
 -- rule 6 is judged over the events es, and what each name means is written at its token
 pub record Named (same : ℕ → ℕ → Bool) (es : List Event) (slots : List ℕ) (best : Option ℕ) (slots′ : List ℕ) : Type 0 where

@@ -1,18 +1,16 @@
 // Rule 6 over the events of a text, and what each name means.
 ghost use mathlib.Core.Path.{_≡_};
-ghost use mathlib.Core.List.{[], _∷_};
-ghost use mathlib.Core.Option.{none};
+ghost use mathlib.Core.List.{[]};
 ghost use Prim.Native.Nat.{_+_, _*_, _^_, _≤_, _<_};
 ghost use lib.ListN.{length, set};
 ghost use Rattle.rules.specs.Spelling.{sameName};
 ghost use Rattle.events.specs.Stored.{stored};
-ghost use Rattle.rules.specs.Scan.{scan};
 ghost use Rattle.rules.specs.Rules as R;
 ghost use Rattle.rules.specs.Rules.{functionOf};
-ghost use Rattle.rules.specs.Names.{sought, ifFound, unlessFound, meaning, asFound, named, entered, nowhere, repeated};
+ghost use Rattle.rules.specs.Names.{ifFound, repeated};
 ghost use Rattle.rules.specs.Answers.{event, place, leastWith, storedHeads};
-ghost use Rattle.scopes.specs.Memory.{Ordered, blocksOf, scopeOf};
-ghost use Rattle.scopes.specs.Steps.{wrong, Seen, Named};
+ghost use Rattle.scopes.specs.Memory.{Held, blocksOf, scopeOf};
+ghost use Rattle.scopes.specs.Steps.{SeenDeclaration, SeenVariable, SeenCall, SeenEvent, SeenEvents, Named};
 use crate::lookup::Sought;
 use crate::lookup::seek;
 use crate::scope::Scope;
@@ -48,8 +46,8 @@ fn see_declaration(
     i: usize,
     best: Broken,
 ) -> Broken
-    requires { ⌜ (Ordered (now scope) blocks seen) × (3 * blocks ≤ length (now scope)) × (3 * seen ≤ length (now scope)) × (next < 2 ^ 32) ⌝ }
-    ensures { λ r. ⌜ Seen (ifFound (sameName (now (text .entry)) (now (places .entry)) (now (values .entry))) (sought (sameName (now (text .entry)) (now (places .entry)) (now (values .entry))) (blocksOf (now (scope .entry)) blocks seen) i) i) (meaning i next ∷ []) (place best) (now (slots .entry)) (place r) (now (slots .exit)) ⌝ }
+    requires { ⌜ (Held (now scope) blocks seen) × (next < 2 ^ 32) ⌝ }
+    ensures { λ r. ⌜ SeenDeclaration (sameName (now (text .entry)) (now (places .entry)) (now (values .entry))) (blocksOf (now (scope .entry)) blocks seen) next i (place best) (now (slots .entry)) (place r) (now (slots .exit)) ⌝ }
 {
     write(slots, i, next);
     match seek(text, places, values, scope, blocks, seen, i) {
@@ -70,8 +68,8 @@ fn see_variable(
     i: usize,
     best: Broken,
 ) -> Broken
-    requires { ⌜ (Ordered (now scope) blocks seen) × (3 * blocks ≤ length (now scope)) × (3 * seen ≤ length (now scope)) ⌝ }
-    ensures { λ r. ⌜ Seen (unlessFound (sameName (now (text .entry)) (now (places .entry)) (now (values .entry))) (sought (sameName (now (text .entry)) (now (places .entry)) (now (values .entry))) (blocksOf (now (scope .entry)) blocks seen) i) i) (asFound (sought (sameName (now (text .entry)) (now (places .entry)) (now (values .entry))) (blocksOf (now (scope .entry)) blocks seen) i) i) (place best) (now (slots .entry)) (place r) (now (slots .exit)) ⌝ }
+    requires { ⌜ Held (now scope) blocks seen ⌝ }
+    ensures { λ r. ⌜ SeenVariable (sameName (now (text .entry)) (now (places .entry)) (now (values .entry))) (blocksOf (now (scope .entry)) blocks seen) i (place best) (now (slots .entry)) (place r) (now (slots .exit)) ⌝ }
 {
     match seek(text, places, values, scope, blocks, seen, i) {
         Sought::Nothing => lesser(i, best),
@@ -94,7 +92,7 @@ fn see_call(
     best: Broken,
 ) -> Broken
     requires { ⌜ (2 * h ≤ length (now heads)) × (h < 2 ^ 32) ⌝ }
-    ensures { λ r. ⌜ Seen (unlessFound (sameName (now (text .entry)) (now (places .entry)) (now (values .entry))) (functionOf (sameName (now (text .entry)) (now (places .entry)) (now (values .entry))) (storedHeads (now (heads .entry)) h) i) i) (asFound (functionOf (sameName (now (text .entry)) (now (places .entry)) (now (values .entry))) (storedHeads (now (heads .entry)) h) i) i) (place best) (now (slots .entry)) (place r) (now (slots .exit)) ⌝ }
+    ensures { λ r. ⌜ SeenCall (sameName (now (text .entry)) (now (places .entry)) (now (values .entry))) (storedHeads (now (heads .entry)) h) i (place best) (now (slots .entry)) (place r) (now (slots .exit)) ⌝ }
 {
     match function_of(text, places, values, heads, h, i) {
         Found::Nothing => lesser(i, best),
@@ -118,8 +116,8 @@ fn see(
     item: Item,
     best: Broken,
 ) -> Broken
-    requires { ⌜ (2 * h ≤ length (now heads)) × (h < 2 ^ 32) × (Ordered (now scope) (s .blocks) (s .seen)) × (3 * s .blocks ≤ length (now scope)) × (3 * s .seen ≤ length (now scope)) × (s .next < 2 ^ 32) ⌝ }
-    ensures { λ r. ⌜ Seen (wrong (sameName (now (text .entry)) (now (places .entry)) (now (values .entry))) (storedHeads (now (heads .entry)) h) (scopeOf (now (scope .entry)) s) (event item)) (named (sameName (now (text .entry)) (now (places .entry)) (now (values .entry))) (storedHeads (now (heads .entry)) h) (scopeOf (now (scope .entry)) s) (event item)) (place best) (now (slots .entry)) (place r) (now (slots .exit)) ⌝ }
+    requires { ⌜ (2 * h ≤ length (now heads)) × (h < 2 ^ 32) × (Held (now scope) (s .blocks) (s .seen)) × (s .next < 2 ^ 32) ⌝ }
+    ensures { λ r. ⌜ SeenEvent (sameName (now (text .entry)) (now (places .entry)) (now (values .entry))) (storedHeads (now (heads .entry)) h) (scopeOf (now (scope .entry)) s) (event item) (place best) (now (slots .entry)) (place r) (now (slots .exit)) ⌝ }
 {
     let blocks = s.blocks;
     let seen = s.seen;
@@ -176,7 +174,7 @@ fn see_all(
     slots: &mut [u32],
 ) -> Broken
     requires { ⌜ (3 * n ≤ length (now events)) × (n < 2 ^ 32) × (2 * h ≤ length (now heads)) × (h < 2 ^ 32) × (3 * n ≤ length (now scope)) ⌝ }
-    ensures { λ r. ⌜ Seen (scan entered (wrong (sameName (now (text .entry)) (now (places .entry)) (now (values .entry))) (storedHeads (now (heads .entry)) h)) nowhere (stored (now (events .entry)) n)) (scan entered (named (sameName (now (text .entry)) (now (places .entry)) (now (values .entry))) (storedHeads (now (heads .entry)) h)) nowhere (stored (now (events .entry)) n)) none (now (slots .entry)) (place r) (now (slots .exit)) ⌝ }
+    ensures { λ r. ⌜ SeenEvents (sameName (now (text .entry)) (now (places .entry)) (now (values .entry))) (storedHeads (now (heads .entry)) h) (stored (now (events .entry)) n) (now (slots .entry)) (place r) (now (slots .exit)) ⌝ }
 {
     let mut best = Broken::Nowhere;
     let mut s = Scope {
@@ -194,7 +192,7 @@ fn see_all(
     best
 }
 
-// Function k is called by the name of token i, as an earlier one may be.
+// Function k, whose name is token i: an earlier one may have the name.
 fn repeat(
     text: &[u8],
     places: &[u32],

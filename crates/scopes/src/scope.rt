@@ -7,18 +7,13 @@ ghost use Rattle.rules.specs.Answers.{event};
 ghost use Rattle.scopes.specs.Memory.{Room, Moved};
 ghost use Rattle.scopes.specs.Steps.{tokenOf};
 use rules::item::Item;
+use rules::spelling::word;
 
 // How many blocks are open, how many declarations can be seen, and the number of the function's next declaration.
 pub struct Scope {
     pub blocks: usize,
     pub seen: usize,
     pub next: usize,
-}
-
-fn wide(x: u32) -> usize
-    ensures { λ r. ⌜ r ≡ x ⌝ }
-{
-    x as usize
 }
 
 // A function begins, with the block of its parameters.
@@ -59,7 +54,7 @@ fn close_block(scope: &[u32], s: Scope) -> Scope
     let outer = blocks - 1;
     Scope {
         blocks: outer,
-        seen: wide(scope[3 * outer + 2]),
+        seen: word(scope, 3 * outer + 2),
         next: s.next,
     }
 }

@@ -17,5 +17,6 @@ pub mod Words
 pub mod Mapped
 pub mod Held
 pub mod Cells
+pub mod Windows
 pub mod Bounded
 pub mod Going

@@ -3,7 +3,7 @@ use mathlib.Core.Path.{refl, sym, _∙_}
 use native.Mathlib.Omega.{arith}
 use Rattle.events.specs.Event.{stops}
 use Rattle.events.proofs.Nodes.{at-kind}
-use Rattle.events.proofs.Helpers.{inner, inner-last, stmts-last, arms-last, arms-true, arms-false, final, final-low, final-high, final-stops, goes-on}
+use Rattle.events.proofs.Steps.{inner, inner-last, stmts-last, arms-last, arms-true, arms-false, final, final-low, final-high, final-stops, goes-on}
 use Rattle.events.proofs.Laws.{rooted-child}
 use Prim.Native.Nat.{ℕ, _<_}
 use borrow.Fn.Kinds.{In}

@@ -5,7 +5,7 @@ use native.Mathlib.Nat.{zero-add}
 use native.Mathlib.Omega.{arith}
 use Rattle.syntax.specs.Ast.{Ast, args}
 use Rattle.syntax.specs.Table.{Holds}
-use Rattle.events.proofs.Helpers.{Rest, rest-step, rest-none}
+use Rattle.events.proofs.Steps.{Rest, rest-step, rest-none}
 use Rattle.events.proofs.arity.Statement.{statement}
 use Rattle.events.proofs.arity.Tie as tie
 

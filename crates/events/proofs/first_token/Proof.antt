@@ -4,7 +4,7 @@ use mathlib.Core.Path.{refl}
 use native.Mathlib.Omega.{arith}
 use Rattle.syntax.specs.Ast.{Ast, expr}
 use Rattle.syntax.specs.Table.{Holds}
-use Rattle.events.proofs.Helpers.{Left, left-step, first-low, first-high}
+use Rattle.events.proofs.Steps.{Left, left-step, first-low, first-high}
 use Rattle.events.proofs.first_token.Statement.{statement}
 use Rattle.events.proofs.first_token.Tie as tie
 

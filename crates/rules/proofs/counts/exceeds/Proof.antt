@@ -1,6 +1,7 @@
 -- A function, a parameter and a declaration can break rule 10.
 use mathlib.Core.Path.{_≡_, refl}
 use mathlib.Core.List.{[], _∷_}
+use native.Mathlib.Omega.{arith}
 use borrow.Author.Needs.{needs}
 use borrow.Author.Tests.{le-leb, lt-leb}
 use types.Run.{OneOf}
@@ -32,7 +33,7 @@ lesser-requires c κs = search needs
 
 returns : tie.Need-returns
 unfolding over leastWith
-returns c = rw (c .before .before .before .before .item .given .1, le-leb _ _ (c .before .if1 .taken)) (c .lesser .ensures)
+returns c = rw (c .before .before .before .before .item .given .1, le-leb 16 (c .before .before .before .before .before .before .args .tally .functions) (omega (arith, c .before .if1 .taken))) (c .lesser .ensures)
 
 enum-known-item-2 : tie.Need-enum-known-item-2
 enum-known-item-2 c = search needs
@@ -42,14 +43,14 @@ lesser-requires-2 c κs = search needs
 
 returns-2 : tie.Need-returns-2
 unfolding over leastWith
-returns-2 c = rw (c .before .before .before .before .item2 .given .1, le-leb _ _ (c .before .if2 .taken)) (c .lesser2 .ensures)
+returns-2 c = rw (c .before .before .before .before .item2 .given .1, le-leb 4 (c .before .before .before .before .before .before .args .tally .parameters) (omega (arith, c .before .if2 .taken))) (c .lesser2 .ensures)
 
 lesser-requires-3 : tie.Need-lesser-requires-3
 lesser-requires-3 c κs = search needs
 
 returns-3 : tie.Need-returns-3
 unfolding over leastWith
-returns-3 c = rw (c .before .before .before .before .before .before .item2 .given .1, lt-leb _ _ (c .before .before .before .if2 .left), le-leb _ _ (c .before .if3 .taken)) (c .lesser3 .ensures)
+returns-3 c = rw (c .before .before .before .before .before .before .item2 .given .1, lt-leb 4 (c .before .before .before .before .before .before .before .before .args .tally .parameters) (omega (arith, c .before .before .before .if2 .left)), le-leb 16 (c .before .before .before .before .before .before .before .before .args .tally .declarations) (omega (arith, c .before .if3 .taken))) (c .lesser3 .ensures)
 
 enum-known-item-3 : tie.Need-enum-known-item-3
 enum-known-item-3 c = search needs
@@ -59,19 +60,19 @@ lesser-requires-4 c κs = search needs
 
 returns-4 : tie.Need-returns-4
 unfolding over leastWith
-returns-4 c = rw (c .before .before .before .before .item3 .given .1, le-leb _ _ (c .before .if4 .taken)) (c .lesser4 .ensures)
+returns-4 c = rw (c .before .before .before .before .item3 .given .1, le-leb 16 (c .before .before .before .before .before .before .args .tally .declarations) (omega (arith, c .before .if4 .taken))) (c .lesser4 .ensures)
 
 returns-5 : tie.Need-returns-5
 unfolding over leastWith
-returns-5 c = rw (c .before .before .before .item .given .1, lt-leb _ _ (c .if1 .left))
+returns-5 c = rw (c .before .before .before .item .given .1, lt-leb 16 (c .before .before .before .before .before .args .tally .functions) (omega (arith, c .if1 .left)))
 
 returns-6 : tie.Need-returns-6
 unfolding over leastWith
-returns-6 c = rw (c .before .before .before .before .before .item2 .given .1, lt-leb _ _ (c .before .before .if2 .left), lt-leb _ _ (c .if3 .left))
+returns-6 c = rw (c .before .before .before .before .before .item2 .given .1, lt-leb 4 (c .before .before .before .before .before .before .before .args .tally .parameters) (omega (arith, c .before .before .if2 .left)), lt-leb 16 (c .before .before .before .before .before .before .before .args .tally .declarations) (omega (arith, c .if3 .left)))
 
 returns-7 : tie.Need-returns-7
 unfolding over leastWith
-returns-7 c = rw (c .before .before .before .item3 .given .1, lt-leb _ _ (c .if4 .left))
+returns-7 c = rw (c .before .before .before .item3 .given .1, lt-leb 16 (c .before .before .before .before .before .args .tally .declarations) (omega (arith, c .if4 .left)))
 
 returns-8 : tie.Need-returns-8
 unfolding leastWith

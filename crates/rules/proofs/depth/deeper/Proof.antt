@@ -1,6 +1,7 @@
 -- Only a thing can break rule 5.
 use mathlib.Core.Path.{_≡_, refl}
 use mathlib.Core.List.{[], _∷_}
+use native.Mathlib.Omega.{arith}
 use borrow.Author.Needs.{needs}
 use borrow.Author.Tests.{lt-ltb, le-ltb}
 use types.Run.{OneOf}
@@ -32,11 +33,11 @@ lesser-requires c κs = search needs
 
 returns : tie.Need-returns
 unfolding deep leastWith
-returns c = rw (c .before .before .before .item .given .1, lt-ltb _ _ (c .before .if1 .taken)) (c .lesser .ensures)
+returns c = rw (c .before .before .before .item .given .1, lt-ltb 24 (c .before .before .before .item .given .0 .0) (omega (arith, c .before .if1 .taken))) (c .lesser .ensures)
 
 returns-2 : tie.Need-returns-2
 unfolding deep leastWith
-returns-2 c = rw (c .before .before .item .given .1, le-ltb _ _ (c .if1 .left))
+returns-2 c = rw (c .before .before .item .given .1, le-ltb 24 (c .before .before .item .given .0 .0) (omega (arith, c .if1 .left)))
 
 returns-3 : tie.Need-returns-3
 unfolding leastWith

@@ -1,5 +1,6 @@
 -- One function: main or not, with parameters or without.
 use mathlib.Core.Path.{sym, _∙_}
+use native.Mathlib.Omega.{arith}
 use borrow.Author.Needs.{needs}
 use borrow.Author.Tests.{lt-ltb, le-ltb}
 use Rattle.rules.specs.Rules.{mains, withParameters}
@@ -15,11 +16,11 @@ lesser-requires c κs = search needs
 
 returns : tie.Need-returns
 unfolding mains withParameters leastWith
-returns c = rw (sym (c .before .before .before .is-main .ensures) ∙ c .before .before .if1 .taken, lt-ltb _ _ (c .before .if2 .taken)) (c .lesser .ensures)
+returns c = rw (sym (c .before .before .before .is-main .ensures) ∙ c .before .before .if1 .taken, lt-ltb 0 (c .before .before .before .before .before .before .before .args .arity) (omega (arith, c .before .if2 .taken))) (c .lesser .ensures)
 
 returns-2 : tie.Need-returns-2
 unfolding mains withParameters leastWith
-returns-2 c = rw (sym (c .before .before .is-main .ensures) ∙ c .before .if1 .taken, le-ltb _ _ (c .if2 .left))
+returns-2 c = rw (sym (c .before .before .is-main .ensures) ∙ c .before .if1 .taken, le-ltb 0 (c .before .before .before .before .before .before .args .arity) (omega (arith, c .if2 .left)))
 
 returns-3 : tie.Need-returns-3
 unfolding mains withParameters leastWith

@@ -41,60 +41,42 @@ abbrev μ-blocks2 : tie.MeasureT-blocks2
 μ-blocks2 text places values scope blocks seen i found₀ block₀ end₀ found block end = block
 
 blocks2-holds : tie.Need-blocks2-holds Inv-loop μ-loop Inv-blocks2 μ-blocks2
-blocks2-holds c = record { nothing = refl; inside = omega arith; before = omega arith; ordered = c .before .before .before .before .pre .0; rest = refl }
+blocks2-holds c = record { nothing = refl; inside = omega arith; before = omega arith; ordered = c .before .before .before .before .pre .ordered; rest = refl }
 
 sub-block : tie.Need-sub-block Inv-loop μ-loop Inv-blocks2 μ-blocks2
 sub-block c = search needs
 
-mul-wide : tie.Need-mul-wide Inv-loop μ-loop Inv-blocks2 μ-blocks2
-mul-wide c = search needs
+mul-word : tie.Need-mul-word Inv-loop μ-loop Inv-blocks2 μ-blocks2
+mul-word c = search needs
 
-add-wide : tie.Need-add-wide Inv-loop μ-loop Inv-blocks2 μ-blocks2
-add-wide c = search needs
+add-word : tie.Need-add-word Inv-loop μ-loop Inv-blocks2 μ-blocks2
+add-word c = search needs
 
-mul-wide-2 : tie.Need-mul-wide-2 Inv-loop μ-loop Inv-blocks2 μ-blocks2
-mul-wide-2 c = search needs
-
-shared-slice-read-wide : tie.Need-shared-slice-read-wide Inv-loop μ-loop Inv-blocks2 μ-blocks2
-shared-slice-read-wide c = search needs
-
-wide-requires : tie.Need-wide-requires Inv-loop μ-loop Inv-blocks2 μ-blocks2
-wide-requires c κs = search needs
+word-requires : tie.Need-word-requires Inv-loop μ-loop Inv-blocks2 μ-blocks2
+word-requires c κs = search needs
 
 loop-holds : tie.Need-loop-holds Inv-loop μ-loop Inv-blocks2 μ-blocks2
 loop-holds c =
-    let t = taken (c .before .before .before .blocks2 .inv .ordered) (c .before .before .blocks2-test .taken) (c .wide .ensures) in
-    record { nothing = c .before .before .before .blocks2 .inv .nothing; rest = begins _ (c .before .before .before .before .before .before .before .before .args .scope .now) (c .before .before .before .before .before .before .before .before .args .i) (c .before .before .before .blocks2 .block) (c .before .before .before .blocks2 .end) t ∙ c .before .before .before .blocks2 .inv .rest }
+    let t = taken (c .before .before .blocks2 .inv .ordered) (c .before .blocks2-test .taken) (c .word .ensures) in
+    record { nothing = c .before .before .blocks2 .inv .nothing; rest = begins _ (c .before .before .before .before .before .before .before .args .scope .now) (c .before .before .before .before .before .before .before .args .i) (c .before .before .blocks2 .block) (c .before .before .blocks2 .end) t ∙ c .before .before .blocks2 .inv .rest }
 
-mul-wide-3 : tie.Need-mul-wide-3 Inv-loop μ-loop Inv-blocks2 μ-blocks2
-mul-wide-3 c = search needs
+mul-word-2 : tie.Need-mul-word-2 Inv-loop μ-loop Inv-blocks2 μ-blocks2
+mul-word-2 c = search needs
 
-mul-wide-4 : tie.Need-mul-wide-4 Inv-loop μ-loop Inv-blocks2 μ-blocks2
-mul-wide-4 c = search needs
-
-shared-slice-read-wide-2 : tie.Need-shared-slice-read-wide-2 Inv-loop μ-loop Inv-blocks2 μ-blocks2
-shared-slice-read-wide-2 c = search needs
-
-wide-requires-2 : tie.Need-wide-requires-2 Inv-loop μ-loop Inv-blocks2 μ-blocks2
-wide-requires-2 c κs = search needs
+word-requires-2 : tie.Need-word-requires-2 Inv-loop μ-loop Inv-blocks2 μ-blocks2
+word-requires-2 c κs = search needs
 
 same-name-requires : tie.Need-same-name-requires Inv-loop μ-loop Inv-blocks2 μ-blocks2
 same-name-requires c κs = search needs
 
-mul-wide-5 : tie.Need-mul-wide-5 Inv-loop μ-loop Inv-blocks2 μ-blocks2
-mul-wide-5 c = search needs
+mul-word-3 : tie.Need-mul-word-3 Inv-loop μ-loop Inv-blocks2 μ-blocks2
+mul-word-3 c = search needs
 
-add-wide-2 : tie.Need-add-wide-2 Inv-loop μ-loop Inv-blocks2 μ-blocks2
-add-wide-2 c = search needs
+add-word-2 : tie.Need-add-word-2 Inv-loop μ-loop Inv-blocks2 μ-blocks2
+add-word-2 c = search needs
 
-mul-wide-6 : tie.Need-mul-wide-6 Inv-loop μ-loop Inv-blocks2 μ-blocks2
-mul-wide-6 c = search needs
-
-shared-slice-read-wide-3 : tie.Need-shared-slice-read-wide-3 Inv-loop μ-loop Inv-blocks2 μ-blocks2
-shared-slice-read-wide-3 c = search needs
-
-wide-requires-3 : tie.Need-wide-requires-3 Inv-loop μ-loop Inv-blocks2 μ-blocks2
-wide-requires-3 c κs = search needs
+word-requires-3 : tie.Need-word-requires-3 Inv-loop μ-loop Inv-blocks2 μ-blocks2
+word-requires-3 c κs = search needs
 
 add-k : tie.Need-add-k Inv-loop μ-loop Inv-blocks2 μ-blocks2
 add-k c = search needs
@@ -103,21 +85,21 @@ loop-less : tie.Need-loop-less Inv-loop μ-loop Inv-blocks2 μ-blocks2
 loop-less c = search needs
 
 loop-again : tie.Need-loop-again Inv-loop μ-loop Inv-blocks2 μ-blocks2
-loop-again c = record { nothing = c .before .before .before .before .before .loop .inv .nothing; rest = miss _ (c .before .before .before .before .before .before .before .before .before .before .before .before .before .before .args .scope .now) _ (c .before .before .before .before .before .before .before .before .before .before .before .before .before .before .args .i) (c .before .before .before .before .before .loop .k) (c .before .before .before .before .before .before .before .before .before .blocks2 .end) (c .before .before .before .before .loop-test .taken) (c .before .before .wide2 .ensures) (sym (c .before .same-name .ensures) ∙ c .if1 .left) ∙ c .before .before .before .before .before .loop .inv .rest }
+loop-again c = record { nothing = c .before .before .before .before .loop .inv .nothing; rest = miss _ (c .before .before .before .before .before .before .before .before .before .before .before .before .args .scope .now) _ (c .before .before .before .before .before .before .before .before .before .before .before .before .args .i) (c .before .before .before .before .loop .k) (c .before .before .before .before .before .before .before .blocks2 .end) (c .before .before .before .loop-test .taken) (c .before .before .word2 .ensures) (sym (c .before .same-name .ensures) ∙ c .if1 .left) ∙ c .before .before .before .before .loop .inv .rest }
 
 blocks2-less : tie.Need-blocks2-less Inv-loop μ-loop Inv-blocks2 μ-blocks2
 blocks2-less c = search needs
 
 blocks2-again : tie.Need-blocks2-again Inv-loop μ-loop Inv-blocks2 μ-blocks2
 blocks2-again c =
-    let t = taken (c .before .before .before .before .before .blocks2 .inv .ordered) (c .before .before .before .before .blocks2-test .taken) (c .before .before .wide .ensures) in
-    record { nothing = c .before .loop .inv .nothing; inside = omega arith; before = omega (arith, t .less); ordered = t .ordered; rest = over _ (c .before .before .before .before .before .before .before .before .before .before .args .scope .now) _ (c .before .before .before .before .before .before .before .before .before .before .args .i) (c .before .loop .k) (c .before .before .before .before .before .blocks2 .end) (c .loop-test .left) ∙ c .before .loop .inv .rest }
+    let t = taken (c .before .before .before .before .blocks2 .inv .ordered) (c .before .before .before .blocks2-test .taken) (c .before .before .word .ensures) in
+    record { nothing = c .before .loop .inv .nothing; inside = omega arith; before = omega (arith, t .less); ordered = t .ordered; rest = over _ (c .before .before .before .before .before .before .before .before .before .args .scope .now) _ (c .before .before .before .before .before .before .before .before .before .args .i) (c .before .loop .k) (c .before .before .before .before .blocks2 .end) (c .loop-test .left) ∙ c .before .loop .inv .rest }
 
 returns : tie.Need-returns Inv-loop μ-loop Inv-blocks2 μ-blocks2
 returns c = (ap slotOf (c .before .blocks2 .inv .nothing) ∙ nowhere _ (c .before .before .before .before .before .before .args .scope .now) (c .before .before .before .before .before .before .args .i) (c .before .blocks2 .block) (c .before .blocks2 .end) (c .blocks2-test .left) ∙ c .before .blocks2 .inv .rest, rw (c .before .blocks2 .inv .nothing) (omega arith))
 
 returns-2 : tie.Need-returns-2 Inv-loop μ-loop Inv-blocks2 μ-blocks2
-returns-2 c = (hit _ (c .before .before .before .before .before .before .before .before .before .before .before .before .before .before .before .before .args .scope .now) _ (c .before .before .before .before .before .before .before .before .before .before .before .before .before .before .before .before .args .i) (c .before .before .before .before .before .before .before .loop .k) (c .before .before .before .before .before .before .before .before .before .before .before .blocks2 .end) (c .before .before .before .before .before .before .loop-test .taken) (c .before .before .before .before .wide2 .ensures) (c .wide3 .ensures) (sym (c .before .before .before .same-name .ensures) ∙ c .before .before .if1 .taken) ∙ c .before .before .before .before .before .before .before .loop .inv .rest, omega (arith, c .wide3 .ensures, c .before .shared-slice-known7 .given (3 * (c .before .before .before .before .before .before .before .loop .k) + 1)))
+returns-2 c = (hit _ (c .before .before .before .before .before .before .before .before .before .before .before .before .before .args .scope .now) _ (c .before .before .before .before .before .before .before .before .before .before .before .before .before .args .i) (c .before .before .before .before .before .loop .k) (c .before .before .before .before .before .before .before .before .blocks2 .end) (c .before .before .before .before .loop-test .taken) (c .before .before .before .word2 .ensures) (c .word3 .ensures) (sym (c .before .before .same-name .ensures) ∙ c .before .if1 .taken) ∙ c .before .before .before .before .before .loop .inv .rest, omega (arith, c .word3 .ensures, c .before .before .before .before .before .before .before .before .before .shared-slice-known4 .given (3 * (c .before .before .before .before .before .loop .k) + 1)))
 
 pub seek-spec : {M : Type 1} → statement M
 seek-spec =
@@ -129,22 +111,16 @@ seek-spec =
     μ-blocks2
     blocks2-holds
     sub-block
-    mul-wide
-    add-wide
-    mul-wide-2
-    shared-slice-read-wide
-    wide-requires
+    mul-word
+    add-word
+    word-requires
     loop-holds
-    mul-wide-3
-    mul-wide-4
-    shared-slice-read-wide-2
-    wide-requires-2
+    mul-word-2
+    word-requires-2
     same-name-requires
-    mul-wide-5
-    add-wide-2
-    mul-wide-6
-    shared-slice-read-wide-3
-    wide-requires-3
+    mul-word-3
+    add-word-2
+    word-requires-3
     add-k
     loop-less
     loop-again

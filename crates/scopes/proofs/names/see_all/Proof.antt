@@ -24,7 +24,7 @@ item-at-requires c κs = search needs
 see-requires : tie.Need-see-requires Inv-loop μ-loop
 see-requires c κs =
     let r = walk-room _ _ _ _ (c .before .before .before .before .loop .inv) (c .before .before .before .loop-test .taken) (c .before .before .before .before .before .before .before .before .before .before .before .before .pre .4) (c .before .before .before .before .before .before .before .before .before .before .before .before .pre .1) in
-    (c .before .before .before .before .before .before .before .before .before .before .before .before .pre .2, c .before .before .before .before .before .before .before .before .before .before .before .before .pre .3, c .before .before .before .before .loop .inv .ordered, r .0 .blocks, omega (arith, r .0 .seen), r .0 .next)
+    (c .before .before .before .before .before .before .before .before .before .before .before .before .pre .2, c .before .before .before .before .before .before .before .before .before .before .before .before .pre .3, record { ordered = c .before .before .before .before .loop .inv .ordered; blocks = r .0 .blocks; declarations = omega (arith, r .0 .seen) }, r .0 .next)
 
 enter-requires : tie.Need-enter-requires Inv-loop μ-loop
 enter-requires c κs =

@@ -1,0 +1,35 @@
+-- The rules of a tree, from what the walk and the rules answer.
+use Prim.Native.Nat.{ℕ, _-_, _*_, _≤_}
+use mathlib.Core.Path.{_≡_, refl, sym, ap, _∙_, subst}
+use mathlib.Core.Bool.{Bool}
+use mathlib.Core.List.{List}
+use mathlib.Core.Option.{Option, none, some}
+use lib.ListN.{length, getD}
+use Rattle.syntax.specs.Ast as A
+use Rattle.syntax.specs.Ast.{Ast}
+use Rattle.syntax.specs.Table.{Holds}
+use Rattle.events.specs.Event as E
+use Rattle.events.specs.Stored.{stored}
+use Rattle.events.specs.Walk.{Walked}
+use Rattle.rules.specs.Spelling.{sameName, isMain}
+use Rattle.checker.specs.Check.{Verdict, Fault, fault, verdict, rulesOf, firstBroken}
+use Rattle.checker.specs.Judge.{faultOf, Judges}
+use Rattle.checker.specs.Judge as J
+use Rattle.checker.specs.Analysis.{concluded, Kept′, Inspects, refuses, accepts, Inspected}
+use Rattle.checker.specs.declared.Judged.{Judged}
+use Rattle.checker.specs.declared.Judged.the-variants.{Broken, Kept}
+
+module _ (text ps vs nodes items heads before slots : List ℕ) (n root e : ℕ) where
+  by-cases : (p : Ast A.prog) → e ≡ length (E.events p) → stored items e ≡ E.events p → (j : Judged)
+      → faultOf j ≡ firstBroken (rulesOf text ps vs n (E.events p))
+      → J.Known (sameName text ps vs) (E.events p) before slots heads j
+      → Inspects text ps vs items heads before slots n root p (concluded ps n root e j) (verdict ps (firstBroken (rulesOf text ps vs n (E.events p))))
+  by-cases p t l (Broken c i) f k = subst (λ (o : Option Fault). Inspects text ps vs items heads before slots n root p (concluded ps n root e (Broken c i)) (verdict ps o)) f refuses
+  by-cases p t l (Kept h) f k =
+      subst (λ (o : Option Fault). Inspects text ps vs items heads before slots n root p (concluded ps n root e (Kept h)) (verdict ps o)) f
+      (accepts (sym f) (record { total = t; listed = l; functions = k .0; means = k .1 }))
+
+  pub inspected : {out : List ℕ} (j : Judged) → Walked nodes root out items e
+      → Judges (sameName text ps vs) (isMain text ps vs) (n - 1) (stored items e) before slots heads j
+      → Inspected text ps vs nodes items heads before slots n root (concluded ps n root e j)
+  inspected j w g = record { inspects = λ p h. by-cases p (w .total p h) (w .holds p h) j (rw (w .holds p h) at (g .fault)) (rw (w .holds p h) at (g .known)) }

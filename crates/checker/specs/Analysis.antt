@@ -1,0 +1,70 @@
+-- What the analysis of a text leaves in the lent slices, and what its answer means.
+use Prim.Native.Nat.{ℕ, _+_, _*_, _≤_, _<_}
+use mathlib.Core.Path.{_≡_}
+use mathlib.Core.List.{List}
+use mathlib.Core.Option.{none}
+use lib.ListN.{length, getD, take}
+use Rattle.syntax.specs.Tree.{Tree, prog}
+use Rattle.syntax.specs.Ast as A
+use Rattle.syntax.specs.Ast.{Ast}
+use Rattle.syntax.specs.Abstract.{ast}
+use Rattle.syntax.specs.Table.{Holds}
+use Rattle.grammar.specs.Parse.{parsed, ok}
+use Rattle.events.specs.Event as E
+use Rattle.events.specs.Stored.{stored}
+use Rattle.rules.specs.Spelling.{sameName}
+use Rattle.rules.specs.Rules as R
+use Rattle.rules.specs.Names.{meanings, meant}
+use Rattle.rules.specs.Answers.{storedHeads}
+use Rattle.checker.specs.Check.{Verdict, accepted, refused, firstBroken, verdict, rulesOf}
+use Rattle.checker.specs.declared.Judged.{Judged}
+use Rattle.checker.specs.declared.Judged.the-variants.{Broken, Kept}
+use Rattle.checker.specs.declared.Analysed.{Analysed}
+use Rattle.checker.specs.declared.Analysed.the-variants.{Refused, Fine}
+use Rattle.checker.specs.declared.Checked.{Checked}
+use Rattle.checker.specs.declared.Checked.the-variants as C
+
+-- check's answer, in document 01's words: accepted, or number and place
+abbrev pub verdictOf : Checked → Verdict
+verdictOf C.Accepted = accepted
+verdictOf (C.Refused n p) = refused n p
+
+-- an accepted text with the tokens ks, ps, vs (kinds, places, values): its tree stands at node `root`, its e events, its h functions and each token's meaning stand in the slices. `before` is what the slice of meanings held
+pub record Known (text ks ps vs nodes events heads before slots : List ℕ) (root e h : ℕ) : Type 0 where
+  pub tree : Tree prog
+  pub after : ℕ
+  pub parses : parsed ks ≡ ok tree after
+  pub holds : Holds nodes root (ast tree)
+  pub room : 5 * root + 5 ≤ length nodes
+  pub few : root < 65536
+  pub total : e ≡ length (E.events (ast tree))
+  pub listed : stored events e ≡ E.events (ast tree)
+  pub functions : storedHeads heads h ≡ R.heads (E.events (ast tree))
+  pub means : (i : ℕ) → i < length before → getD slots i 0 ≡ meant (λ j. getD before j 0) (meanings (sameName text ps vs) (E.events (ast tree))) i
+  pub unbroken : firstBroken (rulesOf text ps vs (length ks) (E.events (ast tree))) ≡ none
+
+-- the analysis refuses as check does, or leaves what is known
+pub data Analyses (text ks ps vs nodes events heads before slots : List ℕ) : Analysed → Verdict → Type 0 where
+  refuses : {n p : ℕ} → Analyses text ks ps vs nodes events heads before slots (Refused n p) (refused n p)
+  accepts : {n root e h : ℕ} → Known text (take n ks) (take n ps) (take n vs) nodes events heads before slots root e h → Analyses text ks ps vs nodes events heads before slots (Fine n root e h) accepted
+
+-- ---- the steps of the analysis
+
+-- the answer by what the rules say
+abbrev pub concluded : List ℕ → ℕ → ℕ → ℕ → Judged → Analysed
+concluded ps n root e (Broken c i) = Refused c (getD ps i 0)
+concluded ps n root e (Kept h) = Fine n root e h
+
+-- what is known of the program p where the rules are kept
+pub record Kept′ (text ps vs items heads before slots : List ℕ) (p : Ast A.prog) (e h : ℕ) : Type 0 where
+  pub total : e ≡ length (E.events p)
+  pub listed : stored items e ≡ E.events p
+  pub functions : storedHeads heads h ≡ R.heads (E.events p)
+  pub means : (i : ℕ) → i < length before → getD slots i 0 ≡ meant (λ j. getD before j 0) (meanings (sameName text ps vs) (E.events p)) i
+
+pub data Inspects (text ps vs items heads before slots : List ℕ) (n root : ℕ) (p : Ast A.prog) : Analysed → Verdict → Type 0 where
+  refuses : {c q : ℕ} → Inspects text ps vs items heads before slots n root p (Refused c q) (refused c q)
+  accepts : {e h : ℕ} → firstBroken (rulesOf text ps vs n (E.events p)) ≡ none → Kept′ text ps vs items heads before slots p e h → Inspects text ps vs items heads before slots n root p (Fine n root e h) accepted
+
+pub record Inspected (text ps vs nodes items heads before slots : List ℕ) (n root : ℕ) (r : Analysed) : Type 0 where
+  pub inspects : (p : Ast A.prog) → Holds nodes root p → Inspects text ps vs items heads before slots n root p r (verdict ps (firstBroken (rulesOf text ps vs n (E.events p))))
