@@ -1,5 +1,6 @@
 -- The rules of a tree, from what the walk and the rules answer.
 use Prim.Native.Nat.{ℕ, _-_, _*_, _≤_}
+use native.Mathlib.Omega.{arith}
 use mathlib.Core.Path.{_≡_, refl, sym, ap, _∙_, subst}
 use mathlib.Core.Bool.{Bool}
 use mathlib.Core.List.{List}
@@ -10,7 +11,7 @@ use Rattle.syntax.specs.Ast.{Ast}
 use Rattle.syntax.specs.Table.{Holds}
 use Rattle.events.specs.Event as E
 use Rattle.events.specs.Stored.{stored}
-use Rattle.events.specs.Walk.{Walked}
+use Rattle.events.specs.Walk.{Ready, Walked}
 use Rattle.rules.specs.Spelling.{sameName, isMain}
 use Rattle.checker.specs.Check.{Verdict, Fault, fault, verdict, rulesOf, firstBroken}
 use Rattle.checker.specs.Judge.{faultOf, Judges}
@@ -18,6 +19,10 @@ use Rattle.checker.specs.Judge as J
 use Rattle.checker.specs.Analysis.{concluded, Kept′, Inspects, refuses, accepts, Inspected}
 use Rattle.checker.specs.declared.Judged.{Judged}
 use Rattle.checker.specs.declared.Judged.the-variants.{Broken, Kept}
+
+-- there is room for the events that are written
+pub few-events : {l out m : List ℕ} {i r : ℕ} → Ready l i out → Walked l i out m r → 3 * r ≤ length out
+few-events h w = omega (arith, h .space, w .total (h .rooted .tree) (h .rooted .holds))
 
 module _ (text ps vs nodes items heads before slots : List ℕ) (n root e : ℕ) where
   by-cases : (p : Ast A.prog) → e ≡ length (E.events p) → stored items e ≡ E.events p → (j : Judged)
