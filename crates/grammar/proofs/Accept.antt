@@ -1,15 +1,15 @@
 -- The machine takes the tokens of every tree.
 use Prim.Native.Nat.{ℕ}
-use mathlib.Core.Path.{_≡_, refl, sym, ap, _∙_, subst}
-use mathlib.Core.Bool.{Bool, true, false}
+use mathlib.Core.Path.{_≡_, refl, sym, _∙_, subst}
+use mathlib.Core.Bool.{false}
 use mathlib.Core.List.{List, [], _∷_}
 use lib.Dec.{eqb}
-use Rattle.syntax.specs.Token.{kEnd, kName, kNumber, kOpen, kClose, kComma, kPlus, kMinus, kTimes, kTrue, kFalse, kAnd, kOr, kLess, kEqual, kLessEq, kGreater, kGreaterEq, kUnequal, kSemi, kAssign, kLbrace, kRbrace, kInt, kFree, kIf, kElse, kWhile, kReturn, kFail}
+use Rattle.syntax.specs.Token.{kName, kNumber, kOpen, kClose, kComma, kPlus, kMinus, kTimes, kTrue, kFalse, kAnd, kOr, kSemi, kAssign, kLbrace, kRbrace, kInt, kIf, kElse, kWhile, kReturn, kFail}
 use Rattle.syntax.specs.Tree.{Cat, Tree, Cmp, cmpKind, onto}
 use Rattle.syntax.specs.Tree.{operand, term, sum, args, argList, cmp, atom, conj, cond, less, equal, lessEq, greater, greaterEq, unequal, stmt, stmts, body, params, paramList, fun, prog}
 use Rattle.syntax.specs.Tree.{number, negative, name, call, bracket, noArgs, someArgs, firstArg, nextArg, factor, times, addend, plus, minus, cmpMark, always, never, compare, oneAtom, both, oneConj, either, empty, declare, declareFree, assign, eval, block, ifElse, while, return, fail, noStmts, moreStmts, braced, noParams, someParams, firstParam, nextParam, function, noFuns, moreFuns}
-use Rattle.grammar.proofs.Machine.{Sym, Stack, Out, fine, stuck, step, run}
-use Rattle.grammar.proofs.Machine.{tok, sOperand, sTerm, sTerms, sSum, sSums, sCall, sArgs, sMore, sCmp, sAtom, sConj, sConjs, sCond, sConds, sStmt, sDecl, sNamed, sBody, sParams, sParamMore, sFuns}
+use Rattle.grammar.proofs.Machine.{Stack, step, run}
+use Rattle.grammar.proofs.Machine.{tok, sOperand, sTerm, sTerms, sSum, sSums, sArgs, sMore, sCmp, sAtom, sConj, sConjs, sCond, sConds, sStmt, sBody, sParams, sParamMore, sFuns}
 
 -- what is expected before a tree, and after it
 abbrev pub before : Cat → Stack → Stack
@@ -68,7 +68,7 @@ Quiet fun k = Unit {0}
 Quiet prog k = Unit {0}
 
 -- how a tree begins
-abbrev First : Cat → ℕ → Type 0
+abbrev pub First : Cat → ℕ → Type 0
 First operand j = (eqb j kClose ≡ false) × (eqb j kTrue ≡ false) × (eqb j kFalse ≡ false) × (eqb j kRbrace ≡ false)
 First term j = (eqb j kClose ≡ false) × (eqb j kTrue ≡ false) × (eqb j kFalse ≡ false) × (eqb j kRbrace ≡ false)
 First sum j = (eqb j kClose ≡ false) × (eqb j kTrue ≡ false) × (eqb j kFalse ≡ false) × (eqb j kRbrace ≡ false)
@@ -86,13 +86,13 @@ First paramList j = Unit {0}
 First fun j = Unit {0}
 First prog j = Unit {0}
 
-record Begins (c : Cat) (l : List ℕ) : Type 0 where
-  one : ℕ
-  more : List ℕ
-  is : l ≡ one ∷ more
-  first : First c one
+pub record Begins (c : Cat) (l : List ℕ) : Type 0 where
+  pub one : ℕ
+  pub more : List ℕ
+  pub is : l ≡ one ∷ more
+  pub first : First c one
 
-abbrev BeginsOf : Cat → List ℕ → Type 0
+abbrev pub BeginsOf : Cat → List ℕ → Type 0
 BeginsOf operand l = Begins operand l
 BeginsOf term l = Begins term l
 BeginsOf sum l = Begins sum l
@@ -110,7 +110,7 @@ BeginsOf paramList l = Unit {0}
 BeginsOf fun l = Unit {0}
 BeginsOf prog l = Unit {0}
 
-begins : {c : Cat} (t : Tree c) (r : List ℕ) → BeginsOf c (onto t r)
+pub begins : {c : Cat} (t : Tree c) (r : List ℕ) → BeginsOf c (onto t r)
 unfolding onto
 begins (number i) r = record { one = kNumber; more = _; is = refl; first = (refl, refl, refl, refl) }
 begins (negative i) r = record { one = kMinus; more = _; is = refl; first = (refl, refl, refl, refl) }
@@ -165,13 +165,13 @@ unfolding run step
 atom-sum t ss r = let b = begins t r in rw (b .is, b .first .1, b .first .2) refl
 
 -- how a sum begins where a statement may
-data Start : List ℕ → Type 0 where
+pub data Start : List ℕ → Type 0 where
   s-number : {r : List ℕ} → Start (kNumber ∷ r)
   s-minus : {r : List ℕ} → Start (kMinus ∷ r)
   s-open : {r : List ℕ} → Start (kOpen ∷ r)
   s-name : {k : ℕ} {r : List ℕ} → eqb k kAssign ≡ false → Start (kName ∷ k ∷ r)
 
-abbrev StartOf : Cat → List ℕ → Type 0
+abbrev pub StartOf : Cat → List ℕ → Type 0
 StartOf operand l = Start l
 StartOf term l = Start l
 StartOf sum l = Start l
@@ -189,7 +189,7 @@ StartOf paramList l = Unit {0}
 StartOf fun l = Unit {0}
 StartOf prog l = Unit {0}
 
-starts : {c : Cat} (t : Tree c) (k : ℕ) (r : List ℕ) → eqb k kAssign ≡ false → StartOf c (onto t (k ∷ r))
+pub starts : {c : Cat} (t : Tree c) (k : ℕ) (r : List ℕ) → eqb k kAssign ≡ false → StartOf c (onto t (k ∷ r))
 unfolding onto
 starts (number i) k r e = s-number
 starts (negative i) k r e = s-minus
@@ -257,7 +257,7 @@ skip-conjs : (k : ℕ) (ss : Stack) (r : List ℕ) → eqb k kAnd ≡ false → 
 unfolding run step
 skip-conjs k ss r e = rw e
 
-cmp-quiet : (c : Cmp) → Quiet argList (cmpKind c)
+pub cmp-quiet : (c : Cmp) → Quiet argList (cmpKind c)
 cmp-quiet less = (refl, refl, refl, refl)
 cmp-quiet lessEq = (refl, refl, refl, refl)
 cmp-quiet greater = (refl, refl, refl, refl)

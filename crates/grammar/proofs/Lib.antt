@@ -1,8 +1,11 @@
--- Theorems about the readers' definition, and laws for the proofs of the readers.
+-- Theorems about the readers' definition (Grammar has what they come to), and laws for the proofs of the readers.
 pub mod Machine
 pub mod Accept
+pub mod Lengths
 pub mod Right
 pub mod Place
+pub mod Back
+pub mod Grammar
 pub mod Steps
 pub mod Marks
 pub mod Whole

@@ -1,6 +1,6 @@
 -- What the parser says of a whole text: a tree of exactly these tokens, or the place of the first token that no text could have there.
-use Prim.Native.Nat.{ℕ, zero, suc, _+_, _*_, _≤_, _<_}
-use mathlib.Core.Path.{_≡_, refl, sym, ap, _∙_, subst}
+use Prim.Native.Nat.{ℕ, suc, _+_, _*_, _≤_, _<_}
+use mathlib.Core.Path.{_≡_, refl, sym, ap, _∙_}
 use mathlib.Core.Bool.{Bool, true, false}
 use mathlib.Core.List.{List, [], _∷_, _++_}
 use mathlib.Core.Option.{Option, none, some}
@@ -9,10 +9,11 @@ use lib.ListN.{length, getD, take, drop, length-append, take-append-drop, drop-o
 use lib.Dec.{eqb}
 use borrow.Author.Tests.{eqb-true}
 use Rattle.syntax.specs.Token.{kEnd}
-use Rattle.syntax.specs.Tree.{Cat, Tree, onto, prog, noFuns}
-use Rattle.grammar.proofs.Machine.{Sym, Stack, Out, fine, stuck, step, run, goOn, tok, sFuns}
+use Rattle.syntax.specs.Tree.{Tree, onto, prog, noFuns}
+use Rattle.grammar.proofs.Machine.{Stack, Out, fine, stuck, step, run, goOn, tok, sFuns}
+use Rattle.grammar.specs.Text.{First-bad}
 use Rattle.grammar.specs.Parse.{Res, ok, bad, andThen, peek, moreProg, readText}
-use Rattle.grammar.proofs.Right.{upto, Reads, good, wrong, Ok, Bad, head, prog-right}
+use Rattle.grammar.proofs.Right.{upto, Reads, good, wrong, Ok, head, prog-right}
 use Rattle.grammar.proofs.Accept.{accept}
 
 rest-of : Out → ℕ
@@ -44,16 +45,9 @@ local (j ∷ p) ss k x y = go (step j ss) (λ s. local p s k x y)
     go (some s) f e = f s e
 
 module _ (ks : List ℕ) (ends : (a : ℕ) → suc a ≡ length ks → getD ks a 0 ≡ 0) (only : (a : ℕ) → a < length ks → getD ks a 0 ≡ 0 → suc a ≡ length ks) (some : 0 < length ks) where
-  -- some text has these first m tokens, and no text has these and the next
-  pub record First-bad (m : ℕ) : Type 0 where
-    pub text : Tree prog
-    pub rest : List ℕ
-    pub begins : upto ks ends m rest ≡ onto text (kEnd ∷ [])
-    pub none : (t : Tree prog) (more : List ℕ) → onto t (kEnd ∷ []) ≡ upto ks ends m (peek ks m ∷ more) → ⊥
-
   pub data Text : Res prog → Type 0 where
     kept : {t : Tree prog} {m : ℕ} → ks ≡ onto t (kEnd ∷ []) → Text (ok t m)
-    broken : {m : ℕ} → First-bad m → Text (bad m)
+    broken : {m : ℕ} → First-bad ks m → Text (bad m)
 
   abbrev S₀ : Stack
   S₀ = sFuns ∷ tok kEnd ∷ []
@@ -84,8 +78,8 @@ module _ (ks : List ℕ) (ends : (a : ℕ) → suc a ≡ length ks → getD ks a
     where
       close : (t : Tree prog) (m : ℕ) (b : Bool) → eqb (peek ks m) kEnd ≡ b → Ok ks ends 0 (λ ss. sFuns ∷ ss) 0 t m → Text (elim b [ true ↦ ok t m | false ↦ bad m ])
       close t m true e h = kept (sym (take-append-drop m ks) ∙ ap (λ l. take m ks ++ l) (head ks ends m (h .inside) ∙ last m e (h .inside)) ∙ h .read (kEnd ∷ []))
-      close t m false e h = broken (record { text = t; rest = kEnd ∷ []; begins = h .read (kEnd ∷ []); none = no-text m (h .inside) (h .ran (tok kEnd ∷ []) ∙ stops m e (h .inside)) })
+      close t m false e h = broken (record { inside = h .inside; program = t; rest = kEnd ∷ []; begins = sym (h .read (kEnd ∷ [])); none = no-text m (h .inside) (h .ran (tok kEnd ∷ []) ∙ stops m e (h .inside)) })
 
       go : (r : Res prog) → Reads ks ends 0 (λ ss. sFuns ∷ ss) 0 r → Text (andThen r (λ c m. elim (eqb (peek ks m) kEnd) [ true ↦ ok c m | false ↦ bad m ]))
       go (ok t m) (good h) = close t m (eqb (peek ks m) kEnd) refl h
-      go (bad m) (wrong h) = broken (record { text = h .whole; rest = h .rest (kEnd ∷ []); begins = h .read (kEnd ∷ []); none = no-text m (h .inside) (h .ran (tok kEnd ∷ [])) })
+      go (bad m) (wrong h) = broken (record { inside = h .inside; program = h .whole; rest = h .rest (kEnd ∷ []); begins = sym (h .read (kEnd ∷ [])); none = no-text m (h .inside) (h .ran (tok kEnd ∷ [])) })

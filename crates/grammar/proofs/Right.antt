@@ -1,86 +1,27 @@
 -- The parser is right. What a reader took are the tokens of its tree; where it stops, the machine is stuck, and what was read so far can be completed.
-use Prim.Native.Nat.{ℕ, zero, suc, _+_, _*_, _-_, _≤_, _<_}
+use Prim.Native.Nat.{ℕ, zero, suc, _+_, _*_, _≤_, _<_}
 use mathlib.Core.Path.{_≡_, refl, sym, ap, _∙_, subst}
 use mathlib.Core.Bool.{Bool, true, false}
 use mathlib.Core.List.{List, [], _∷_, _++_, append-assoc}
-use mathlib.Core.Option.{Option, none, some}
+use mathlib.Core.Option.{none}
 use native.Mathlib.Numerals.{add-one}
 use native.Mathlib.Nat.{le-trans, le-refl}
 use native.Mathlib.Omega.{arith}
 use native.Mathlib.Decide.{decLt}
-use lib.ListN.{length, getD, take, drop, List·getD-eq-default, length-append}
+use lib.ListN.{length, getD, take, drop, length-append}
 use lib.Seq.{take-suc, drop-cons, length-take-le}
-use lib.Dec.{eqb, ltb}
-use borrow.Author.Tests.{eqb-true, ltb-true, eqb-false, eq-eqb}
-use Rattle.syntax.specs.Token.{kEnd, kName, kNumber, kOpen, kClose, kComma, kPlus, kMinus, kTimes, kTrue, kFalse, kAnd, kOr, kLess, kEqual, kLessEq, kGreater, kGreaterEq, kUnequal, kSemi, kAssign, kLbrace, kRbrace, kInt, kFree, kIf, kElse, kWhile, kReturn, kFail}
-use Rattle.syntax.specs.Tree.{Cat, Tree, Cmp, onto}
-use Rattle.syntax.specs.Tree.{operand, term, sum, args, argList, cmp, atom, conj, cond, less, equal, lessEq, greater, greaterEq, unequal, stmt, stmts, body, params, paramList, fun, prog}
-use Rattle.syntax.specs.Tree.{number, negative, name, call, bracket, noArgs, someArgs, firstArg, nextArg, factor, times, addend, plus, minus, cmpMark, always, never, compare, oneAtom, both, oneConj, either, empty, declare, declareFree, assign, eval, block, ifElse, while, return, fail, noStmts, moreStmts, braced, noParams, someParams, firstParam, nextParam, function, noFuns, moreFuns}
-use Rattle.grammar.proofs.Machine.{Sym, Stack, Out, fine, stuck, step, run, goOn, on}
+use lib.Dec.{eqb}
+use borrow.Author.Tests.{eqb-true, eqb-false, eq-eqb}
+use Rattle.syntax.specs.Token.{kName, kNumber, kOpen, kClose, kComma, kPlus, kMinus, kTimes, kTrue, kFalse, kAnd, kOr, kLess, kEqual, kLessEq, kGreater, kGreaterEq, kUnequal, kSemi, kAssign, kLbrace, kRbrace, kInt, kFree, kIf, kElse, kWhile, kReturn, kFail}
+use Rattle.syntax.specs.Tree.{Cat, Tree, onto}
+use Rattle.syntax.specs.Tree.{term, sum, argList, conj, cond, less, stmt, stmts, paramList, prog}
+use Rattle.syntax.specs.Tree.{number, negative, name, call, bracket, someArgs, firstArg, nextArg, factor, times, addend, plus, minus, cmpMark, always, compare, oneAtom, both, oneConj, either, empty, declare, declareFree, assign, eval, block, ifElse, while, return, fail, noStmts, moreStmts, braced, noParams, someParams, firstParam, nextParam, function, moreFuns}
+use Rattle.grammar.proofs.Lengths.{stmt-longer}
+use Rattle.grammar.proofs.Machine.{Stack, stuck, step, run, goOn, on}
 use Rattle.grammar.proofs.Machine.{tok, sOperand, sTerm, sTerms, sSum, sSums, sCall, sArgs, sMore, sCmp, sAtom, sConj, sConjs, sCond, sConds, sStmt, sDecl, sNamed, sBody, sParams, sParamMore, sFuns}
 use Rattle.grammar.specs.Parse.{Res, ok, bad, andThen, peek, expect, readOperand, readBracket, readCall, readArgs, moreArgs, readTerm, moreTerm, readSum, moreSum, readCmp, readAtom, moreConj, readConj, moreCond, readCond, readGuard, readEnded, readNamed, readDecl, readFail, readStmt, readBlock, readIf, readWhile, moreBody, moreParams, readParams, readFun, moreProg}
 
--- a tree has tokens, or none
-grows : {c : Cat} (t : Tree c) (ks : List ℕ) → length ks ≤ length (onto t ks)
-unfolding onto
-grows (number i) ks = omega arith
-grows (negative i) ks = omega arith
-grows (name i) ks = omega arith
-grows (call i a) ks = omega (arith, grows a ks)
-grows (bracket i e) ks = omega (arith, grows e (kClose ∷ ks))
-grows noArgs ks = omega arith
-grows (someArgs l) ks = omega (arith, grows l (kClose ∷ ks))
-grows (firstArg e) ks = omega (arith, grows e ks)
-grows (nextArg l e) ks = omega (arith, grows l (kComma ∷ onto e ks), grows e ks)
-grows (factor o) ks = omega (arith, grows o ks)
-grows (times t o) ks = omega (arith, grows t (kTimes ∷ onto o ks), grows o ks)
-grows (addend t) ks = omega (arith, grows t ks)
-grows (plus s t) ks = omega (arith, grows s (kPlus ∷ onto t ks), grows t ks)
-grows (minus s t) ks = omega (arith, grows s (kMinus ∷ onto t ks), grows t ks)
-grows (cmpMark o) ks = omega arith
-grows always ks = omega arith
-grows never ks = omega arith
-grows (compare a o b) ks = omega (arith, grows a (onto o (onto b ks)), grows o (onto b ks), grows b ks)
-grows (oneAtom a) ks = omega (arith, grows a ks)
-grows (both c a) ks = omega (arith, grows c (kAnd ∷ onto a ks), grows a ks)
-grows (oneConj c) ks = omega (arith, grows c ks)
-grows (either b c) ks = omega (arith, grows b (kOr ∷ onto c ks), grows c ks)
-grows (empty i) ks = omega arith
-grows (declare i) ks = omega arith
-grows (declareFree i) ks = omega arith
-grows (assign i e) ks = omega (arith, grows e (kSemi ∷ ks))
-grows (eval e) ks = omega (arith, grows e (kSemi ∷ ks))
-grows (block i b) ks = omega (arith, grows b ks)
-grows (ifElse i c s t) ks = omega (arith, grows c (kClose ∷ onto s (kElse ∷ onto t ks)), grows s (kElse ∷ onto t ks), grows t ks)
-grows (while i c s) ks = omega (arith, grows c (kClose ∷ onto s ks), grows s ks)
-grows (return i e) ks = omega (arith, grows e (kSemi ∷ ks))
-grows (fail i) ks = omega arith
-grows noStmts ks = omega arith
-grows (moreStmts l s) ks = omega (arith, grows l (onto s ks), grows s ks)
-grows (braced l i) ks = omega (arith, grows l (kRbrace ∷ ks))
-grows noParams ks = omega arith
-grows (someParams l) ks = omega (arith, grows l (kClose ∷ ks))
-grows (firstParam i) ks = omega arith
-grows (nextParam l i) ks = omega (arith, grows l (kComma ∷ kInt ∷ kName ∷ ks))
-grows (function i p b) ks = omega (arith, grows p (kLbrace ∷ onto b ks), grows b ks)
-grows noFuns ks = omega arith
-grows (moreFuns p f) ks = omega (arith, grows p (onto f ks), grows f ks)
-
-stmt-grows : (t : Tree stmt) (ks : List ℕ) → length ks < length (onto t ks)
-unfolding onto
-stmt-grows (empty i) ks = omega arith
-stmt-grows (declare i) ks = omega arith
-stmt-grows (declareFree i) ks = omega arith
-stmt-grows (assign i e) ks = omega (arith, grows e (kSemi ∷ ks))
-stmt-grows (eval e) ks = omega (arith, grows e (kSemi ∷ ks))
-stmt-grows (block i b) ks = omega (arith, grows b ks)
-stmt-grows (ifElse i c s t) ks = omega (arith, grows c (kClose ∷ onto s (kElse ∷ onto t ks)), grows s (kElse ∷ onto t ks), grows t ks)
-stmt-grows (while i c s) ks = omega (arith, grows c (kClose ∷ onto s ks), grows s ks)
-stmt-grows (return i e) ks = omega (arith, grows e (kSemi ∷ ks))
-stmt-grows (fail i) ks = omega arith
-
 module _ (ks : List ℕ) (ends : (a : ℕ) → suc a ≡ length ks → getD ks a 0 ≡ 0) where
-
   -- the first a tokens, then r
   abbrev pub upto : ℕ → List ℕ → List ℕ
   upto a r = take a ks ++ r
@@ -122,10 +63,11 @@ module _ (ks : List ℕ) (ends : (a : ℕ) → suc a ≡ length ks → getD ks a
   eat : (a k : ℕ) → a < length ks → eqb (peek ks a) k ≡ true → eqb k 0 ≡ false → Eat a k
   eat a k h e z =
       let q : peek ks a ≡ k = eqb-true _ _ e in
-      record
-      { inside = not-last a h (λ p. eqb-false k 0 z (sym q ∙ p))
-      ; read = λ r. rw (add-one, take-suc ks a 0, append-assoc, q)
-      ; ahead = head a h ∙ ap (λ (x : ℕ). x ∷ drop (a + 1) ks) q }
+      record {
+        inside = not-last a h (λ p. eqb-false k 0 z (sym q ∙ p));
+        read = λ r. rw (add-one, take-suc ks a 0, append-assoc, q);
+        ahead = head a h ∙ ap (λ (x : ℕ). x ∷ drop (a + 1) ks) q;
+      }
 
   move : {c : Cat} {b at m : ℕ} {S S′ : Stack → Stack} {r : Res c} → at ≤ m → ((ss : Stack) → run (S ss) (drop at ks) ≡ run (S′ ss) (drop m ks)) → Reads b S′ m r → Reads b S at r
   move l e (good k) = good (record { past = le-trans l (k .past); inside = k .inside; read = k .read; ran = λ ss. e ss ∙ k .ran ss })
@@ -156,23 +98,25 @@ module _ (ks : List ℕ) (ends : (a : ℕ) → suc a ≡ length ks → getD ks a
 
   -- one reader, and another after it. Where the first stops, its tree is wrapped, and `tail` is what is then missing
   after : {c e : Cat} {b₁ b₂ at : ℕ} {S₁ S₂ : Stack → Stack} {r : Res c} {f : Tree c → ℕ → Res e}
-    → (wrap : Tree c → Tree e) (tail : List ℕ → List ℕ) → ((t : Tree c) (r : List ℕ) → upto b₁ (onto t (tail r)) ≡ upto b₂ (onto (wrap t) r))
-    → Reads b₁ S₁ at r
-    → ((t : Tree c) (m : ℕ) → Ok b₁ S₁ at t m → Reads b₂ S₂ m (f t m))
-    → Reads b₂ (λ ss. S₁ (S₂ ss)) at (andThen r f)
+      → (wrap : Tree c → Tree e) (tail : List ℕ → List ℕ) → ((t : Tree c) (r : List ℕ) → upto b₁ (onto t (tail r)) ≡ upto b₂ (onto (wrap t) r))
+      → Reads b₁ S₁ at r
+      → ((t : Tree c) (m : ℕ) → Ok b₁ S₁ at t m → Reads b₂ S₂ m (f t m))
+      → Reads b₂ (λ ss. S₁ (S₂ ss)) at (andThen r f)
   after wrap tail w (good {t} {m} h) g = join h (g t m h)
-  after {S₂ = S₂} wrap tail w (wrong h) g = wrong (record
-    { inside = h .inside
-    ; whole = wrap (h .whole)
-    ; rest = λ r. h .rest (tail r)
-    ; read = λ r. h .read (tail r) ∙ w (h .whole) r
-    ; ran = λ ss. h .ran (S₂ ss) })
+  after {S₂ = S₂} wrap tail w (wrong h) g = wrong (record {
+    inside = h .inside;
+    whole = wrap (h .whole);
+    rest = λ r. h .rest (tail r);
+    read = λ r. h .read (tail r) ∙ w (h .whole) r;
+    ran = λ ss. h .ran (S₂ ss);
+  })
 
   abbrev pub Fuel : ℕ → ℕ → ℕ → Type 0
   Fuel c d at = 8 * length ks + c ≤ d + 8 * at
 
   mutual
     unfolding readOperand onto run step
+
     pub operand-right : (d at : ℕ) → at < length ks → Fuel 2 d at → Reads at (λ ss. sOperand ∷ ss) at (readOperand ks d at)
     operand-right zero at i f = absurd (omega arith)
     operand-right (suc d) at i f =
@@ -180,9 +124,9 @@ module _ (ks : List ℕ) (ends : (a : ℕ) → suc a ≡ length ks → getD ks a
         (λ e. let x = eat at kNumber i e refl in eatThen x (λ ss r. refl) (done (x .inside) (x .read)))
         (λ e₁. split (eqb (peek ks at) kMinus)
         (λ e. let x = eat at kMinus i e refl in eatThen {S′ = λ ss. tok kNumber ∷ ss} x (λ ss r. refl)
-          (split (eqb (peek ks (at + 1)) kNumber)
-          (λ e′. let y = eat (at + 1) kNumber (x .inside) e′ refl in eatThen y (λ ss r. refl) (done (y .inside) (λ r. y .read r ∙ x .read (kNumber ∷ r))))
-          (λ e′. stop (x .inside) (negative 0) (λ r. kNumber ∷ r) (λ r. x .read (kNumber ∷ r)) (λ ss. rw e′))))
+        (split (eqb (peek ks (at + 1)) kNumber)
+        (λ e′. let y = eat (at + 1) kNumber (x .inside) e′ refl in eatThen y (λ ss r. refl) (done (y .inside) (λ r. y .read r ∙ x .read (kNumber ∷ r))))
+        (λ e′. stop (x .inside) (negative 0) (λ r. kNumber ∷ r) (λ r. x .read (kNumber ∷ r)) (λ ss. rw e′))))
         (λ e₂. split (eqb (peek ks at) kName)
         (λ e. let x = eat at kName i e refl in eatThen {S′ = λ ss. sCall ∷ ss} x (λ ss r. refl) (call-right d at x (omega arith)))
         (λ e₃. split (eqb (peek ks at) kOpen)
@@ -194,16 +138,16 @@ module _ (ks : List ℕ) (ends : (a : ℕ) → suc a ≡ length ks → getD ks a
     bracket-right (suc d) at x f =
         after (bracket at) (λ r. kClose ∷ r) (λ t r. x .read (onto t (kClose ∷ r))) (sum-right d (at + 1) (x .inside) (omega arith))
         (λ t m h. split (eqb (peek ks m) kClose)
-          (λ e′. let y = eat m kClose (h .inside) e′ refl in eatThen y (λ ss r. refl) (done (y .inside) (λ r. y .read r ∙ h .read (kClose ∷ r) ∙ x .read (onto t (kClose ∷ r)))))
-          (λ e′. stop (h .inside) (bracket at t) (λ r. kClose ∷ r) (λ r. h .read (kClose ∷ r) ∙ x .read (onto t (kClose ∷ r))) (λ ss. rw e′)))
+        (λ e′. let y = eat m kClose (h .inside) e′ refl in eatThen y (λ ss r. refl) (done (y .inside) (λ r. y .read r ∙ h .read (kClose ∷ r) ∙ x .read (onto t (kClose ∷ r)))))
+        (λ e′. stop (h .inside) (bracket at t) (λ r. kClose ∷ r) (λ r. h .read (kClose ∷ r) ∙ x .read (onto t (kClose ∷ r))) (λ ss. rw e′)))
 
     call-right : (d at : ℕ) → Eat at kName → Fuel 1 d at → Reads at (λ ss. sCall ∷ ss) (at + 1) (readCall ks d at)
     call-right zero at x f = absurd (omega (arith, x .inside))
     call-right (suc d) at x f =
         split (eqb (peek ks (at + 1)) kOpen)
         (λ e. let y = eat (at + 1) kOpen (x .inside) e refl in eatThen {S′ = λ ss. sArgs ∷ ss} y (λ ss r. refl)
-          (after (call 0) (λ r. r) (λ t r. y .read (onto t r) ∙ x .read (kOpen ∷ onto t r)) (args-right d (at + 1 + 1) (y .inside) (omega arith))
-          (λ t m h. done (h .inside) (λ r. h .read r ∙ y .read (onto t r) ∙ x .read (kOpen ∷ onto t r)))))
+        (after (call 0) (λ r. r) (λ t r. y .read (onto t r) ∙ x .read (kOpen ∷ onto t r)) (args-right d (at + 1 + 1) (y .inside) (omega arith))
+        (λ t m h. done (h .inside) (λ r. h .read r ∙ y .read (onto t r) ∙ x .read (kOpen ∷ onto t r)))))
         (λ e. skip (x .inside) (λ ss. rw e) (done (x .inside) (x .read)))
 
     args-right : (d at : ℕ) → at < length ks → Fuel 5 d at → Reads at (λ ss. sArgs ∷ ss) at (readArgs ks d at)
@@ -212,16 +156,16 @@ module _ (ks : List ℕ) (ends : (a : ℕ) → suc a ≡ length ks → getD ks a
         split (eqb (peek ks at) kClose)
         (λ e. let x = eat at kClose i e refl in eatThen x (λ ss r. refl) (done (x .inside) (x .read)))
         (λ e. skip {S′ = λ ss. sSum ∷ sMore ∷ ss} i (λ ss. rw e)
-          (after (λ t. someArgs (firstArg t)) (λ r. kClose ∷ r) (λ t r. refl) (sum-right d at i (omega arith))
-          (λ t m h. more-args d (firstArg t) at m (h .inside) (h .read) (omega (arith, h .past)))))
+        (after (λ t. someArgs (firstArg t)) (λ r. kClose ∷ r) (λ t r. refl) (sum-right d at i (omega arith))
+        (λ t m h. more-args d (firstArg t) at m (h .inside) (h .read) (omega (arith, h .past)))))
 
     more-args : (d : ℕ) (l : Tree argList) (b at : ℕ) → at < length ks → ((r : List ℕ) → upto at r ≡ upto b (onto l r)) → Fuel 1 d at → Reads b (λ ss. sMore ∷ ss) at (moreArgs ks d l at)
     more-args zero l b at i w f = absurd (omega arith)
     more-args (suc d) l b at i w f =
         split (eqb (peek ks at) kComma)
         (λ e. let x = eat at kComma i e refl in eatThen {S′ = λ ss. sSum ∷ sMore ∷ ss} x (λ ss r. refl)
-          (after (λ t. someArgs (nextArg l t)) (λ r. kClose ∷ r) (λ t r. x .read _ ∙ w _) (sum-right d (at + 1) (x .inside) (omega arith))
-          (λ t m h. more-args d (nextArg l t) b m (h .inside) (λ r. h .read r ∙ x .read _ ∙ w _) (omega (arith, h .past)))))
+        (after (λ t. someArgs (nextArg l t)) (λ r. kClose ∷ r) (λ t r. x .read _ ∙ w _) (sum-right d (at + 1) (x .inside) (omega arith))
+        (λ t m h. more-args d (nextArg l t) b m (h .inside) (λ r. h .read r ∙ x .read _ ∙ w _) (omega (arith, h .past)))))
         (λ e₁. split (eqb (peek ks at) kClose)
         (λ e. let x = eat at kClose i e refl in eatThen x (λ ss r. refl) (done (x .inside) (λ r. x .read r ∙ w _)))
         (λ e₂. stop i (someArgs l) (λ r. kClose ∷ r) (λ r. w _) (λ ss. rw (e₁, e₂))))
@@ -237,8 +181,8 @@ module _ (ks : List ℕ) (ends : (a : ℕ) → suc a ≡ length ks → getD ks a
     more-term (suc d) l b at i w f =
         split (eqb (peek ks at) kTimes)
         (λ e. let x = eat at kTimes i e refl in eatThen {S′ = λ ss. sOperand ∷ sTerms ∷ ss} x (λ ss r. refl)
-          (after (times l) (λ r. r) (λ t r. x .read _ ∙ w _) (operand-right d (at + 1) (x .inside) (omega arith))
-          (λ t m h. more-term d (times l t) b m (h .inside) (λ r. h .read r ∙ x .read _ ∙ w _) (omega (arith, h .past)))))
+        (after (times l) (λ r. r) (λ t r. x .read _ ∙ w _) (operand-right d (at + 1) (x .inside) (omega arith))
+        (λ t m h. more-term d (times l t) b m (h .inside) (λ r. h .read r ∙ x .read _ ∙ w _) (omega (arith, h .past)))))
         (λ e. skip i (λ ss. rw e) (done i w))
 
     pub sum-right : (d at : ℕ) → at < length ks → Fuel 4 d at → Reads at (λ ss. sSum ∷ ss) at (readSum ks d at)
@@ -252,12 +196,12 @@ module _ (ks : List ℕ) (ends : (a : ℕ) → suc a ≡ length ks → getD ks a
     more-sum (suc d) l b at i w f =
         split (eqb (peek ks at) kPlus)
         (λ e. let x = eat at kPlus i e refl in eatThen {S′ = λ ss. sTerm ∷ sSums ∷ ss} x (λ ss r. refl)
-          (after (plus l) (λ r. r) (λ t r. x .read _ ∙ w _) (term-right d (at + 1) (x .inside) (omega arith))
-          (λ t m h. more-sum d (plus l t) b m (h .inside) (λ r. h .read r ∙ x .read _ ∙ w _) (omega (arith, h .past)))))
+        (after (plus l) (λ r. r) (λ t r. x .read _ ∙ w _) (term-right d (at + 1) (x .inside) (omega arith))
+        (λ t m h. more-sum d (plus l t) b m (h .inside) (λ r. h .read r ∙ x .read _ ∙ w _) (omega (arith, h .past)))))
         (λ e₁. split (eqb (peek ks at) kMinus)
         (λ e. let x = eat at kMinus i e refl in eatThen {S′ = λ ss. sTerm ∷ sSums ∷ ss} x (λ ss r. refl)
-          (after (minus l) (λ r. r) (λ t r. x .read _ ∙ w _) (term-right d (at + 1) (x .inside) (omega arith))
-          (λ t m h. more-sum d (minus l t) b m (h .inside) (λ r. h .read r ∙ x .read _ ∙ w _) (omega (arith, h .past)))))
+        (after (minus l) (λ r. r) (λ t r. x .read _ ∙ w _) (term-right d (at + 1) (x .inside) (omega arith))
+        (λ t m h. more-sum d (minus l t) b m (h .inside) (λ r. h .read r ∙ x .read _ ∙ w _) (omega (arith, h .past)))))
         (λ e₂. skip i (λ ss. rw (e₁, e₂)) (done i w)))
 
   cmp-right : (at : ℕ) → at < length ks → Reads at (λ ss. sCmp ∷ ss) at (readCmp ks at)
@@ -286,10 +230,10 @@ module _ (ks : List ℕ) (ends : (a : ℕ) → suc a ≡ length ks → getD ks a
       (λ e₁. split (eqb (peek ks at) kFalse)
       (λ e. let x = eat at kFalse i e refl in eatThen x (λ ss r. refl) (done (x .inside) (x .read)))
       (λ e₂. skip {S′ = λ ss. sSum ∷ sCmp ∷ sSum ∷ ss} i (λ ss. rw (e₁, e₂))
-        (after (λ a. compare a (cmpMark less) (addend (factor (number 0)))) (λ r. kLess ∷ kNumber ∷ r) (λ t r. refl) (sum-right d at i (omega arith))
-        (λ a m h. after (λ o. compare a o (addend (factor (number 0)))) (λ r. kNumber ∷ r) (λ t r. h .read _) (cmp-right m (h .inside))
-        (λ o n h₂. after (λ b. compare a o b) (λ r. r) (λ t r. h₂ .read _ ∙ h .read _) (sum-right d n (h₂ .inside) (omega (arith, h .past, h₂ .past)))
-        (λ b p h₃. done (h₃ .inside) (λ r. h₃ .read r ∙ h₂ .read _ ∙ h .read _)))))))
+      (after (λ a. compare a (cmpMark less) (addend (factor (number 0)))) (λ r. kLess ∷ kNumber ∷ r) (λ t r. refl) (sum-right d at i (omega arith))
+      (λ a m h. after (λ o. compare a o (addend (factor (number 0)))) (λ r. kNumber ∷ r) (λ t r. h .read _) (cmp-right m (h .inside))
+      (λ o n h₂. after (λ b. compare a o b) (λ r. r) (λ t r. h₂ .read _ ∙ h .read _) (sum-right d n (h₂ .inside) (omega (arith, h .past, h₂ .past)))
+      (λ b p h₃. done (h₃ .inside) (λ r. h₃ .read r ∙ h₂ .read _ ∙ h .read _)))))))
 
   more-conj : (d : ℕ) (l : Tree conj) (b at : ℕ) → at < length ks → ((r : List ℕ) → upto at r ≡ upto b (onto l r)) → Fuel 1 d at → Reads b (λ ss. sConjs ∷ ss) at (moreConj ks d l at)
   unfolding moreConj onto run step
@@ -297,8 +241,8 @@ module _ (ks : List ℕ) (ends : (a : ℕ) → suc a ≡ length ks → getD ks a
   more-conj (suc d) l b at i w f =
       split (eqb (peek ks at) kAnd)
       (λ e. let x = eat at kAnd i e refl in eatThen {S′ = λ ss. sAtom ∷ sConjs ∷ ss} x (λ ss r. refl)
-        (after (both l) (λ r. r) (λ t r. x .read _ ∙ w _) (atom-right d (at + 1) (x .inside) (omega arith))
-        (λ t m h. more-conj d (both l t) b m (h .inside) (λ r. h .read r ∙ x .read _ ∙ w _) (omega (arith, h .past)))))
+      (after (both l) (λ r. r) (λ t r. x .read _ ∙ w _) (atom-right d (at + 1) (x .inside) (omega arith))
+      (λ t m h. more-conj d (both l t) b m (h .inside) (λ r. h .read r ∙ x .read _ ∙ w _) (omega (arith, h .past)))))
       (λ e. skip i (λ ss. rw e) (done i w))
 
   conj-right : (d at : ℕ) → at < length ks → Fuel 6 d at → Reads at (λ ss. sConj ∷ ss) at (readConj ks d at)
@@ -314,8 +258,8 @@ module _ (ks : List ℕ) (ends : (a : ℕ) → suc a ≡ length ks → getD ks a
   more-cond (suc d) l b at i w f =
       split (eqb (peek ks at) kOr)
       (λ e. let x = eat at kOr i e refl in eatThen {S′ = λ ss. sConj ∷ sConds ∷ ss} x (λ ss r. refl)
-        (after (either l) (λ r. r) (λ t r. x .read _ ∙ w _) (conj-right d (at + 1) (x .inside) (omega arith))
-        (λ t m h. more-cond d (either l t) b m (h .inside) (λ r. h .read r ∙ x .read _ ∙ w _) (omega (arith, h .past)))))
+      (after (either l) (λ r. r) (λ t r. x .read _ ∙ w _) (conj-right d (at + 1) (x .inside) (omega arith))
+      (λ t m h. more-cond d (either l t) b m (h .inside) (λ r. h .read r ∙ x .read _ ∙ w _) (omega (arith, h .past)))))
       (λ e. skip i (λ ss. rw e) (done i w))
 
   pub cond-right : (d at : ℕ) → at < length ks → Fuel 7 d at → Reads at (λ ss. sCond ∷ ss) at (readCond ks d at)
@@ -329,14 +273,14 @@ module _ (ks : List ℕ) (ends : (a : ℕ) → suc a ≡ length ks → getD ks a
   strict : {at m : ℕ} {S : Stack → Stack} {t : Tree stmt} → Ok at S at t m → at < m
   strict {at} {m} {t = t} h =
       let e : m + 0 ≡ at + length (onto t []) = lengths m (omega (arith, h .inside)) [] ∙ ap length (h .read []) ∙ sym (lengths at (omega (arith, h .inside, h .past)) (onto t [])) in
-      omega (arith, e, stmt-grows t [])
+      omega (arith, e, stmt-longer t)
     where
       lengths : (a : ℕ) → a ≤ length ks → (r : List ℕ) → a + length r ≡ length (upto a r)
       lengths a i r = sym (length-append (take a ks) r ∙ ap (λ (k : ℕ). k + length r) (length-take-le a ks i))
 
   -- a token that must come
   expects : {c : Cat} {b at : ℕ} {S′ : Stack → Stack} {r : Res c} (k : ℕ) (t : Tree c) (w : List ℕ → List ℕ) → at < length ks → eqb k 0 ≡ false → ((q : List ℕ) → upto at (w q) ≡ upto b (onto t q))
-    → (Eat at k → Reads b S′ (at + 1) r) → Reads b (λ ss. tok k ∷ S′ ss) at (expect ks k at r)
+      → (Eat at k → Reads b S′ (at + 1) r) → Reads b (λ ss. tok k ∷ S′ ss) at (expect ks k at r)
   unfolding run step
   expects {at = at} k t w i z e f =
       split (eqb (peek ks at) k)
@@ -361,9 +305,9 @@ module _ (ks : List ℕ) (ends : (a : ℕ) → suc a ≡ length ks → getD ks a
 
   -- a condition in brackets at x, and what comes after it; `form` makes a tree of it, and `tail` what is then missing
   guard-then : {e : Cat} {b : ℕ} {S₂ : Stack → Stack} (f : Tree cond → ℕ → Res e) (d x : ℕ) → x < length ks → Fuel 1 (suc d) x → (form : Tree cond → Tree e) (tail : List ℕ → List ℕ)
-    → ((c : Tree cond) (r : List ℕ) → upto x (kOpen ∷ onto c (kClose ∷ tail r)) ≡ upto b (onto (form c) r))
-    → ((c : Tree cond) (m : ℕ) → x < m → m < length ks → ((r : List ℕ) → upto m r ≡ upto x (kOpen ∷ onto c (kClose ∷ r))) → Reads b S₂ m (f c m))
-    → Reads b (λ ss. tok kOpen ∷ sCond ∷ tok kClose ∷ S₂ ss) x (andThen (readGuard ks (suc d) x) f)
+      → ((c : Tree cond) (r : List ℕ) → upto x (kOpen ∷ onto c (kClose ∷ tail r)) ≡ upto b (onto (form c) r))
+      → ((c : Tree cond) (m : ℕ) → x < m → m < length ks → ((r : List ℕ) → upto m r ≡ upto x (kOpen ∷ onto c (kClose ∷ r))) → Reads b S₂ m (f c m))
+      → Reads b (λ ss. tok kOpen ∷ sCond ∷ tok kClose ∷ S₂ ss) x (andThen (readGuard ks (suc d) x) f)
   unfolding onto
   guard-then {e} {b} {S₂} f d x i g form tail w h =
       subst (λ (v : Res e). Reads b (λ ss. tok kOpen ∷ sCond ∷ tok kClose ∷ S₂ ss) x v) (sym (guard-is d x f))
@@ -373,7 +317,7 @@ module _ (ks : List ℕ) (ends : (a : ℕ) → suc a ≡ length ks → getD ks a
       (λ z. h c (m + 1) (omega (arith, k .past)) (z .inside) (λ r. z .read _ ∙ k .read _ ∙ y .read _)))))
 
   ended-right : (w : Tree sum → Tree stmt) (d b at : ℕ) → at < length ks → Fuel 5 d at → ((t : Tree sum) (r : List ℕ) → upto at (onto t (kSemi ∷ r)) ≡ upto b (onto (w t) r))
-    → Reads b (λ ss. sSum ∷ tok kSemi ∷ ss) at (readEnded ks w d at)
+      → Reads b (λ ss. sSum ∷ tok kSemi ∷ ss) at (readEnded ks w d at)
   unfolding readEnded
   ended-right wrap zero b at i f w = absurd (omega arith)
   ended-right wrap (suc d) b at i f w =
@@ -406,9 +350,9 @@ module _ (ks : List ℕ) (ends : (a : ℕ) → suc a ≡ length ks → getD ks a
   named-right (suc d) at i x f =
       split (eqb (peek ks (at + 1)) kAssign)
       (λ e. let y = eat (at + 1) kAssign (x .inside) e refl in eatThen {S′ = λ ss. sNamed ∷ ss} x (λ ss r. refl)
-        (eatThen {S′ = λ ss. sSum ∷ tok kSemi ∷ ss} y (λ ss r. refl) (ended-right (assign at) d at (at + 1 + 1) (y .inside) (omega arith) (λ t r. y .read _ ∙ x .read _))))
+      (eatThen {S′ = λ ss. sSum ∷ tok kSemi ∷ ss} y (λ ss r. refl) (ended-right (assign at) d at (at + 1 + 1) (y .inside) (omega arith) (λ t r. y .read _ ∙ x .read _))))
       (λ e. let z = two-ahead at x in move (le-refl _) (λ ss. ap (run (sStmt ∷ ss)) z ∙ named-run (peek ks (at + 1)) ss (drop (at + 1 + 1) ks) e ∙ sym (ap (run (sSum ∷ tok kSemi ∷ ss)) z))
-        (ended-right eval d at at i (omega arith) (λ t r. refl)))
+      (ended-right eval d at at i (omega arith) (λ t r. refl)))
 
   fail-right : (at : ℕ) → Eat at kFail → Reads at (λ ss. tok kSemi ∷ ss) (at + 1) (readFail ks at)
   unfolding readFail onto
@@ -416,6 +360,7 @@ module _ (ks : List ℕ) (ends : (a : ℕ) → suc a ≡ length ks → getD ks a
 
   mutual
     unfolding readStmt onto run step
+
     pub stmt-right : (d at : ℕ) → at < length ks → Fuel 7 d at → Reads at (λ ss. sStmt ∷ ss) at (readStmt ks d at)
     stmt-right zero at i f = absurd (omega arith)
     stmt-right (suc d) at i f =
@@ -467,8 +412,8 @@ module _ (ks : List ℕ) (ends : (a : ℕ) → suc a ≡ length ks → getD ks a
         split (eqb (peek ks at) kRbrace)
         (λ e. let x = eat at kRbrace i e refl in eatThen x (λ ss r. refl) (done (x .inside) (λ r. x .read r ∙ w _)))
         (λ e. skip {S′ = λ ss. sStmt ∷ sBody ∷ ss} i (λ ss. rw e)
-          (after (λ s. braced (moreStmts l s) 0) (λ r. kRbrace ∷ r) (λ t r. w _) (stmt-right d at i (omega arith))
-          (λ s m h. body-right d (moreStmts l s) b m (h .inside) (λ r. h .read r ∙ w _) (omega (arith, strict h)))))
+        (after (λ s. braced (moreStmts l s) 0) (λ r. kRbrace ∷ r) (λ t r. w _) (stmt-right d at i (omega arith))
+        (λ s m h. body-right d (moreStmts l s) b m (h .inside) (λ r. h .read r ∙ w _) (omega (arith, strict h)))))
 
   more-params : (d : ℕ) (l : Tree paramList) (b at : ℕ) → at < length ks → ((r : List ℕ) → upto at r ≡ upto b (onto l r)) → Fuel 1 d at → Reads b (λ ss. sParamMore ∷ ss) at (moreParams ks d l at)
   unfolding moreParams onto run step
@@ -476,9 +421,9 @@ module _ (ks : List ℕ) (ends : (a : ℕ) → suc a ≡ length ks → getD ks a
   more-params (suc d) l b at i w f =
       split (eqb (peek ks at) kComma)
       (λ e. let x = eat at kComma i e refl in eatThen {S′ = λ ss. tok kInt ∷ tok kName ∷ sParamMore ∷ ss} x (λ ss r. refl)
-        (expects kInt (someParams (nextParam l 0)) (λ r. kInt ∷ kName ∷ kClose ∷ r) (x .inside) refl (λ r. x .read _ ∙ w _)
-        (λ y. expects kName (someParams (nextParam l 0)) (λ r. kName ∷ kClose ∷ r) (y .inside) refl (λ r. y .read _ ∙ x .read _ ∙ w _)
-        (λ z. more-params d (nextParam l (at + 1 + 1)) b (at + 1 + 1 + 1) (z .inside) (λ r. z .read _ ∙ y .read _ ∙ x .read _ ∙ w _) (omega arith)))))
+      (expects kInt (someParams (nextParam l 0)) (λ r. kInt ∷ kName ∷ kClose ∷ r) (x .inside) refl (λ r. x .read _ ∙ w _)
+      (λ y. expects kName (someParams (nextParam l 0)) (λ r. kName ∷ kClose ∷ r) (y .inside) refl (λ r. y .read _ ∙ x .read _ ∙ w _)
+      (λ z. more-params d (nextParam l (at + 1 + 1)) b (at + 1 + 1 + 1) (z .inside) (λ r. z .read _ ∙ y .read _ ∙ x .read _ ∙ w _) (omega arith)))))
       (λ e₁. split (eqb (peek ks at) kClose)
       (λ e. let x = eat at kClose i e refl in eatThen x (λ ss r. refl) (done (x .inside) (λ r. x .read r ∙ w _)))
       (λ e₂. stop i (someParams l) (λ r. kClose ∷ r) (λ r. w _) (λ ss. rw (e₁, e₂))))
@@ -490,9 +435,9 @@ module _ (ks : List ℕ) (ends : (a : ℕ) → suc a ≡ length ks → getD ks a
       split (eqb (peek ks at) kClose)
       (λ e. let x = eat at kClose i e refl in eatThen x (λ ss r. refl) (done (x .inside) (x .read)))
       (λ e. skip {S′ = λ ss. tok kInt ∷ tok kName ∷ sParamMore ∷ ss} i (λ ss. rw e)
-        (expects kInt noParams (λ r. kClose ∷ r) i refl (λ r. refl)
-        (λ y. expects kName (someParams (firstParam 0)) (λ r. kName ∷ kClose ∷ r) (y .inside) refl (λ r. y .read _)
-        (λ z. more-params d (firstParam (at + 1)) at (at + 1 + 1) (z .inside) (λ r. z .read _ ∙ y .read _) (omega arith)))))
+      (expects kInt noParams (λ r. kClose ∷ r) i refl (λ r. refl)
+      (λ y. expects kName (someParams (firstParam 0)) (λ r. kName ∷ kClose ∷ r) (y .inside) refl (λ r. y .read _)
+      (λ z. more-params d (firstParam (at + 1)) at (at + 1 + 1) (z .inside) (λ r. z .read _ ∙ y .read _) (omega arith)))))
 
   fun-right : (d at : ℕ) → Eat at kInt → Fuel 1 d at → Reads at (λ ss. tok kName ∷ tok kOpen ∷ sParams ∷ tok kLbrace ∷ sBody ∷ ss) (at + 1) (readFun ks d at)
   unfolding readFun onto run step
@@ -511,6 +456,6 @@ module _ (ks : List ℕ) (ends : (a : ℕ) → suc a ≡ length ks → getD ks a
   prog-right (suc d) l b at i w f =
       split (eqb (peek ks at) kInt)
       (λ e. let x = eat at kInt i e refl in eatThen {S′ = λ ss. tok kName ∷ tok kOpen ∷ sParams ∷ tok kLbrace ∷ sBody ∷ sFuns ∷ ss} x (λ ss r. refl)
-        (after {S₁ = λ ss. tok kName ∷ tok kOpen ∷ sParams ∷ tok kLbrace ∷ sBody ∷ ss} (λ t. moreFuns l t) (λ r. r) (λ t r. w _) (fun-right d at x (omega arith))
-        (λ t m h. prog-right d (moreFuns l t) b m (h .inside) (λ r. h .read r ∙ w _) (omega (arith, h .past)))))
+      (after {S₁ = λ ss. tok kName ∷ tok kOpen ∷ sParams ∷ tok kLbrace ∷ sBody ∷ ss} (λ t. moreFuns l t) (λ r. r) (λ t r. w _) (fun-right d at x (omega arith))
+      (λ t m h. prog-right d (moreFuns l t) b m (h .inside) (λ r. h .read r ∙ w _) (omega (arith, h .past)))))
       (λ e. skip i (λ ss. rw e) (done i w))

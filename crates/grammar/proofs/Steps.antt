@@ -12,10 +12,10 @@ use Rattle.syntax.specs.Ast as A
 use Rattle.syntax.specs.Ast.{Sort, Ast}
 use Rattle.syntax.specs.Tree.{Cat, Tree}
 use Rattle.syntax.specs.Abstract.{ast}
-use Rattle.syntax.specs.Table.{row, Row, Holds, nNoArgs, nNoParams, at-no-args, at-no-params}
+use Rattle.syntax.specs.Table.{Row, Holds, nNoArgs, nNoParams, at-no-args, at-no-params}
 use Rattle.syntax.proofs.Rows.{Same, same-refl, same-trans, same-less, kept-at, length-row, row-same, row-is}
 use Rattle.grammar.specs.Parse.{Res, ok, bad, andThen}
-use Rattle.grammar.specs.Readers.{Stored, Ready, Gives, tree, none, Fuel, Fresh, Rest}
+use Rattle.grammar.specs.Readers.{Stored, Ready, Gives, tree, none, Fuel, Fresh}
 use Rattle.grammar.specs.declared.Read.{Read}
 use Rattle.grammar.specs.declared.Read.the-variants.{Found, Bad}
 
@@ -129,18 +129,32 @@ module _ {c : Cat} {ks l m : List ℕ} {n at rank g f x z : ℕ} {whole : ℕ �
 
   -- the next token is passed
   pub pass : {k : ℕ → Res c} → x + 1 < length ks → Sofar ks l n at rank whole g f m x z k → Sofar ks l n at rank whole (g + 2) (f + 2) m (x + 1) z k
-  pass h s = record
-    { ready = record { inside = h; few = s .ready .few; room = s .ready .room; below = omega (arith, s .ready .below); ends = s .ready .ends }
-    ; from = s .from; under = s .under; same = s .same; more = s .more; fit = omega (arith, s .fit); far = omega (arith, s .far); goes = s .goes }
+  pass h s = record {
+    ready = record { inside = h; few = s .ready .few; room = s .ready .room; below = omega (arith, s .ready .below); ends = s .ready .ends };
+    from = s .from;
+    under = s .under;
+    same = s .same;
+    more = s .more;
+    fit = omega (arith, s .fit);
+    far = omega (arith, s .far);
+    goes = s .goes;
+  }
 
   pub eat : {k : ℕ} (A B : ℕ → Res c) → getD ks x 0 ≡ k → eqb k 0 ≡ false → Sofar ks l n at rank whole g f m x z (λ d. elim (eqb (getD ks x 0) k) [ true ↦ A d | false ↦ B d ]) → Sofar ks l n at rank whole (g + 2) (f + 2) m (x + 1) z A
   eat A B e o s = pass (not-last (s .ready) e o) (yes-so A B e s)
 
   -- a node is written
   pub wrote : {m′ : List ℕ} {i k t a b v : ℕ} {q : Read} {r : ℕ → Res c} → Stored m m′ z i k t a b v q → Sofar ks l n at rank whole g f m x z r → 1 ≤ g → Sofar ks l n at rank whole (g - 1) f m′ x (z + 1) r
-  wrote e s h = record
-    { ready = record { inside = s .ready .inside; few = s .ready .few; room = omega (arith, s .ready .room, stored-length e); below = omega (arith, s .fit, s .under); ends = s .ready .ends }
-    ; from = s .from; under = s .under; same = same-trans (s .same) (same-less (s .more) (unwritten e)); more = omega (arith, s .more); fit = omega (arith, s .fit); far = s .far; goes = s .goes }
+  wrote e s h = record {
+    ready = record { inside = s .ready .inside; few = s .ready .few; room = omega (arith, s .ready .room, stored-length e); below = omega (arith, s .fit, s .under); ends = s .ready .ends };
+    from = s .from;
+    under = s .under;
+    same = same-trans (s .same) (same-less (s .more) (unwritten e));
+    more = omega (arith, s .more);
+    fit = omega (arith, s .fit);
+    far = s .far;
+    goes = s .goes;
+  }
 
   module _ {e : Cat} {m′ : List ℕ} {s rank′ : ℕ} {q : Read} {read : ℕ → ℕ → Res e} (k : ℕ → Tree e → ℕ → Res c) (h : Fresh ks m m′ s z x rank′ q read) (so : Sofar ks l n at rank whole g f m x z (λ d. andThen (read d x) (k d))) (up : rank′ + 1 ≤ rank + 4 * f) where
     -- a reader is called, and finds a tree
@@ -148,12 +162,23 @@ module _ {c : Cat} {ks l m : List ℕ} {n at rank g f x z : ℕ} {whole : ℕ �
     call {x′} {y} {z′} eq le = go (h .res) (h .reads) (subst (λ (o : Read). Gives ks m m′ s z x o (h .res)) eq (h .gives))
       where
         go : (v : Res e) → ((d : ℕ) → Fuel ks rank′ d x → read d x ≡ v) → Gives ks m m′ s z x (Found x′ y z′) v → Called ks l n at rank whole (g + s) (f + s) m m′ z x′ y z′ k
-        go v rd (tree {t = t} α β γ δ ε ζ) = record
-          { tree = t; holds = ζ; rooted = β; same = ε; more = γ
-          ; sofar = record
-            { ready = record { inside = α; few = so .ready .few; room = omega (arith, so .ready .room); below = omega (arith, so .fit, so .under); ends = so .ready .ends }
-            ; from = so .from; under = so .under; same = same-trans (so .same) (same-less (so .more) ε); more = omega (arith, so .more); fit = omega (arith, so .fit); far = omega (arith, so .far)
-            ; goes = λ d w. so .goes d w ∙ ap (λ (o : Res e). andThen o (k d)) (rd d (omega (arith, w, so .far))) } }
+        go v rd (tree {t = t} α β γ δ ε ζ) = record {
+          tree = t;
+          holds = ζ;
+          rooted = β;
+          same = ε;
+          more = γ;
+          sofar = record {
+            ready = record { inside = α; few = so .ready .few; room = omega (arith, so .ready .room); below = omega (arith, so .fit, so .under); ends = so .ready .ends };
+            from = so .from;
+            under = so .under;
+            same = same-trans (so .same) (same-less (so .more) ε);
+            more = omega (arith, so .more);
+            fit = omega (arith, so .fit);
+            far = omega (arith, so .far);
+            goes = λ d w. so .goes d w ∙ ap (λ (o : Res e). andThen o (k d)) (rd d (omega (arith, w, so .far)));
+          };
+        }
 
     -- it finds none
     pub fail : {s′ p : ℕ} → q ≡ Bad p → Fresh ks l m′ s′ n at rank q whole

@@ -1,26 +1,23 @@
 -- What `parse` answers, by what its readers found.
-use Prim.Native.Nat.{ℕ, _+_, _*_, _≤_, _<_}
-use mathlib.Core.Path.{_≡_, refl, sym, ap, _∙_, subst}
+use Prim.Native.Nat.{ℕ, _+_, _*_}
+use mathlib.Core.Path.{_≡_, sym, ap, subst}
 use mathlib.Core.Bool.{Bool, true, false}
 use mathlib.Core.List.{List}
 use native.Mathlib.Omega.{arith}
 use lib.ListN.{length, getD}
-use lib.Dec.{eqb}
 use borrow.Author.Tests.{eq-eqb, ne-eqb}
 use Rattle.syntax.specs.Token.{kEnd}
-use Rattle.syntax.specs.Tree.{Tree, prog, noFuns}
-use Rattle.syntax.specs.Ast as A
+use Rattle.syntax.specs.Tree.{prog, noFuns}
 use Rattle.syntax.specs.Abstract.{ast}
-use Rattle.syntax.specs.Table.{Row, Holds, nNoFuns, at-no-funs}
-use Rattle.grammar.specs.Parse.{Res, ok, bad, andThen, expect, peek, moreProg, readText, parsed}
-use Rattle.grammar.specs.Readers.{Stored, Ready, Gives, tree, none, Fresh, Rest}
+use Rattle.syntax.specs.Table.{Holds, nNoFuns, at-no-funs}
+use Rattle.grammar.specs.Parse.{Res, ok, bad, andThen, expect, moreProg, readText, parsed}
+use Rattle.grammar.specs.Readers.{Stored, Ready, Gives, tree, none, Fresh}
 use Rattle.grammar.specs.Answer as W
 use Rattle.grammar.specs.Answer.{Lent, Answers}
 use Rattle.grammar.specs.declared.Read.{Read}
 use Rattle.grammar.specs.declared.Read.the-variants.{Found, Bad}
-use Rattle.grammar.specs.declared.Parsed.{Parsed}
 use Rattle.grammar.specs.declared.Parsed.the-variants as P
-use Rattle.grammar.proofs.Steps.{stored-length, written, Told, told}
+use Rattle.grammar.proofs.Steps.{stored-length, written}
 
 -- the first node is that of no functions, and the readers can begin
 pub begin-ready : {ks l m : List ℕ} {x k t a b c : ℕ} {r : Read} → Lent ks l → Stored l m 0 x k t a b c r → Ready ks m 0 1

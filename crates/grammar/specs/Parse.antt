@@ -156,16 +156,25 @@ module _ (ks : List ℕ) where
   unfoldable pub readAtom : ℕ → ℕ → Res atom
   readAtom zero at = bad at
   readAtom (suc d) at =
-      elim (eqb (peek at) kTrue) [ true ↦ ok always (at + 1) | false ↦
-      elim (eqb (peek at) kFalse) [ true ↦ ok never (at + 1) | false ↦
-      andThen (readSum d at) (λ a m. andThen (readCmp m) (λ o n. andThen (readSum d n) (λ b p. ok (compare a o b) p))) ] ]
+      elim (eqb (peek at) kTrue) [
+        | true ↦ ok always (at + 1)
+        | false ↦
+            elim (eqb (peek at) kFalse) [
+              | true ↦ ok never (at + 1)
+              | false ↦
+                  andThen (readSum d at) (λ a m. andThen (readCmp m) (λ o n. andThen (readSum d n) (λ b p. ok (compare a o b) p)))
+            ]
+      ]
 
   -- what follows the conjunction l
   unfoldable pub moreConj : ℕ → Tree conj → ℕ → Res conj
   moreConj zero l at = bad at
   moreConj (suc d) l at =
-      elim (eqb (peek at) kAnd) [ true ↦ andThen (readAtom d (at + 1)) (λ a m. moreConj d (both l a) m) | false ↦
-      ok l at ]
+      elim (eqb (peek at) kAnd) [
+        | true ↦ andThen (readAtom d (at + 1)) (λ a m. moreConj d (both l a) m)
+        | false ↦
+            ok l at
+      ]
 
   -- "`&&` above `||`, left to right"
   unfoldable pub readConj : ℕ → ℕ → Res conj
@@ -176,8 +185,11 @@ module _ (ks : List ℕ) where
   unfoldable pub moreCond : ℕ → Tree cond → ℕ → Res cond
   moreCond zero l at = bad at
   moreCond (suc d) l at =
-      elim (eqb (peek at) kOr) [ true ↦ andThen (readConj d (at + 1)) (λ c m. moreCond d (either l c) m) | false ↦
-      ok l at ]
+      elim (eqb (peek at) kOr) [
+        | true ↦ andThen (readConj d (at + 1)) (λ c m. moreCond d (either l c) m)
+        | false ↦
+            ok l at
+      ]
 
   -- a condition
   unfoldable pub readCond : ℕ → ℕ → Res cond
@@ -198,14 +210,20 @@ module _ (ks : List ℕ) where
   unfoldable pub readNamed : ℕ → ℕ → Res stmt
   readNamed zero at = bad at
   readNamed (suc d) at =
-      elim (eqb (peek (at + 1)) kAssign) [ true ↦ readEnded (assign at) d (at + 1 + 1) | false ↦
-      readEnded eval d at ]
+      elim (eqb (peek (at + 1)) kAssign) [
+        | true ↦ readEnded (assign at) d (at + 1 + 1)
+        | false ↦
+            readEnded eval d at
+      ]
 
   -- `int x;` or `int x free;`
   unfoldable pub readDecl : ℕ → Res stmt
   readDecl at =
-      expect kName (at + 1) (elim (eqb (peek (at + 1 + 1)) kSemi) [ true ↦ ok (declare at) (at + 1 + 1 + 1) | false ↦
-      expect kFree (at + 1 + 1) (expect kSemi (at + 1 + 1 + 1) (ok (declareFree at) (at + 1 + 1 + 1 + 1))) ])
+      expect kName (at + 1) (elim (eqb (peek (at + 1 + 1)) kSemi) [
+        | true ↦ ok (declare at) (at + 1 + 1 + 1)
+        | false ↦
+            expect kFree (at + 1 + 1) (expect kSemi (at + 1 + 1 + 1) (ok (declareFree at) (at + 1 + 1 + 1 + 1)))
+      ])
 
   -- `fail;`
   unfoldable pub readFail : ℕ → Res stmt
@@ -216,15 +234,39 @@ module _ (ks : List ℕ) where
     pub readStmt : ℕ → ℕ → Res stmt
     readStmt zero at = bad at
     readStmt (suc d) at =
-        elim (eqb (peek at) kSemi) [ true ↦ ok (empty at) (at + 1) | false ↦
-        elim (eqb (peek at) kInt) [ true ↦ readDecl at | false ↦
-        elim (eqb (peek at) kName) [ true ↦ readNamed d at | false ↦
-        elim (eqb (peek at) kLbrace) [ true ↦ readBlock d at | false ↦
-        elim (eqb (peek at) kIf) [ true ↦ readIf d at | false ↦
-        elim (eqb (peek at) kWhile) [ true ↦ readWhile d at | false ↦
-        elim (eqb (peek at) kReturn) [ true ↦ readEnded (return at) d (at + 1) | false ↦
-        elim (eqb (peek at) kFail) [ true ↦ readFail at | false ↦
-        readEnded eval d at ] ] ] ] ] ] ] ]
+        elim (eqb (peek at) kSemi) [
+          | true ↦ ok (empty at) (at + 1)
+          | false ↦
+              elim (eqb (peek at) kInt) [
+                | true ↦ readDecl at
+                | false ↦
+                    elim (eqb (peek at) kName) [
+                      | true ↦ readNamed d at
+                      | false ↦
+                          elim (eqb (peek at) kLbrace) [
+                            | true ↦ readBlock d at
+                            | false ↦
+                                elim (eqb (peek at) kIf) [
+                                  | true ↦ readIf d at
+                                  | false ↦
+                                      elim (eqb (peek at) kWhile) [
+                                        | true ↦ readWhile d at
+                                        | false ↦
+                                            elim (eqb (peek at) kReturn) [
+                                              | true ↦ readEnded (return at) d (at + 1)
+                                              | false ↦
+                                                  elim (eqb (peek at) kFail) [
+                                                    | true ↦ readFail at
+                                                    | false ↦
+                                                        readEnded eval d at
+                                                  ]
+                                            ]
+                                      ]
+                                ]
+                          ]
+                    ]
+              ]
+        ]
 
     -- `{ statements }`
     pub readBlock : ℕ → ℕ → Res stmt
@@ -247,23 +289,35 @@ module _ (ks : List ℕ) where
     pub moreBody : ℕ → Tree stmts → ℕ → Res body
     moreBody zero l at = bad at
     moreBody (suc d) l at =
-        elim (eqb (peek at) kRbrace) [ true ↦ ok (braced l at) (at + 1) | false ↦
-        andThen (readStmt d at) (λ s m. moreBody d (moreStmts l s) m) ]
+        elim (eqb (peek at) kRbrace) [
+          | true ↦ ok (braced l at) (at + 1)
+          | false ↦
+              andThen (readStmt d at) (λ s m. moreBody d (moreStmts l s) m)
+        ]
 
   -- what follows the parameters l: a comma and one more, or the closing bracket
   unfoldable pub moreParams : ℕ → Tree paramList → ℕ → Res params
   moreParams zero l at = bad at
   moreParams (suc d) l at =
-      elim (eqb (peek at) kComma) [ true ↦ expect kInt (at + 1) (expect kName (at + 1 + 1) (moreParams d (nextParam l (at + 1 + 1)) (at + 1 + 1 + 1))) | false ↦
-      elim (eqb (peek at) kClose) [ true ↦ ok (someParams l) (at + 1) | false ↦
-      bad at ] ]
+      elim (eqb (peek at) kComma) [
+        | true ↦ expect kInt (at + 1) (expect kName (at + 1 + 1) (moreParams d (nextParam l (at + 1 + 1)) (at + 1 + 1 + 1)))
+        | false ↦
+            elim (eqb (peek at) kClose) [
+              | true ↦ ok (someParams l) (at + 1)
+              | false ↦
+                  bad at
+            ]
+      ]
 
   -- the parameters with the closing bracket: "each parameter `int name`, comma between"
   unfoldable pub readParams : ℕ → ℕ → Res params
   readParams zero at = bad at
   readParams (suc d) at =
-      elim (eqb (peek at) kClose) [ true ↦ ok noParams (at + 1) | false ↦
-      expect kInt at (expect kName (at + 1) (moreParams d (firstParam (at + 1)) (at + 1 + 1))) ]
+      elim (eqb (peek at) kClose) [
+        | true ↦ ok noParams (at + 1)
+        | false ↦
+            expect kInt at (expect kName (at + 1) (moreParams d (firstParam (at + 1)) (at + 1 + 1)))
+      ]
 
   -- `int name ( parameters ) { statements }`
   unfoldable pub readFun : ℕ → ℕ → Res fun
@@ -276,8 +330,11 @@ module _ (ks : List ℕ) where
   unfoldable pub moreProg : ℕ → Tree prog → ℕ → Res prog
   moreProg zero l at = bad at
   moreProg (suc d) l at =
-      elim (eqb (peek at) kInt) [ true ↦ andThen (readFun d at) (λ f m. moreProg d (moreFuns l f) m) | false ↦
-      ok l at ]
+      elim (eqb (peek at) kInt) [
+        | true ↦ andThen (readFun d at) (λ f m. moreProg d (moreFuns l f) m)
+        | false ↦
+            ok l at
+      ]
 
   -- a whole text: functions, and then the end
   unfoldable pub readText : ℕ → Res prog

@@ -5,7 +5,6 @@ ghost use lib.ListN.{length};
 ghost use Rattle.grammar.specs.Parse.{readOperand, readBracket, readCall, readArgs, moreArgs, readTerm, moreTerm, readSum, moreSum, readAtom, readConj, moreConj, readCond, moreCond, readGuard, readDecl, readNamed, readFail, readStmt, readBlock, readIf, readWhile, moreBody, readParams, moreParams, readFun, moreProg, parsed};
 ghost use Rattle.grammar.specs.Readers.{Stored, Ready, Fresh, Rest, Ended, Bodies, signOf, comparisonOf};
 ghost use Rattle.grammar.specs.Answer.{Lent, Answers};
-
 use syntax::Node;
 use syntax::kind;
 use syntax::put;
@@ -13,7 +12,11 @@ use syntax::token;
 
 // What a reader answers: a tree's root, the number of the token after it and the count of nodes; or the number of the token that does not fit.
 pub enum Read {
-    Found { next: usize, root: usize, count: usize },
+    Found {
+        next: usize,
+        root: usize,
+        count: usize,
+    },
     Bad(usize),
 }
 
@@ -24,12 +27,35 @@ pub enum Parsed {
 }
 
 // Writes node n and answers that it was read, up to token `next`.
-fn store(nodes: &mut [u32], n: usize, next: usize, written: Node) -> Read
-    requires { ⌜ (5 * n + 5 ≤ length (now nodes)) × (n < 65535) × (written .token < 65536) × (written .first < 65536) × (written .second < 65536) × (written .third < 65536) ⌝ }
-    ensures { λ r. ⌜ Stored (now (nodes .entry)) (now (nodes .exit)) n next (written .kind) (written .token) (written .first) (written .second) (written .third) r ⌝ }
+fn store(
+    nodes: &mut [u32],
+    n: usize,
+    next: usize,
+    made: u32,
+    word: usize,
+    a: usize,
+    b: usize,
+    c: usize,
+) -> Read
+    requires { ⌜ (5 * n + 5 ≤ length (now nodes)) × (n < 65535) × (word < 65536) × (a < 65536) × (b < 65536) × (c < 65536) ⌝ }
+    ensures { λ r. ⌜ Stored (now (nodes .entry)) (now (nodes .exit)) n next made word a b c r ⌝ }
 {
-    put(nodes, n, written);
-    Read::Found { next, root: n, count: n + 1 }
+    put(
+        nodes,
+        n,
+        Node {
+            kind: made,
+            token: word,
+            first: a,
+            second: b,
+            third: c,
+        },
+    );
+    Read::Found {
+        next,
+        root: n,
+        count: n + 1,
+    }
 }
 
 // The node of a sum by its mark, or 0.
@@ -89,13 +115,17 @@ fn more_expression(kinds: &[u8], at: usize, nodes: &mut [u32], n: usize, left: u
 {
     let mark = sign(kinds[at]);
     if mark == 0 {
-        return Read::Found { next: at, root: left, count: n };
+        return Read::Found {
+            next: at,
+            root: left,
+            count: n,
+        };
     }
     let right = term(kinds, at + 1, nodes, n);
     let Read::Found { next, root, count } = right else {
         return right;
     };
-    store(nodes, count, next, Node { kind: mark, token: 0, first: left, second: root, third: 0 });
+    store(nodes, count, next, mark, 0, left, root, 0);
     more_expression(kinds, next, nodes, count + 1, count)
 }
 
@@ -117,13 +147,17 @@ fn more_term(kinds: &[u8], at: usize, nodes: &mut [u32], n: usize, left: usize) 
     ensures { λ r. ⌜ Rest (now (kinds .entry)) (now (nodes .entry)) (now (nodes .exit)) 0 n left at 1 r (moreTerm (now (kinds .entry))) ⌝ }
 {
     if kinds[at] != token::TIMES {
-        return Read::Found { next: at, root: left, count: n };
+        return Read::Found {
+            next: at,
+            root: left,
+            count: n,
+        };
     }
     let right = operand(kinds, at + 1, nodes, n);
     let Read::Found { next, root, count } = right else {
         return right;
     };
-    store(nodes, count, next, Node { kind: kind::TIMES, token: 0, first: left, second: root, third: 0 });
+    store(nodes, count, next, kind::TIMES, 0, left, root, 0);
     more_term(kinds, next, nodes, count + 1, count)
 }
 
@@ -134,13 +168,13 @@ fn operand(kinds: &[u8], at: usize, nodes: &mut [u32], n: usize) -> Read
 {
     let k = kinds[at];
     if k == token::NUMBER {
-        return store(nodes, n, at + 1, Node { kind: kind::NUMBER, token: at, first: 0, second: 0, third: 0 });
+        return store(nodes, n, at + 1, kind::NUMBER, at, 0, 0, 0);
     }
     if k == token::MINUS {
         if kinds[at + 1] != token::NUMBER {
             return Read::Bad(at + 1);
         }
-        return store(nodes, n, at + 1 + 1, Node { kind: kind::NEGATIVE, token: at, first: 0, second: 0, third: 0 });
+        return store(nodes, n, at + 1 + 1, kind::NEGATIVE, at, 0, 0, 0);
     }
     if k == token::NAME {
         return named(kinds, at, nodes, n);
@@ -163,7 +197,7 @@ fn bracketed(kinds: &[u8], at: usize, nodes: &mut [u32], n: usize) -> Read
     if kinds[next] != token::CLOSE {
         return Read::Bad(next);
     }
-    store(nodes, count, next + 1, Node { kind: kind::BRACKET, token: at, first: root, second: 0, third: 0 })
+    store(nodes, count, next + 1, kind::BRACKET, at, root, 0, 0)
 }
 
 // A name or a call; the name is at `at`.
@@ -172,13 +206,13 @@ fn named(kinds: &[u8], at: usize, nodes: &mut [u32], n: usize) -> Read
     ensures { λ r. ⌜ Fresh (now (kinds .entry)) (now (nodes .entry)) (now (nodes .exit)) 1 n at 1 r (readCall (now (kinds .entry))) ⌝ }
 {
     if kinds[at + 1] != token::OPEN {
-        return store(nodes, n, at + 1, Node { kind: kind::NAME, token: at, first: 0, second: 0, third: 0 });
+        return store(nodes, n, at + 1, kind::NAME, at, 0, 0, 0);
     }
     let list = arguments(kinds, at + 1 + 1, nodes, n);
     let Read::Found { next, root, count } = list else {
         return list;
     };
-    store(nodes, count, next, Node { kind: kind::CALL, token: at, first: root, second: 0, third: 0 })
+    store(nodes, count, next, kind::CALL, at, root, 0, 0)
 }
 
 // The arguments of a call with the closing bracket: a node for none, and one for each argument.
@@ -186,15 +220,19 @@ fn arguments(kinds: &[u8], at: usize, nodes: &mut [u32], n: usize) -> Read
     requires { ⌜ Ready (now kinds) (now nodes) at (n + 1) ⌝ }
     ensures { λ r. ⌜ Fresh (now (kinds .entry)) (now (nodes .entry)) (now (nodes .exit)) 1 n at 5 r (readArgs (now (kinds .entry))) ⌝ }
 {
-    store(nodes, n, at, Node { kind: kind::NO_ARGS, token: 0, first: 0, second: 0, third: 0 });
+    store(nodes, n, at, kind::NO_ARGS, 0, 0, 0, 0);
     if kinds[at] == token::CLOSE {
-        return Read::Found { next: at + 1, root: n, count: n + 1 };
+        return Read::Found {
+            next: at + 1,
+            root: n,
+            count: n + 1,
+        };
     }
     let first = expression(kinds, at, nodes, n + 1);
     let Read::Found { next, root, count } = first else {
         return first;
     };
-    store(nodes, count, next, Node { kind: kind::MORE_ARGS, token: 0, first: n, second: root, third: 0 });
+    store(nodes, count, next, kind::MORE_ARGS, 0, n, root, 0);
     more_arguments(kinds, next, nodes, count + 1, count)
 }
 
@@ -205,7 +243,11 @@ fn more_arguments(kinds: &[u8], at: usize, nodes: &mut [u32], n: usize, left: us
 {
     let k = kinds[at];
     if k == token::CLOSE {
-        return Read::Found { next: at + 1, root: left, count: n };
+        return Read::Found {
+            next: at + 1,
+            root: left,
+            count: n,
+        };
     }
     if k != token::COMMA {
         return Read::Bad(at);
@@ -214,7 +256,7 @@ fn more_arguments(kinds: &[u8], at: usize, nodes: &mut [u32], n: usize, left: us
     let Read::Found { next, root, count } = right else {
         return right;
     };
-    store(nodes, count, next, Node { kind: kind::MORE_ARGS, token: 0, first: left, second: root, third: 0 });
+    store(nodes, count, next, kind::MORE_ARGS, 0, left, root, 0);
     more_arguments(kinds, next, nodes, count + 1, count)
 }
 
@@ -225,10 +267,10 @@ fn atom(kinds: &[u8], at: usize, nodes: &mut [u32], n: usize) -> Read
 {
     let k = kinds[at];
     if k == token::TRUE {
-        return store(nodes, n, at + 1, Node { kind: kind::ALWAYS, token: 0, first: 0, second: 0, third: 0 });
+        return store(nodes, n, at + 1, kind::ALWAYS, 0, 0, 0, 0);
     }
     if k == token::FALSE {
-        return store(nodes, n, at + 1, Node { kind: kind::NEVER, token: 0, first: 0, second: 0, third: 0 });
+        return store(nodes, n, at + 1, kind::NEVER, 0, 0, 0, 0);
     }
     let left = expression(kinds, at, nodes, n);
     let Read::Found { next, root, count } = left else {
@@ -239,10 +281,15 @@ fn atom(kinds: &[u8], at: usize, nodes: &mut [u32], n: usize) -> Read
         return Read::Bad(next);
     }
     let right = expression(kinds, next + 1, nodes, count);
-    let Read::Found { next: end, root: other, count: all } = right else {
+    let Read::Found {
+        next: end,
+        root: other,
+        count: all,
+    } = right
+    else {
         return right;
     };
-    store(nodes, all, end, Node { kind: kind::COMPARE, token: 0, first: root, second: other, third: mark })
+    store(nodes, all, end, kind::COMPARE, 0, root, other, mark)
 }
 
 // Operands of a condition with && between, left to right.
@@ -263,13 +310,17 @@ fn more_conjunction(kinds: &[u8], at: usize, nodes: &mut [u32], n: usize, left: 
     ensures { λ r. ⌜ Rest (now (kinds .entry)) (now (nodes .entry)) (now (nodes .exit)) 0 n left at 1 r (moreConj (now (kinds .entry))) ⌝ }
 {
     if kinds[at] != token::AND {
-        return Read::Found { next: at, root: left, count: n };
+        return Read::Found {
+            next: at,
+            root: left,
+            count: n,
+        };
     }
     let right = atom(kinds, at + 1, nodes, n);
     let Read::Found { next, root, count } = right else {
         return right;
     };
-    store(nodes, count, next, Node { kind: kind::BOTH, token: 0, first: left, second: root, third: 0 });
+    store(nodes, count, next, kind::BOTH, 0, left, root, 0);
     more_conjunction(kinds, next, nodes, count + 1, count)
 }
 
@@ -291,13 +342,17 @@ fn more_condition(kinds: &[u8], at: usize, nodes: &mut [u32], n: usize, left: us
     ensures { λ r. ⌜ Rest (now (kinds .entry)) (now (nodes .entry)) (now (nodes .exit)) 0 n left at 1 r (moreCond (now (kinds .entry))) ⌝ }
 {
     if kinds[at] != token::OR {
-        return Read::Found { next: at, root: left, count: n };
+        return Read::Found {
+            next: at,
+            root: left,
+            count: n,
+        };
     }
     let right = conjunction(kinds, at + 1, nodes, n);
     let Read::Found { next, root, count } = right else {
         return right;
     };
-    store(nodes, count, next, Node { kind: kind::EITHER, token: 0, first: left, second: root, third: 0 });
+    store(nodes, count, next, kind::EITHER, 0, left, root, 0);
     more_condition(kinds, next, nodes, count + 1, count)
 }
 
@@ -316,7 +371,11 @@ fn guard(kinds: &[u8], at: usize, nodes: &mut [u32], n: usize) -> Read
     if kinds[next] != token::CLOSE {
         return Read::Bad(next);
     }
-    Read::Found { next: next + 1, root, count }
+    Read::Found {
+        next: next + 1,
+        root,
+        count,
+    }
 }
 
 // e ; as a statement of the kind `made`, whose token is `first`.
@@ -331,7 +390,7 @@ fn ended(kinds: &[u8], at: usize, nodes: &mut [u32], n: usize, made: u32, first:
     if kinds[next] != token::SEMI {
         return Read::Bad(next);
     }
-    store(nodes, count, next + 1, Node { kind: made, token: first, first: root, second: 0, third: 0 })
+    store(nodes, count, next + 1, made, first, root, 0, 0)
 }
 
 // int x ; or int x free ; the int is at `at`.
@@ -344,7 +403,7 @@ fn declaration(kinds: &[u8], at: usize, nodes: &mut [u32], n: usize) -> Read
     }
     let k = kinds[at + 1 + 1];
     if k == token::SEMI {
-        return store(nodes, n, at + 1 + 1 + 1, Node { kind: kind::DECLARE, token: at, first: 0, second: 0, third: 0 });
+        return store(nodes, n, at + 1 + 1 + 1, kind::DECLARE, at, 0, 0, 0);
     }
     if k != token::FREE {
         return Read::Bad(at + 1 + 1);
@@ -352,7 +411,16 @@ fn declaration(kinds: &[u8], at: usize, nodes: &mut [u32], n: usize) -> Read
     if kinds[at + 1 + 1 + 1] != token::SEMI {
         return Read::Bad(at + 1 + 1 + 1);
     }
-    store(nodes, n, at + 1 + 1 + 1 + 1, Node { kind: kind::DECLARE_FREE, token: at, first: 0, second: 0, third: 0 })
+    store(
+        nodes,
+        n,
+        at + 1 + 1 + 1 + 1,
+        kind::DECLARE_FREE,
+        at,
+        0,
+        0,
+        0,
+    )
 }
 
 // x = e ; or an expression that begins with x; the name x is at `at`.
@@ -374,7 +442,7 @@ fn failing(kinds: &[u8], at: usize, nodes: &mut [u32], n: usize) -> Read
     if kinds[at + 1] != token::SEMI {
         return Read::Bad(at + 1);
     }
-    store(nodes, n, at + 1 + 1, Node { kind: kind::FAIL, token: at, first: 0, second: 0, third: 0 })
+    store(nodes, n, at + 1 + 1, kind::FAIL, at, 0, 0, 0)
 }
 
 // A statement: its first token decides.
@@ -384,7 +452,7 @@ fn statement(kinds: &[u8], at: usize, nodes: &mut [u32], n: usize) -> Read
 {
     let k = kinds[at];
     if k == token::SEMI {
-        return store(nodes, n, at + 1, Node { kind: kind::EMPTY, token: at, first: 0, second: 0, third: 0 });
+        return store(nodes, n, at + 1, kind::EMPTY, at, 0, 0, 0);
     }
     if k == token::INT {
         return declaration(kinds, at, nodes, n);
@@ -419,7 +487,7 @@ fn block(kinds: &[u8], at: usize, nodes: &mut [u32], n: usize) -> Read
     let Read::Found { next, root, count } = inner else {
         return inner;
     };
-    store(nodes, count, next, Node { kind: kind::BLOCK, token: at, first: root, second: 0, third: 0 })
+    store(nodes, count, next, kind::BLOCK, at, root, 0, 0)
 }
 
 // if ( b ) s else s; the if is at `at`.
@@ -432,17 +500,27 @@ fn if_else(kinds: &[u8], at: usize, nodes: &mut [u32], n: usize) -> Read
         return test;
     };
     let one = statement(kinds, next, nodes, count);
-    let Read::Found { next: mid, root: yes, count: more } = one else {
+    let Read::Found {
+        next: mid,
+        root: yes,
+        count: more,
+    } = one
+    else {
         return one;
     };
     if kinds[mid] != token::ELSE {
         return Read::Bad(mid);
     }
     let other = statement(kinds, mid + 1, nodes, more);
-    let Read::Found { next: end, root: no, count: all } = other else {
+    let Read::Found {
+        next: end,
+        root: no,
+        count: all,
+    } = other
+    else {
         return other;
     };
-    store(nodes, all, end, Node { kind: kind::IF_ELSE, token: at, first: root, second: yes, third: no })
+    store(nodes, all, end, kind::IF_ELSE, at, root, yes, no)
 }
 
 // while ( b ) s; the while is at `at`.
@@ -455,10 +533,15 @@ fn while_do(kinds: &[u8], at: usize, nodes: &mut [u32], n: usize) -> Read
         return test;
     };
     let inner = statement(kinds, next, nodes, count);
-    let Read::Found { next: end, root: turn, count: all } = inner else {
+    let Read::Found {
+        next: end,
+        root: turn,
+        count: all,
+    } = inner
+    else {
         return inner;
     };
-    store(nodes, all, end, Node { kind: kind::WHILE, token: at, first: root, second: turn, third: 0 })
+    store(nodes, all, end, kind::WHILE, at, root, turn, 0)
 }
 
 // Statements with the closing brace: a node for none, and one for each statement.
@@ -466,7 +549,7 @@ fn braces(kinds: &[u8], at: usize, nodes: &mut [u32], n: usize) -> Read
     requires { ⌜ Ready (now kinds) (now nodes) at (n + 1) ⌝ }
     ensures { λ r. ⌜ Bodies (now (kinds .entry)) (now (nodes .entry)) (now (nodes .exit)) n at r ⌝ }
 {
-    store(nodes, n, at, Node { kind: kind::NO_STMTS, token: 0, first: 0, second: 0, third: 0 });
+    store(nodes, n, at, kind::NO_STMTS, 0, 0, 0, 0);
     body(kinds, at, nodes, n + 1, n)
 }
 
@@ -476,13 +559,13 @@ fn body(kinds: &[u8], at: usize, nodes: &mut [u32], n: usize, left: usize) -> Re
     ensures { λ r. ⌜ Rest (now (kinds .entry)) (now (nodes .entry)) (now (nodes .exit)) 1 n left at 8 r (moreBody (now (kinds .entry))) ⌝ }
 {
     if kinds[at] == token::RBRACE {
-        return store(nodes, n, at + 1, Node { kind: kind::BRACED, token: at, first: left, second: 0, third: 0 });
+        return store(nodes, n, at + 1, kind::BRACED, at, left, 0, 0);
     }
     let inner = statement(kinds, at, nodes, n);
     let Read::Found { next, root, count } = inner else {
         return inner;
     };
-    store(nodes, count, next, Node { kind: kind::MORE_STMTS, token: 0, first: left, second: root, third: 0 });
+    store(nodes, count, next, kind::MORE_STMTS, 0, left, root, 0);
     body(kinds, next, nodes, count + 1, count)
 }
 
@@ -491,10 +574,14 @@ fn parameters(kinds: &[u8], at: usize, nodes: &mut [u32], n: usize) -> Read
     requires { ⌜ Ready (now kinds) (now nodes) at (n + 1) ⌝ }
     ensures { λ r. ⌜ Fresh (now (kinds .entry)) (now (nodes .entry)) (now (nodes .exit)) 1 n at 1 r (readParams (now (kinds .entry))) ⌝ }
 {
-    store(nodes, n, at, Node { kind: kind::NO_PARAMS, token: 0, first: 0, second: 0, third: 0 });
+    store(nodes, n, at, kind::NO_PARAMS, 0, 0, 0, 0);
     let k = kinds[at];
     if k == token::CLOSE {
-        return Read::Found { next: at + 1, root: n, count: n + 1 };
+        return Read::Found {
+            next: at + 1,
+            root: n,
+            count: n + 1,
+        };
     }
     if k != token::INT {
         return Read::Bad(at);
@@ -502,7 +589,7 @@ fn parameters(kinds: &[u8], at: usize, nodes: &mut [u32], n: usize) -> Read
     if kinds[at + 1] != token::NAME {
         return Read::Bad(at + 1);
     }
-    store(nodes, n + 1, at, Node { kind: kind::MORE_PARAMS, token: at + 1, first: n, second: 0, third: 0 });
+    store(nodes, n + 1, at, kind::MORE_PARAMS, at + 1, n, 0, 0);
     more_parameters(kinds, at + 1 + 1, nodes, n + 1 + 1, n + 1)
 }
 
@@ -513,7 +600,11 @@ fn more_parameters(kinds: &[u8], at: usize, nodes: &mut [u32], n: usize, left: u
 {
     let k = kinds[at];
     if k == token::CLOSE {
-        return Read::Found { next: at + 1, root: left, count: n };
+        return Read::Found {
+            next: at + 1,
+            root: left,
+            count: n,
+        };
     }
     if k != token::COMMA {
         return Read::Bad(at);
@@ -524,7 +615,7 @@ fn more_parameters(kinds: &[u8], at: usize, nodes: &mut [u32], n: usize, left: u
     if kinds[at + 1 + 1] != token::NAME {
         return Read::Bad(at + 1 + 1);
     }
-    store(nodes, n, at, Node { kind: kind::MORE_PARAMS, token: at + 1 + 1, first: left, second: 0, third: 0 });
+    store(nodes, n, at, kind::MORE_PARAMS, at + 1 + 1, left, 0, 0);
     more_parameters(kinds, at + 1 + 1 + 1, nodes, n + 1, n)
 }
 
@@ -547,10 +638,15 @@ fn function(kinds: &[u8], at: usize, nodes: &mut [u32], n: usize) -> Read
         return Read::Bad(next);
     }
     let inner = braces(kinds, next + 1, nodes, count);
-    let Read::Found { next: end, root: held, count: all } = inner else {
+    let Read::Found {
+        next: end,
+        root: held,
+        count: all,
+    } = inner
+    else {
         return inner;
     };
-    store(nodes, all, end, Node { kind: kind::FUNCTION, token: at + 1, first: root, second: held, third: 0 })
+    store(nodes, all, end, kind::FUNCTION, at + 1, root, held, 0)
 }
 
 // What follows the functions at node left.
@@ -559,13 +655,17 @@ fn functions(kinds: &[u8], at: usize, nodes: &mut [u32], n: usize, left: usize) 
     ensures { λ r. ⌜ Rest (now (kinds .entry)) (now (nodes .entry)) (now (nodes .exit)) 0 n left at 2 r (moreProg (now (kinds .entry))) ⌝ }
 {
     if kinds[at] != token::INT {
-        return Read::Found { next: at, root: left, count: n };
+        return Read::Found {
+            next: at,
+            root: left,
+            count: n,
+        };
     }
     let one = function(kinds, at, nodes, n);
     let Read::Found { next, root, count } = one else {
         return one;
     };
-    store(nodes, count, next, Node { kind: kind::MORE_FUNS, token: 0, first: left, second: root, third: 0 });
+    store(nodes, count, next, kind::MORE_FUNS, 0, left, root, 0);
     functions(kinds, next, nodes, count + 1, count)
 }
 
@@ -574,7 +674,7 @@ pub fn parse(kinds: &[u8], nodes: &mut [u32]) -> Parsed
     requires { ⌜ Lent (now kinds) (now nodes) ⌝ }
     ensures { λ r. ⌜ Answers (now (nodes .exit)) r (parsed (now (kinds .entry))) ⌝ }
 {
-    store(nodes, 0, 0, Node { kind: kind::NO_FUNS, token: 0, first: 0, second: 0, third: 0 });
+    store(nodes, 0, 0, kind::NO_FUNS, 0, 0, 0, 0);
     match functions(kinds, 0, nodes, 1, 0) {
         Read::Found { next, root, count } => {
             if kinds[next] != token::END {

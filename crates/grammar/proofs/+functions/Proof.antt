@@ -1,5 +1,5 @@
-use Prim.Native.Nat.{ℕ, suc, _<_, _≤_, _*_, _-_, _+_}
-use mathlib.Core.Path.{_≡_, refl, sym, ap, _∙_}
+use Prim.Native.Nat.{ℕ, _<_, _-_}
+use mathlib.Core.Path.{refl, _∙_}
 use native.Mathlib.Omega.{arith}
 use borrow.Author.Needs.{needs}
 use lib.ListN.{length}
@@ -18,8 +18,6 @@ use Rattle.grammar.proofs.store.Reads as store-reads
 use Rattle.grammar.proofs.+functions.{statement}
 use Rattle.grammar.proofs.+functions.Tie.{close}
 
-
-
 abbrev μ-functions : Measures 2 functions-kinds.ps ℕ
 μ-functions κs a = length (a .0 .now) - a .1 .0
 
@@ -33,56 +31,44 @@ functions-below t =
 abbrev functions-C : ℕ → functions-lts.Claims
 functions-C t = (function-reads.Asked, function-reads.Learnt, store-reads.Asked, store-reads.Learnt, functions-below t, functions.Post)
 
--- src/lib.rt:561:8
 functions-shared-slice-read-if1 : (t : ℕ) → functions-lts.Need-shared-slice-read-if1 (functions-C t) (functions-at t) functions.Post
 functions-shared-slice-read-if1 t c = (c .before .before .before .pre .1 .0) .inside
 
--- src/lib.rt:562:9
 functions-returns : (t : ℕ) → functions-lts.Need-returns (functions-C t) (functions-at t) functions.Post
 unfolding moreProg ast
-functions-returns t c = record { after = λ u h. found (not-so _ _ (c .if1 .taken) (begin 2 (λ d. moreProg (c .before .before .before .before .args .kinds .now) d u) (c .before .before .before .before .pre .1 .0))) h (c .before .before .before .before .pre .1 .1) (omega arith) refl }
+functions-returns t c = let s₀ = c .before .before .before .before in record { after = λ u h. found (not-so _ _ (c .if1 .taken) (begin 2 (λ d. moreProg (s₀ .args .kinds .now) d u) (s₀ .pre .1 .0))) h (s₀ .pre .1 .1) (omega arith) refl }
 
--- src/lib.rt:564:9
 functions-function-requires : (t : ℕ) → functions-lts.Need-function-requires (functions-C t) (functions-at t) functions.Post
-functions-function-requires t c κs = ((c .before .before .before .before .before .pre .1 .0), not-last (c .before .before .before .before .before .pre .1 .0) (c .before .if1 .left) refl)
+functions-function-requires t c κs = let s₀ = c .before .before .before .before .before in ((s₀ .pre .1 .0), not-last (s₀ .pre .1 .0) (c .before .if1 .left) refl)
 
--- src/lib.rt:565:23
 functions-enum-known-one : (t : ℕ) → functions-lts.Need-enum-known-one (functions-C t) (functions-at t) functions.Post
 functions-enum-known-one t c = search needs
 
--- src/lib.rt:566:9
 functions-enum-told : (t : ℕ) → functions-lts.Need-enum-told (functions-C t) (functions-at t) functions.Post
 functions-enum-told t c = search needs
 
--- src/lib.rt:566:9
 functions-same-length : (t : ℕ) → functions-lts.Need-same-length (functions-C t) (functions-at t) functions.Post
 functions-same-length t c = c .before .before .before .before .function .kept .1 .1 .0
 
--- src/lib.rt:566:9
 functions-returns-2 : (t : ℕ) → functions-lts.Need-returns-2 (functions-C t) (functions-at t) functions.Post
 unfolding moreProg ast
-functions-returns-2 t c = record { after = λ u h. fail _ (c .before .before .before .before .function .ensures) (yes-so _ _ (c .before .before .before .before .before .before .if1 .left) (begin 2 (λ d. moreProg (c .before .before .before .before .before .before .before .before .before .before .args .kinds .now) d u) (c .before .before .before .before .before .before .before .before .before .before .pre .1 .0))) (omega arith) (c .enum-told .given .1) }
+functions-returns-2 t c = let s₀ = c .before .before .before .before .before .before .before .before .before .before in record { after = λ u h. fail _ (c .before .before .before .before .function .ensures) (yes-so _ _ (c .before .before .before .before .before .before .if1 .left) (begin 2 (λ d. moreProg (s₀ .args .kinds .now) d u) (s₀ .pre .1 .0))) (omega arith) (c .enum-told .given .1) }
 
--- src/lib.rt:568:5
 functions-store-requires : (t : ℕ) → functions-lts.Need-store-requires (functions-C t) (functions-at t) functions.Post
-functions-store-requires t c κs = let f = told (c .before .before .one .given .1) (c .before .before .before .before .before .before .function .ensures) in let q = ready-after (c .before .before .before .before .before .before .before .before .before .before .before .before .pre .1 .0) (c .before .before .before .before .before .before .function .ensures) (c .before .before .one .given .1) (c .before .before .before .before .before .before .function .kept .1 .1 .0) in omega (arith, room-for q, q .inside, q .few, q .below, f .rooted, f .more, (c .before .before .before .before .before .before .before .before .before .before .before .before .pre .1 .1))
+functions-store-requires t c κs = let one′ = c .before .before .one in let function′ = c .before .before .before .before .before .before .function in let s₀ = c .before .before .before .before .before .before .before .before .before .before .before .before in let f = told (one′ .given .1) (function′ .ensures) in let q = ready-after (s₀ .pre .1 .0) (function′ .ensures) (one′ .given .1) (function′ .kept .1 .1 .0) in omega (arith, room-for q, q .inside, q .few, q .below, f .rooted, f .more, (s₀ .pre .1 .1))
 
--- src/lib.rt:569:35
 functions-add-functions : (t : ℕ) → functions-lts.Need-add-functions (functions-C t) (functions-at t) functions.Post
-functions-add-functions t c = let f = told (c .before .before .before .before .before .before .one .given .1) (c .before .before .before .before .before .before .before .before .before .before .function .ensures) in let q = ready-after (c .before .before .before .before .before .before .before .before .before .before .before .before .before .before .before .before .pre .1 .0) (c .before .before .before .before .before .before .before .before .before .before .function .ensures) (c .before .before .before .before .before .before .one .given .1) (c .before .before .before .before .before .before .before .before .before .before .function .kept .1 .1 .0) in omega (arith, q .inside, q .few, q .below)
+functions-add-functions t c = let one′ = c .before .before .before .before .before .before .one in let function′ = c .before .before .before .before .before .before .before .before .before .before .function in let f = told (one′ .given .1) (function′ .ensures) in let q = ready-after (c .before .before .before .before .before .before .before .before .before .before .before .before .before .before .before .before .pre .1 .0) (function′ .ensures) (one′ .given .1) (function′ .kept .1 .1 .0) in omega (arith, q .inside, q .few, q .below)
 
--- src/lib.rt:569:5
 functions-functions-requires : (t : ℕ) → functions-lts.Need-functions-requires (functions-C t) (functions-at t) functions.Post
-functions-functions-requires t c κs = let f = told (c .before .before .before .before .before .before .one .given .1) (c .before .before .before .before .before .before .before .before .before .before .function .ensures) in let q = ready-after (c .before .before .before .before .before .before .before .before .before .before .before .before .before .before .before .before .pre .1 .0) (c .before .before .before .before .before .before .before .before .before .before .function .ensures) (c .before .before .before .before .before .before .one .given .1) (c .before .before .before .before .before .before .before .before .before .before .function .kept .1 .1 .0) in (omega (arith, f .inside, f .more, f .fit, c .before .before .before .before .before .before .before .before .before .before .before .before .before .before .before .before .pre .0), (ready-stored q (c .before .before .before .store .ensures) (omega (arith, (c .before .before .before .before .before .before .before .before .before .before .before .before .before .before .before .before .pre .1 .0) .below, f .fit)), omega arith))
+functions-functions-requires t c κs = let one′ = c .before .before .before .before .before .before .one in let function′ = c .before .before .before .before .before .before .before .before .before .before .function in let s₀ = c .before .before .before .before .before .before .before .before .before .before .before .before .before .before .before .before in let f = told (one′ .given .1) (function′ .ensures) in let q = ready-after (s₀ .pre .1 .0) (function′ .ensures) (one′ .given .1) (function′ .kept .1 .1 .0) in (omega (arith, f .inside, f .more, f .fit, s₀ .pre .0), (ready-stored q (c .before .before .before .store .ensures) (omega (arith, (s₀ .pre .1 .0) .below, f .fit)), omega arith))
 
--- src/lib.rt:557:1
 functions-same-length-2 : (t : ℕ) → functions-lts.Need-same-length-2 (functions-C t) (functions-at t) functions.Post
 functions-same-length-2 t c = c .before .before .functions .kept .1 .1 .0 ∙ c .before .before .before .before .before .before .store .kept .0 ∙ c .before .before .before .before .before .before .before .before .before .before .before .before .before .function .kept .1 .1 .0
 
--- src/lib.rt:557:1
 functions-returns-3 : (t : ℕ) → functions-lts.Need-returns-3 (functions-C t) (functions-at t) functions.Post
 unfolding moreProg ast
-functions-returns-3 t c = record { after = λ u h. let C = call _ (c .before .before .before .before .before .before .before .before .before .before .before .before .before .function .ensures) (yes-so _ _ (c .before .before .before .before .before .before .before .before .before .before .before .before .before .before .before .if1 .left) (begin 2 (λ d. moreProg (c .before .before .before .before .before .before .before .before .before .before .before .before .before .before .before .before .before .before .before .args .kinds .now) d u) (c .before .before .before .before .before .before .before .before .before .before .before .before .before .before .before .before .before .before .before .pre .1 .0))) (omega arith) (c .before .before .before .before .before .before .before .before .before .one .given .1) (c .before .before .before .before .before .before .before .before .before .before .before .before .before .function .kept .1 .1 .0) in hand (c .before .before .functions .ensures .after (moreFuns u (C .tree)) (record { kind = _; at = at-more-funs (written (c .before .before .before .before .before .before .store .ensures) (room-for (C .sofar .ready))) (omega (arith, (c .before .before .before .before .before .before .before .before .before .before .before .before .before .before .before .before .before .before .before .pre .1 .1), C .more)) (C .rooted) (kept (unwritten (c .before .before .before .before .before .before .store .ensures)) (omega (arith, (c .before .before .before .before .before .before .before .before .before .before .before .before .before .before .before .before .before .before .before .pre .1 .1), C .more)) (kept (C .same) (c .before .before .before .before .before .before .before .before .before .before .before .before .before .before .before .before .before .before .before .pre .1 .1) h) .at) (kept (unwritten (c .before .before .before .before .before .before .store .ensures)) (C .rooted) (C .holds) .at) })) (wrote (c .before .before .before .before .before .before .store .ensures) (C .sofar) (omega arith)) (omega arith) (omega arith) }
+functions-returns-3 t c = let function′ = c .before .before .before .before .before .before .before .before .before .before .before .before .before .function in let s₀ = c .before .before .before .before .before .before .before .before .before .before .before .before .before .before .before .before .before .before .before in let store′ = c .before .before .before .before .before .before .store in record { after = λ u h. let C = call _ (function′ .ensures) (yes-so _ _ (c .before .before .before .before .before .before .before .before .before .before .before .before .before .before .before .if1 .left) (begin 2 (λ d. moreProg (s₀ .args .kinds .now) d u) (s₀ .pre .1 .0))) (omega arith) (c .before .before .before .before .before .before .before .before .before .one .given .1) (function′ .kept .1 .1 .0) in hand (c .before .before .functions .ensures .after (moreFuns u (C .tree)) (record { kind = _; at = at-more-funs (written (store′ .ensures) (room-for (C .sofar .ready))) (omega (arith, (s₀ .pre .1 .1), C .more)) (C .rooted) (kept (unwritten (store′ .ensures)) (omega (arith, (s₀ .pre .1 .1), C .more)) (kept (C .same) (s₀ .pre .1 .1) h) .at) (kept (unwritten (store′ .ensures)) (C .rooted) (C .holds) .at) })) (wrote (store′ .ensures) (C .sofar) (omega arith)) (omega arith) (omega arith) }
 
 pub +functions-spec : {M : Type 1} → statement M
 +functions-spec = close μ-functions λ t. functions-lts.spec (functions-C t) (functions-at t)

@@ -1,5 +1,5 @@
-use Prim.Native.Nat.{ℕ, suc, _<_, _≤_, _*_, _-_, _+_}
-use mathlib.Core.Path.{_≡_, refl, sym, ap, _∙_}
+use Prim.Native.Nat.{ℕ, _<_, _-_}
+use mathlib.Core.Path.{refl, _∙_}
 use native.Mathlib.Omega.{arith}
 use borrow.Author.Needs.{needs}
 use lib.ListN.{length}
@@ -17,8 +17,6 @@ use Rattle.grammar.proofs.atom.Reads as atom-reads
 use Rattle.grammar.proofs.store.Reads as store-reads
 use Rattle.grammar.proofs.+more_conjunction.{statement}
 use Rattle.grammar.proofs.+more_conjunction.Tie.{close}
-
-
 
 abbrev μ-more-conjunction : Measures 2 more-conjunction-kinds.ps ℕ
 μ-more-conjunction κs a = length (a .0 .now) - a .1 .0
@@ -42,60 +40,47 @@ more-conjunction-below t =
 abbrev more-conjunction-C : ℕ → more-conjunction-lts.Claims
 more-conjunction-C t = (atom-reads.Asked, atom-reads.Learnt, store-reads.Asked, store-reads.Learnt, more-conjunction-below t, more-conjunction.Post)
 
--- src/lib.rt:265:8
 more-conjunction-shared-slice-read-if1 : (t : ℕ) → more-conjunction-lts.Need-shared-slice-read-if1 (more-conjunction-C t) (more-conjunction-at t) more-conjunction.Post
 more-conjunction-shared-slice-read-if1 t c = (c .before .before .before .pre .1 .0) .inside
 
--- src/lib.rt:266:9
 more-conjunction-returns : (t : ℕ) → more-conjunction-lts.Need-returns (more-conjunction-C t) (more-conjunction-at t) more-conjunction.Post
 unfolding moreConj ast
-more-conjunction-returns t c = record { after = λ u h. found (not-so _ _ (c .if1 .taken) (begin 1 (λ d. moreConj (c .before .before .before .before .args .kinds .now) d u) (c .before .before .before .before .pre .1 .0))) h (c .before .before .before .before .pre .1 .1) (omega arith) refl }
+more-conjunction-returns t c = let s₀ = c .before .before .before .before in record { after = λ u h. found (not-so _ _ (c .if1 .taken) (begin 1 (λ d. moreConj (s₀ .args .kinds .now) d u) (s₀ .pre .1 .0))) h (s₀ .pre .1 .1) (omega arith) refl }
 
--- src/lib.rt:268:29
 more-conjunction-add-atom : (t : ℕ) → more-conjunction-lts.Need-add-atom (more-conjunction-C t) (more-conjunction-at t) more-conjunction.Post
-more-conjunction-add-atom t c = omega (arith, (c .before .before .before .before .pre .1 .0) .inside, (c .before .before .before .before .pre .1 .0) .few, (c .before .before .before .before .pre .1 .0) .room, (c .before .before .before .before .pre .1 .0) .below)
+more-conjunction-add-atom t c = let s₀ = c .before .before .before .before in omega (arith, (s₀ .pre .1 .0) .inside, (s₀ .pre .1 .0) .few, (s₀ .pre .1 .0) .room, (s₀ .pre .1 .0) .below)
 
--- src/lib.rt:268:9
 more-conjunction-atom-requires : (t : ℕ) → more-conjunction-lts.Need-atom-requires (more-conjunction-C t) (more-conjunction-at t) more-conjunction.Post
-more-conjunction-atom-requires t c κs = let h = not-last (c .before .before .before .before .before .pre .1 .0) (c .before .if1 .left) refl in ready-next (c .before .before .before .before .before .pre .1 .0) h
+more-conjunction-atom-requires t c κs = let s₀ = c .before .before .before .before .before in let h = not-last (s₀ .pre .1 .0) (c .before .if1 .left) refl in ready-next (s₀ .pre .1 .0) h
 
--- src/lib.rt:269:23
 more-conjunction-enum-known-right : (t : ℕ) → more-conjunction-lts.Need-enum-known-right (more-conjunction-C t) (more-conjunction-at t) more-conjunction.Post
 more-conjunction-enum-known-right t c = search needs
 
--- src/lib.rt:270:9
 more-conjunction-enum-told : (t : ℕ) → more-conjunction-lts.Need-enum-told (more-conjunction-C t) (more-conjunction-at t) more-conjunction.Post
 more-conjunction-enum-told t c = search needs
 
--- src/lib.rt:270:9
 more-conjunction-same-length : (t : ℕ) → more-conjunction-lts.Need-same-length (more-conjunction-C t) (more-conjunction-at t) more-conjunction.Post
 more-conjunction-same-length t c = c .before .before .before .before .atom .kept .1 .1 .0
 
--- src/lib.rt:270:9
 more-conjunction-returns-2 : (t : ℕ) → more-conjunction-lts.Need-returns-2 (more-conjunction-C t) (more-conjunction-at t) more-conjunction.Post
 unfolding moreConj ast
-more-conjunction-returns-2 t c = record { after = λ u h. fail _ (c .before .before .before .before .atom .ensures) (eat _ _ (c .before .before .before .before .before .before .if1 .left) refl (begin 1 (λ d. moreConj (c .before .before .before .before .before .before .before .before .before .before .args .kinds .now) d u) (c .before .before .before .before .before .before .before .before .before .before .pre .1 .0))) (omega arith) (c .enum-told .given .1) }
+more-conjunction-returns-2 t c = let s₀ = c .before .before .before .before .before .before .before .before .before .before in record { after = λ u h. fail _ (c .before .before .before .before .atom .ensures) (eat _ _ (c .before .before .before .before .before .before .if1 .left) refl (begin 1 (λ d. moreConj (s₀ .args .kinds .now) d u) (s₀ .pre .1 .0))) (omega arith) (c .enum-told .given .1) }
 
--- src/lib.rt:272:5
 more-conjunction-store-requires : (t : ℕ) → more-conjunction-lts.Need-store-requires (more-conjunction-C t) (more-conjunction-at t) more-conjunction.Post
-more-conjunction-store-requires t c κs = let h = not-last (c .before .before .before .before .before .before .before .before .before .before .before .before .pre .1 .0) (c .before .before .before .before .before .before .before .before .if1 .left) refl in let f = told (c .before .before .right .given .1) (c .before .before .before .before .before .before .atom .ensures) in let q = ready-after (ready-next (c .before .before .before .before .before .before .before .before .before .before .before .before .pre .1 .0) h) (c .before .before .before .before .before .before .atom .ensures) (c .before .before .right .given .1) (c .before .before .before .before .before .before .atom .kept .1 .1 .0) in omega (arith, room-for q, q .inside, q .few, q .below, f .rooted, f .more, (c .before .before .before .before .before .before .before .before .before .before .before .before .pre .1 .1))
+more-conjunction-store-requires t c κs = let s₀ = c .before .before .before .before .before .before .before .before .before .before .before .before in let right′ = c .before .before .right in let atom′ = c .before .before .before .before .before .before .atom in let h = not-last (s₀ .pre .1 .0) (c .before .before .before .before .before .before .before .before .if1 .left) refl in let f = told (right′ .given .1) (atom′ .ensures) in let q = ready-after (ready-next (s₀ .pre .1 .0) h) (atom′ .ensures) (right′ .given .1) (atom′ .kept .1 .1 .0) in omega (arith, room-for q, q .inside, q .few, q .below, f .rooted, f .more, (s₀ .pre .1 .1))
 
--- src/lib.rt:273:42
 more-conjunction-add-more-conjunction : (t : ℕ) → more-conjunction-lts.Need-add-more-conjunction (more-conjunction-C t) (more-conjunction-at t) more-conjunction.Post
-more-conjunction-add-more-conjunction t c = let h = not-last (c .before .before .before .before .before .before .before .before .before .before .before .before .before .before .before .before .pre .1 .0) (c .before .before .before .before .before .before .before .before .before .before .before .before .if1 .left) refl in let f = told (c .before .before .before .before .before .before .right .given .1) (c .before .before .before .before .before .before .before .before .before .before .atom .ensures) in let q = ready-after (ready-next (c .before .before .before .before .before .before .before .before .before .before .before .before .before .before .before .before .pre .1 .0) h) (c .before .before .before .before .before .before .before .before .before .before .atom .ensures) (c .before .before .before .before .before .before .right .given .1) (c .before .before .before .before .before .before .before .before .before .before .atom .kept .1 .1 .0) in omega (arith, q .inside, q .few, q .below)
+more-conjunction-add-more-conjunction t c = let s₀ = c .before .before .before .before .before .before .before .before .before .before .before .before .before .before .before .before in let right′ = c .before .before .before .before .before .before .right in let atom′ = c .before .before .before .before .before .before .before .before .before .before .atom in let h = not-last (s₀ .pre .1 .0) (c .before .before .before .before .before .before .before .before .before .before .before .before .if1 .left) refl in let f = told (right′ .given .1) (atom′ .ensures) in let q = ready-after (ready-next (s₀ .pre .1 .0) h) (atom′ .ensures) (right′ .given .1) (atom′ .kept .1 .1 .0) in omega (arith, q .inside, q .few, q .below)
 
--- src/lib.rt:273:5
 more-conjunction-more-conjunction-requires : (t : ℕ) → more-conjunction-lts.Need-more-conjunction-requires (more-conjunction-C t) (more-conjunction-at t) more-conjunction.Post
-more-conjunction-more-conjunction-requires t c κs = let h = not-last (c .before .before .before .before .before .before .before .before .before .before .before .before .before .before .before .before .pre .1 .0) (c .before .before .before .before .before .before .before .before .before .before .before .before .if1 .left) refl in let f = told (c .before .before .before .before .before .before .right .given .1) (c .before .before .before .before .before .before .before .before .before .before .atom .ensures) in let q = ready-after (ready-next (c .before .before .before .before .before .before .before .before .before .before .before .before .before .before .before .before .pre .1 .0) h) (c .before .before .before .before .before .before .before .before .before .before .atom .ensures) (c .before .before .before .before .before .before .right .given .1) (c .before .before .before .before .before .before .before .before .before .before .atom .kept .1 .1 .0) in (omega (arith, f .inside, f .more, f .fit, c .before .before .before .before .before .before .before .before .before .before .before .before .before .before .before .before .pre .0), (ready-stored q (c .before .before .before .store .ensures) (omega (arith, (c .before .before .before .before .before .before .before .before .before .before .before .before .before .before .before .before .pre .1 .0) .below, f .fit)), omega arith))
+more-conjunction-more-conjunction-requires t c κs = let s₀ = c .before .before .before .before .before .before .before .before .before .before .before .before .before .before .before .before in let right′ = c .before .before .before .before .before .before .right in let atom′ = c .before .before .before .before .before .before .before .before .before .before .atom in let h = not-last (s₀ .pre .1 .0) (c .before .before .before .before .before .before .before .before .before .before .before .before .if1 .left) refl in let f = told (right′ .given .1) (atom′ .ensures) in let q = ready-after (ready-next (s₀ .pre .1 .0) h) (atom′ .ensures) (right′ .given .1) (atom′ .kept .1 .1 .0) in (omega (arith, f .inside, f .more, f .fit, s₀ .pre .0), (ready-stored q (c .before .before .before .store .ensures) (omega (arith, (s₀ .pre .1 .0) .below, f .fit)), omega arith))
 
--- src/lib.rt:261:1
 more-conjunction-same-length-2 : (t : ℕ) → more-conjunction-lts.Need-same-length-2 (more-conjunction-C t) (more-conjunction-at t) more-conjunction.Post
 more-conjunction-same-length-2 t c = c .before .before .more-conjunction .kept .1 .1 .0 ∙ c .before .before .before .before .before .before .store .kept .0 ∙ c .before .before .before .before .before .before .before .before .before .before .before .before .before .atom .kept .1 .1 .0
 
--- src/lib.rt:261:1
 more-conjunction-returns-3 : (t : ℕ) → more-conjunction-lts.Need-returns-3 (more-conjunction-C t) (more-conjunction-at t) more-conjunction.Post
 unfolding moreConj ast
-more-conjunction-returns-3 t c = record { after = λ u h. let C = call _ (c .before .before .before .before .before .before .before .before .before .before .before .before .before .atom .ensures) (eat _ _ (c .before .before .before .before .before .before .before .before .before .before .before .before .before .before .before .if1 .left) refl (begin 1 (λ d. moreConj (c .before .before .before .before .before .before .before .before .before .before .before .before .before .before .before .before .before .before .before .args .kinds .now) d u) (c .before .before .before .before .before .before .before .before .before .before .before .before .before .before .before .before .before .before .before .pre .1 .0))) (omega arith) (c .before .before .before .before .before .before .before .before .before .right .given .1) (c .before .before .before .before .before .before .before .before .before .before .before .before .before .atom .kept .1 .1 .0) in hand (c .before .before .more-conjunction .ensures .after (both u (C .tree)) (record { kind = _; at = at-both (written (c .before .before .before .before .before .before .store .ensures) (room-for (C .sofar .ready))) (omega (arith, (c .before .before .before .before .before .before .before .before .before .before .before .before .before .before .before .before .before .before .before .pre .1 .1), C .more)) (C .rooted) ((kept (unwritten (c .before .before .before .before .before .before .store .ensures)) (omega (arith, (c .before .before .before .before .before .before .before .before .before .before .before .before .before .before .before .before .before .before .before .pre .1 .1), C .more)) (kept (C .same) (c .before .before .before .before .before .before .before .before .before .before .before .before .before .before .before .before .before .before .before .pre .1 .1) h)) .at) ((kept (unwritten (c .before .before .before .before .before .before .store .ensures)) (C .rooted) (C .holds)) .at) })) (wrote (c .before .before .before .before .before .before .store .ensures) (C .sofar) (omega arith)) (omega arith) (omega arith) }
+more-conjunction-returns-3 t c = let atom′ = c .before .before .before .before .before .before .before .before .before .before .before .before .before .atom in let s₀ = c .before .before .before .before .before .before .before .before .before .before .before .before .before .before .before .before .before .before .before in let store′ = c .before .before .before .before .before .before .store in record { after = λ u h. let C = call _ (atom′ .ensures) (eat _ _ (c .before .before .before .before .before .before .before .before .before .before .before .before .before .before .before .if1 .left) refl (begin 1 (λ d. moreConj (s₀ .args .kinds .now) d u) (s₀ .pre .1 .0))) (omega arith) (c .before .before .before .before .before .before .before .before .before .right .given .1) (atom′ .kept .1 .1 .0) in hand (c .before .before .more-conjunction .ensures .after (both u (C .tree)) (record { kind = _; at = at-both (written (store′ .ensures) (room-for (C .sofar .ready))) (omega (arith, (s₀ .pre .1 .1), C .more)) (C .rooted) ((kept (unwritten (store′ .ensures)) (omega (arith, (s₀ .pre .1 .1), C .more)) (kept (C .same) (s₀ .pre .1 .1) h)) .at) ((kept (unwritten (store′ .ensures)) (C .rooted) (C .holds)) .at) })) (wrote (store′ .ensures) (C .sofar) (omega arith)) (omega arith) (omega arith) }
 
 pub +more-conjunction-spec : {M : Type 1} → statement M
 +more-conjunction-spec = close μ-more-conjunction λ t. more-conjunction-lts.spec (more-conjunction-C t) (more-conjunction-at t)
