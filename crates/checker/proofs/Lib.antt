@@ -1,4 +1,5 @@
 -- Theorems about check.
 pub mod Faults
 pub mod Inspecting
+pub mod Settling
 pub mod Texts

@@ -7,8 +7,11 @@ ghost use Rattle.rules.specs.Spelling.{sameName, isMain};
 ghost use Rattle.rules.specs.Answers.{storedHeads};
 ghost use Rattle.events.specs.Walk.{Ready};
 ghost use Rattle.checker.specs.Judge.{unless, chosen, Ruled, Judges};
-ghost use Rattle.checker.specs.Analysis.{concluded, Inspected};
+ghost use Rattle.checker.specs.Check.{checkedTokens, checked};
+ghost use Rattle.checker.specs.Analysis.{concluded, Inspected, Lent, Settles, Analyses, verdictOf};
 
+use grammar::Parsed;
+use lexer::Lexed;
 use rules::broken::Broken;
 
 // What the rules 5 to 10 say of a text: the number of a broken one with the first token that breaks it, or how many functions there are.
@@ -123,4 +126,27 @@ fn inspect(
     let e = events::walk(nodes, root, items);
     let judged = judge(text, places, values, items, e, n - 1, heads, scope, slots);
     conclude(places, judged, n, root, e)
+}
+
+// The tree of a text's tokens, and its rules.
+fn settle(
+    text: &[u8],
+    kinds: &[u8],
+    places: &[u32],
+    values: &[u32],
+    nodes: &mut [u32],
+    items: &mut [u32],
+    heads: &mut [u32],
+    scope: &mut [u32],
+    slots: &mut [u32],
+) -> Analysed
+    requires { ⌜ Lent (now kinds) (now nodes) (now items) (now heads) (now scope) ⌝ }
+    ensures { λ r. ⌜ Settles (now (text .entry)) (now (kinds .entry)) (now (places .entry)) (now (values .entry)) (now (nodes .exit)) (now (items .exit)) (now (heads .exit)) (now (slots .entry)) (now (slots .exit)) r (checkedTokens (now (text .entry)) (now (kinds .entry)) (now (places .entry)) (now (values .entry))) ⌝ }
+{
+    match grammar::parse(kinds, nodes) {
+        Parsed::Bad(m) => Analysed::Refused(4, rules::spelling::word(places, m)),
+        Parsed::Tree { root, count: _ } => {
+            inspect(text, places, values, nodes, root, kinds.len(), items, heads, scope, slots)
+        }
+    }
 }

@@ -1,0 +1,66 @@
+-- The tokens of a text, from what the parser and the rules of the tree answer.
+use Prim.Native.Nat.{ℕ, suc, _+_, _*_, _≤_, _<_}
+use mathlib.Core.Path.{_≡_, refl, sym, ap, _∙_, subst}
+use mathlib.Core.List.{List, [], _∷_}
+use mathlib.Core.Option.{Option, none, some}
+use native.Mathlib.Omega.{arith}
+use lib.ListN.{length, getD}
+use Rattle.syntax.specs.Tree as T
+use Rattle.syntax.specs.Tree.{Tree, onto, width, numbered}
+use Rattle.syntax.specs.Token.{kEnd}
+use Rattle.syntax.specs.Abstract.{ast}
+use Rattle.syntax.specs.Table.{Holds}
+use Rattle.grammar.specs.Parse.{Res, ok, bad, parsed}
+use Rattle.grammar.specs.Answer as G
+use Rattle.grammar.specs.Text.{Tokens}
+use Rattle.grammar.specs.declared.Parsed.the-variants as P
+use Rattle.grammar.proofs.Grammar.{kept}
+use Rattle.events.specs.Event as E
+use Rattle.events.specs.Walk.{Ready}
+use Rattle.events.proofs.Widths.{onto-length}
+use Rattle.events.proofs.Enough.{ready}
+use Rattle.checker.specs.Check.{Verdict, accepted, refused, verdict, firstBroken, rulesOf, checkedTokens}
+use Rattle.checker.specs.Analysis.{Inspects, Inspected, Kept′, Known, Settles, Lent}
+use Rattle.checker.specs.Analysis as N
+use Rattle.checker.specs.declared.Analysed.{Analysed}
+use Rattle.checker.specs.declared.Analysed.the-variants.{Refused, Fine}
+
+pub can-parse : {ks nodes items heads scope : List ℕ} → Lent ks nodes items heads scope → G.Lent ks nodes
+can-parse h = record { filled = h .tokens .filled; few = omega (arith, h .few); room = omega (arith, h .few, h .table); ends = h .tokens .ends }
+
+-- number 4
+pub is-bad : {l : List ℕ} {m : ℕ} {v : Res T.prog} → G.Answers l (P.Bad m) v → v ≡ bad m
+is-bad G.none = refl
+
+-- a tree
+pub record Read (l : List ℕ) (root : ℕ) (v : Res T.prog) : Type 0 where
+  pub tree : Tree T.prog
+  pub after : ℕ
+  pub is : v ≡ ok tree after
+  pub holds : Holds l root (ast tree)
+  pub room : 5 * root + 5 ≤ length l
+
+pub is-tree : {l : List ℕ} {root count : ℕ} {v : Res T.prog} → G.Answers l (P.Tree root count) v → Read l root v
+is-tree (G.tree {t = t} {m = m} {k = k} p q a) = record { tree = t; after = m; is = refl; holds = record { kind = k; at = a }; room = omega (arith, p, q) }
+
+-- the tree can be walked
+pub can-walk : {ks nodes l items heads scope : List ℕ} {root : ℕ} → Lent ks nodes items heads scope → length l ≡ length nodes → Read l root (parsed ks) → Ready l root items
+can-walk {ks} {l = l} {root = root} h e r =
+    let k = kept ks (h .tokens) (r .is) in
+    let w : length ks ≡ width (r .tree) + 1 = ap length (k .tokens) ∙ onto-length (r .tree) (kEnd ∷ []) in
+    ready (r .tree) (omega (arith, w, h .few)) (subst (λ (t : Tree T.prog). Holds l root (ast t)) (k .numbers) (r .holds)) (r .room) (omega (arith, r .room, e, h .table)) (omega (arith, h .words))
+
+module _ (text ks ps vs nodes items heads before slots : List ℕ) where
+  pub settles-bad : {m : ℕ} → parsed ks ≡ bad m → Settles text ks ps vs nodes items heads before slots (Refused 4 (getD ps m 0)) (checkedTokens text ks ps vs)
+  unfolding checkedTokens
+  settles-bad e = rw (e, checkedTokens) N.refuses
+
+  pub settles-tree : {root : ℕ} {r : Analysed} → (h : Read nodes root (parsed ks)) → length nodes ≡ 20490
+      → Inspected text ps vs nodes items heads before slots (length ks) root r
+      → Settles text ks ps vs nodes items heads before slots r (checkedTokens text ks ps vs)
+  unfolding checkedTokens
+  settles-tree {root} {r} h f g = rw (h .is, checkedTokens) (go (g .inspects (ast (h .tree)) (h .holds)))
+    where
+      go : {r : Analysed} {v : Verdict} → Inspects text ps vs items heads before slots (length ks) root (ast (h .tree)) r v → Settles text ks ps vs nodes items heads before slots r v
+      go N.Inspects.refuses = N.refuses
+      go (N.Inspects.accepts u k) = N.accepts refl (record { tree = h .tree; after = h .after; parses = h .is; holds = h .holds; room = h .room; few = omega (arith, h .room, f); kept = k; unbroken = u })
