@@ -2,4 +2,5 @@
 pub mod Faults
 pub mod Inspecting
 pub mod Settling
+pub mod Analysing
 pub mod Texts

@@ -82,3 +82,13 @@ pub record Lent (ks nodes items heads scope : List ℕ) : Type 0 where
   pub words : length items ≡ 12288
   pub functions : 8192 ≤ length heads
   pub blocks : 12288 ≤ length scope
+
+-- what is lent for any text
+pub record Slices (ks ps vs nodes items heads scope : List ℕ) : Type 0 where
+  pub kinds : length ks ≡ 2049
+  pub places : length ps ≡ 2049
+  pub values : length vs ≡ 2049
+  pub table : length nodes ≡ 20490
+  pub words : length items ≡ 12288
+  pub functions : 8192 ≤ length heads
+  pub blocks : 12288 ≤ length scope

@@ -8,7 +8,7 @@ ghost use Rattle.rules.specs.Answers.{storedHeads};
 ghost use Rattle.events.specs.Walk.{Ready};
 ghost use Rattle.checker.specs.Judge.{unless, chosen, Ruled, Judges};
 ghost use Rattle.checker.specs.Check.{checkedTokens, checked};
-ghost use Rattle.checker.specs.Analysis.{concluded, Inspected, Lent, Settles, Analyses, verdictOf};
+ghost use Rattle.checker.specs.Analysis.{concluded, Inspected, Lent, Settles, Slices, Analyses, verdictOf};
 
 use grammar::Parsed;
 use lexer::Lexed;
@@ -148,5 +148,57 @@ fn settle(
         Parsed::Tree { root, count: _ } => {
             inspect(text, places, values, nodes, root, kinds.len(), items, heads, scope, slots)
         }
+    }
+}
+
+// The whole analysis of a text. The tokens, the tree, its events, its functions and what each name means are left in the lent slices.
+pub fn analyse(
+    text: &[u8],
+    kinds: &mut [u8],
+    places: &mut [u32],
+    values: &mut [u32],
+    nodes: &mut [u32],
+    items: &mut [u32],
+    heads: &mut [u32],
+    scope: &mut [u32],
+    slots: &mut [u32],
+) -> Analysed
+    requires { ⌜ Slices (now kinds) (now places) (now values) (now nodes) (now items) (now heads) (now scope) ⌝ }
+    ensures { λ r. ⌜ Analyses (now (text .entry)) (now (kinds .exit)) (now (places .exit)) (now (values .exit)) (now (nodes .exit)) (now (items .exit)) (now (heads .exit)) (now (slots .entry)) (now (slots .exit)) r (checked (now (text .entry))) ⌝ }
+{
+    match lexer::lex(text, kinds, places, values) {
+        Lexed::Refused(number, place) => Analysed::Refused(number, place),
+        Lexed::Tokens(n) => {
+            settle(text, &kinds[..n], &places[..n], &values[..n], nodes, items, heads, scope, slots)
+        }
+    }
+}
+
+// Whether a text keeps the grammar and every other rule, or the number of the first rule that it breaks, with the place.
+pub fn check(text: &[u8]) -> Checked
+    ensures { λ r. ⌜ verdictOf r ≡ checked (now (text .entry)) ⌝ }
+{
+    let mut kinds = [0u8; 2049];
+    let mut places = [0u32; 2049];
+    let mut values = [0u32; 2049];
+    let mut nodes = [0u32; 20490];
+    let mut items = [0u32; 12288];
+    let mut heads = [0u32; 8192];
+    let mut scope = [0u32; 12288];
+    let mut slots = [0u32; 2049];
+    let analysed = analyse(
+        text,
+        &mut kinds,
+        &mut places,
+        &mut values,
+        &mut nodes,
+        &mut items,
+        &mut heads,
+        &mut scope,
+        &mut slots,
+    );
+    match analysed {
+        Analysed::Refused(number, place) => Checked::Refused(number, place),
+        Analysed::Fine { tokens: _, root: _, events: _, functions: _ } => Checked::Accepted,
     }
 }
