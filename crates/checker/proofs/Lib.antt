@@ -3,4 +3,5 @@ pub mod Faults
 pub mod Inspecting
 pub mod Settling
 pub mod Analysing
+pub mod Small
 pub mod Texts

@@ -1,0 +1,2 @@
+-- Laws for the exported functions.
+pub mod Places

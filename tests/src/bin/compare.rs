@@ -1,0 +1,147 @@
+//! Compares the linked lister with the reference on random cases.
+//!
+//! `compare CASES SEED`: each case is a text for check and remarks and, with
+//! the feature `list`, a text with a job for list. The paper's examples go
+//! before them. The first difference is
+//! printed with its text, and the exit code is then 1.
+
+use reference::examples::{self, Example};
+use reference::random::Random;
+use reference::search::Ending;
+use reference::{cases, generate, linked, list, with_room, Job, Listing, Refusal};
+use std::collections::BTreeMap;
+
+/// Budgets beyond this many moves are held down where they would be made.
+const MOST_MOVES: u32 = 30_000;
+/// The same for one case in a hundred.
+const MOST_MOVES_SELDOM: u32 = 1_000_000;
+
+fn main() {
+    let numbers: Vec<u64> =
+        std::env::args().skip(1).map(|word| word.parse().expect("a number")).collect();
+    let (count, seed) = match numbers[..] {
+        [count, seed] => (count, seed),
+        [count] => (count, 1),
+        _ => (1_000, 1),
+    };
+    if !linked::LINKED {
+        eprintln!("Built without PLANS_LIB: there is nothing to compare with.");
+        std::process::exit(2);
+    }
+    if !with_room(|| compare(count, seed)) {
+        std::process::exit(1);
+    }
+}
+
+fn compare(count: u64, seed: u64) -> bool {
+    if !compare_examples() {
+        return false;
+    }
+    let mut answers: BTreeMap<String, u64> = BTreeMap::new();
+    for case in 0..count {
+        // Each case has a seed of its own, so that one can be tried again.
+        let mut random = Random::new(seed.wrapping_mul(1_000_003).wrapping_add(case));
+        let text = generate::text(&mut random);
+        let checked = cases::check(&mut random, &text);
+        let outcome = match &checked {
+            Ok((number, _)) => {
+                *answers.entry(format!("check {number}")).or_default() += 1;
+                cases::remarks(&mut random, &text)
+            }
+            Err(what) => Err(what.clone()),
+        };
+        if let Err(what) = outcome {
+            return differs(case, &text, &what);
+        }
+        if linked::LISTS {
+            let text = list_text(&mut random, text);
+            let (job, reference) = list_job(&mut random, &text);
+            let kind = match &reference {
+                Ok(listing) if listing.rows.len() > 1 => {
+                    format!("list {:?} with rows", listing.ending)
+                }
+                Ok(listing) => format!("list {:?}", listing.ending),
+                Err((number, _)) => format!("list {number}"),
+            };
+            *answers.entry(kind).or_default() += 1;
+            if let Err(what) = cases::list(&mut random, &text, &job, &reference) {
+                return differs(case, &text, &what);
+            }
+        }
+    }
+    let kinds: Vec<String> = answers.iter().map(|(kind, n)| format!("{kind}: {n}")).collect();
+    println!("{}", kinds.join(", "));
+    let what = if linked::LISTS { "check, remarks and list" } else { "check and remarks" };
+    println!("{count} cases of {what} agreed, seed {seed}");
+    true
+}
+
+/// The paper's examples and limits, each once, before the random cases.
+fn compare_examples() -> bool {
+    let mut random = Random::new(7);
+    let examples = examples::examples();
+    for (number, Example { name, text, job }) in examples.iter().enumerate() {
+        let mut outcome = cases::check(&mut random, text).map(|_| ());
+        outcome = outcome.and_then(|_| cases::remarks(&mut random, text));
+        if linked::LISTS {
+            outcome = outcome.and_then(|_| cases::list(&mut random, text, job, &list(text, job)));
+        }
+        if let Err(what) = outcome {
+            return differs(number as u64, text, &format!("example {name}: {what}"));
+        }
+    }
+    println!("{} examples agreed", examples.len());
+    true
+}
+
+fn differs(case: u64, text: &[u8], what: &str) -> bool {
+    println!("case {case}: {what}");
+    println!("text of {} bytes: {:?}", text.len(), String::from_utf8_lossy(text));
+    println!("{case} cases agreed before it");
+    false
+}
+
+/// Mostly a program that is accepted, else the text that was checked.
+fn list_text(random: &mut Random, checked: Vec<u8>) -> Vec<u8> {
+    match random.below(10) {
+        0..=3 => generate::small(random),
+        4..=7 => generate::valid(random),
+        _ => checked,
+    }
+}
+
+/// A random job and the reference's answer; some jobs stand just at what the
+/// search needs.
+fn list_job(random: &mut Random, text: &[u8]) -> (Job, Result<Listing, Refusal>) {
+    let most = if random.chance(10) { MOST_MOVES_SELDOM } else { MOST_MOVES };
+    let mut job = generate::job(random);
+    let mut reference = held_down(text, &mut job, most);
+    if let Ok(listing) = &reference {
+        if random.chance(400) {
+            let moves = i64::from(listing.moves);
+            let rows = listing.rows.len() as i64;
+            let near = random.between(-1, 1);
+            match random.below(4) {
+                0 => job.budget = (moves + near).max(0) as u32,
+                1 => job.budget = random.between(0, moves) as u32,
+                2 => job.skip = (rows + near).max(0) as u32,
+                _ => job.rows_len = (10 * (rows + near) + random.between(-1, 1)).max(0) as usize,
+            }
+            reference = held_down(text, &mut job, most);
+        }
+    }
+    (job, reference)
+}
+
+/// The reference's answer; a budget that would take too long is held down.
+fn held_down(text: &[u8], job: &mut Job, most: u32) -> Result<Listing, Refusal> {
+    let wished = job.budget;
+    job.budget = wished.min(most);
+    let reference = list(text, job);
+    let spent = matches!(&reference, Ok(listing) if listing.ending == Ending::Spent);
+    if !spent {
+        // A larger budget changes nothing.
+        job.budget = wished;
+    }
+    reference
+}

@@ -1,0 +1,844 @@
+//! Random texts and jobs.
+//!
+//! Most texts are programs written along the grammar with names that can be
+//! seen; some have mistakes of the kinds that the rules refuse, some are
+//! damaged, and some stand at a limit or one past it.
+
+use crate::random::Random;
+use crate::search::{Job, LEAST_SCRATCH};
+
+/// A random text of any kind.
+pub fn text(random: &mut Random) -> Vec<u8> {
+    match random.below(100) {
+        0..=54 => valid(random),
+        55..=69 => {
+            let mistakes = random.pick(&[&5, &20, &60]);
+            let tokens = program(random, *mistakes);
+            layout(random, &tokens)
+        }
+        70..=84 => damaged(random),
+        85..=96 => at_limits(random),
+        _ => noise(random),
+    }
+}
+
+/// A random program without mistakes (it may still be too long or too deep).
+pub fn valid(random: &mut Random) -> Vec<u8> {
+    let tokens = program(random, 0);
+    layout(random, &tokens)
+}
+
+/// A random program whose search is small.
+pub fn small(random: &mut Random) -> Vec<u8> {
+    let functions = 1 + random.below(3);
+    let tokens = Writer::new(random, 0, 9).program(functions);
+    layout(random, &tokens)
+}
+
+fn program(random: &mut Random, mistakes: usize) -> Vec<String> {
+    let functions = *random.pick(&[&1usize, &1, &2, &2, &3, &4, &7, &16]);
+    let room = *random.pick(&[&6usize, &12, &20, &30, &45]) / functions;
+    Writer::new(random, mistakes, room).program(functions)
+}
+
+/// Tokens with blanks between them, at least where two words would join.
+fn layout(random: &mut Random, tokens: &[String]) -> Vec<u8> {
+    let style = random.below(4);
+    let mut text = Vec::new();
+    let wordlike = |byte: &u8| byte.is_ascii_alphanumeric() || *byte == b'_';
+    for token in tokens {
+        let bytes = token.as_bytes();
+        let joins = text.last().is_some_and(wordlike) && bytes.first().is_some_and(wordlike);
+        let blank = match style {
+            0 => joins,
+            1 => true,
+            _ => joins || random.chance(300),
+        };
+        if blank && !text.is_empty() {
+            text.push(if style == 3 {
+                *random.pick(&[&b' ', &b'\n', &b'\t', &b'\r'])
+            } else {
+                b' '
+            });
+        }
+        text.extend_from_slice(bytes);
+    }
+    if random.chance(100) {
+        text.extend(vec![b' '; random.below(4)]);
+    }
+    text
+}
+
+/// Writes a program as tokens and keeps account of the names that can be seen.
+struct Writer<'r> {
+    random: &'r mut Random,
+    /// How often, of a thousand, a place for a mistake gets one.
+    mistakes: usize,
+    /// How many more statements are to be written in this function.
+    room: usize,
+    room_each: usize,
+    tokens: Vec<String>,
+    functions: Vec<(String, usize)>,
+    present: usize,
+    blocks: Vec<Vec<String>>,
+    /// The counters of the loops around, which are seldom assigned to.
+    counters: Vec<String>,
+    declared: usize,
+    frees: usize,
+}
+
+const NAMES: [&str; 12] = ["a", "b", "c", "d", "x", "y", "i", "n", "k_1", "freed", "main", "f"];
+const FUNCTION_NAMES: [&str; 10] = ["f", "g", "h", "pow", "log", "a", "x", "int_", "iff", "F2"];
+const NUMBERS: [&str; 14] = [
+    "4",
+    "5",
+    "7",
+    "10",
+    "003",
+    "46341",
+    "65536",
+    "65535",
+    "1000000",
+    "1073741824",
+    "2147483646",
+    "2147483647",
+    "40",
+    "100",
+];
+
+impl Writer<'_> {
+    fn new(random: &mut Random, mistakes: usize, room: usize) -> Writer<'_> {
+        Writer {
+            random,
+            mistakes,
+            room,
+            room_each: room,
+            tokens: Vec::new(),
+            functions: Vec::new(),
+            present: 0,
+            blocks: Vec::new(),
+            counters: Vec::new(),
+            declared: 0,
+            frees: 0,
+        }
+    }
+
+    fn program(mut self, count: usize) -> Vec<String> {
+        let main = self.random.below(count);
+        for number in 0..count {
+            let mut name = if number == main { "main".to_string() } else { self.function_name() };
+            let mut parameters = if number == main { 0 } else { self.random.below(4) };
+            if self.random.chance(30) && number != main {
+                parameters = 4;
+            }
+            if self.mistake() {
+                name = self.function_name();
+            }
+            if self.mistake() {
+                parameters = self.random.below(6);
+            }
+            self.functions.push((name, parameters));
+        }
+        for number in 0..count {
+            self.present = number;
+            self.room = self.room_each;
+            self.function();
+        }
+        self.tokens
+    }
+
+    fn function_name(&mut self) -> String {
+        loop {
+            let mut name = self.random.pick(&FUNCTION_NAMES).to_string();
+            if self.random.chance(300) {
+                name.push_str(&self.random.below(20).to_string());
+            }
+            let taken = self.functions.iter().any(|(other, _)| *other == name);
+            if !taken || self.mistake() {
+                return name;
+            }
+        }
+    }
+
+    fn mistake(&mut self) -> bool {
+        self.mistakes > 0 && self.random.chance(self.mistakes)
+    }
+
+    fn put(&mut self, tokens: &[&str]) {
+        self.tokens.extend(tokens.iter().map(|token| token.to_string()));
+    }
+
+    fn put_one_of(&mut self, from: &[&str]) {
+        let token = self.random.pick(from).to_string();
+        self.tokens.push(token);
+    }
+
+    fn visible(&self) -> Vec<String> {
+        self.blocks.iter().flatten().cloned().collect()
+    }
+
+    /// Declares a name, if possible one that can't be seen yet.
+    fn new_name(&mut self) -> String {
+        self.declared += 1;
+        let visible = self.visible();
+        let mut name = self.random.pick(&NAMES).to_string();
+        while visible.contains(&name) && !self.mistake() {
+            name = format!("{}{}", self.random.pick(&NAMES), self.random.below(30));
+        }
+        self.blocks.last_mut().expect("a block is open").push(name.clone());
+        name
+    }
+
+    fn known_name(&mut self) -> Option<String> {
+        if self.mistake() {
+            return Some(self.random.pick(&NAMES).to_string());
+        }
+        let visible = self.visible();
+        if visible.is_empty() {
+            return None;
+        }
+        Some(visible[self.random.below(visible.len())].clone())
+    }
+
+    fn function(&mut self) {
+        let (name, parameters) = self.functions[self.present].clone();
+        self.blocks = vec![Vec::new()];
+        self.declared = 0;
+        self.frees = 0;
+        self.put(&["int", &name, "("]);
+        for number in 0..parameters {
+            if number > 0 {
+                self.put(&[","]);
+            }
+            let name = self.new_name();
+            self.put(&["int", &name]);
+        }
+        self.put(&[")", "{"]);
+        self.blocks.push(Vec::new());
+        // The main function begins with free numbers, most of the time.
+        if name == "main" {
+            for _ in 0..*self.random.pick(&[&0usize, &1, &1, &1, &2, &2, &3]) {
+                self.declare(true);
+            }
+        }
+        self.body();
+        if self.mistake() {
+            self.put_one_of(&[";", "return", "}", "5"]);
+        }
+        self.put(&["}"]);
+    }
+
+    fn declare(&mut self, free: bool) {
+        if self.declared >= 16 && !self.mistake() {
+            self.put(&[";"]);
+            return;
+        }
+        let name = self.new_name();
+        self.put(&["int", &name]);
+        if free {
+            self.frees += 1;
+            self.put(&["free"]);
+        }
+        self.put(&[";"]);
+    }
+
+    /// Statements of which the last can't reach its end.
+    fn body(&mut self) {
+        while self.room > 0 && !self.random.chance(120) {
+            self.statement(1);
+        }
+        if !self.mistake() {
+            self.last_statement(1);
+        }
+    }
+
+    fn last_statement(&mut self, depth: usize) {
+        if depth < 5 && self.random.chance(400) {
+            if self.random.chance(250) {
+                self.put(&["{"]);
+                self.blocks.push(Vec::new());
+                for _ in 0..self.random.below(3) {
+                    self.statement(depth + 1);
+                }
+                self.last_statement(depth + 1);
+                self.blocks.pop();
+                self.put(&["}"]);
+                return;
+            }
+            self.put(&["if", "("]);
+            self.condition();
+            self.put(&[")"]);
+            self.last_arm(depth);
+            self.put(&["else"]);
+            self.last_arm(depth);
+        } else if self.random.chance(100) {
+            self.put(&["fail", ";"]);
+        } else {
+            self.put(&["return"]);
+            self.expression(2);
+            self.put(&[";"]);
+        }
+    }
+
+    fn last_arm(&mut self, depth: usize) {
+        self.blocks.push(Vec::new());
+        self.last_statement(depth + 1);
+        self.blocks.pop();
+    }
+
+    fn statement(&mut self, depth: usize) {
+        self.room = self.room.saturating_sub(1);
+        let deep = depth > 6 || self.room == 0;
+        match self.random.below(100) {
+            0..=2 => self.put(&[";"]),
+            3..=14 => self.declare(false),
+            15..=24 => {
+                let free = self.frees < 3 || self.random.chance(150);
+                self.declare(free);
+            }
+            25..=52 => self.assign(),
+            53..=57 => {
+                self.expression(2);
+                self.put(&[";"]);
+            }
+            58..=64 if !deep => self.braces(depth),
+            65..=84 if !deep => {
+                self.put(&["if", "("]);
+                self.condition();
+                self.put(&[")"]);
+                self.arm(depth);
+                if !self.mistake() {
+                    self.put(&["else"]);
+                }
+                self.arm(depth);
+            }
+            85..=95 if !deep => self.while_loop(depth),
+            96 => {
+                self.put(&["return"]);
+                self.expression(1);
+                self.put(&[";"]);
+            }
+            97 if self.random.chance(300) => self.put(&["fail", ";"]),
+            _ => self.assign(),
+        }
+    }
+
+    fn assign(&mut self) {
+        let Some(name) = self.known_name() else {
+            self.declare(false);
+            return;
+        };
+        if self.counters.contains(&name) && !self.random.chance(50) {
+            self.put(&[";"]);
+            return;
+        }
+        self.put(&[&name, "="]);
+        self.expression(2);
+        self.put(&[";"]);
+    }
+
+    fn braces(&mut self, depth: usize) {
+        self.put(&["{"]);
+        self.blocks.push(Vec::new());
+        for _ in 0..self.random.below(4) {
+            self.statement(depth + 1);
+        }
+        self.blocks.pop();
+        self.put(&["}"]);
+    }
+
+    /// An if arm or a loop's body: a block, braces or not.
+    fn arm(&mut self, depth: usize) {
+        if self.random.chance(500) {
+            self.braces(depth + 1);
+        } else {
+            self.blocks.push(Vec::new());
+            self.statement(depth + 1);
+            self.blocks.pop();
+        }
+    }
+
+    fn while_loop(&mut self, depth: usize) {
+        if self.random.chance(850) && self.declared < 16 {
+            // A counted loop, in a block of its own with its counter.
+            self.put(&["{"]);
+            self.blocks.push(Vec::new());
+            let name = self.new_name();
+            let start = self.random.below(3).to_string();
+            self.put(&["int", &name, ";", &name, "=", &start, ";", "while", "(", &name]);
+            self.put_one_of(&["<", "<", "<=", "<=", "!="]);
+            if self.random.chance(800) {
+                let bound = self.random.below(4).to_string();
+                let bound = self.known_name().filter(|other| *other != name).unwrap_or(bound);
+                self.put(&[&bound]);
+            } else {
+                self.expression(1);
+            }
+            self.put(&[")", "{"]);
+            self.blocks.push(Vec::new());
+            self.counters.push(name.clone());
+            for _ in 0..self.random.below(3) {
+                self.statement(depth + 2);
+            }
+            self.declare_and_use();
+            self.counters.pop();
+            self.blocks.pop();
+            self.put(&[&name, "=", &name, "+", "1", ";", "}", "}"]);
+            self.blocks.pop();
+        } else {
+            self.put(&["while", "("]);
+            self.condition();
+            self.put(&[")"]);
+            self.arm(depth);
+        }
+    }
+
+    /// Sometimes, within a loop: a number that is read before it is changed, and
+    /// must be 0 then in every turn.
+    fn declare_and_use(&mut self) {
+        if self.declared < 16 && self.random.chance(300) {
+            let outer = self.known_name().unwrap_or_else(|| "x".to_string());
+            let name = self.new_name();
+            self.put(&["int", &name, ";", &outer, "=", &outer, "+", &name, ";"]);
+            self.put(&[&name, "=", &name, "+", "2", ";"]);
+        }
+    }
+
+    fn condition(&mut self) {
+        self.test();
+        while self.random.chance(250) {
+            self.put_one_of(&["&&", "||"]);
+            self.test();
+        }
+    }
+
+    fn test(&mut self) {
+        match self.random.below(20) {
+            0 => self.put(&["true"]),
+            1 => self.put(&["false"]),
+            2..=7 => {
+                // A name beside a small number narrows, either way round.
+                let small = self.random.between(-2, 4).to_string();
+                let name = self.known_name().unwrap_or_else(|| "1".to_string());
+                let comparison = self.comparison();
+                if self.random.chance(700) {
+                    self.put(&[&name, comparison]);
+                    self.number(&small);
+                } else {
+                    self.number(&small);
+                    self.put(&[comparison, &name]);
+                }
+            }
+            _ => {
+                self.expression(2);
+                let comparison = self.comparison();
+                self.put(&[comparison]);
+                self.expression(2);
+            }
+        }
+    }
+
+    fn comparison(&mut self) -> &'static str {
+        self.random.pick(&["<", "<=", ">", ">=", "==", "!="])
+    }
+
+    fn number(&mut self, number: &str) {
+        match number.strip_prefix('-') {
+            Some(digits) => self.put(&["-", digits]),
+            None => self.put(&[number]),
+        }
+    }
+
+    fn expression(&mut self, size: usize) {
+        self.operand(size);
+        while self.random.chance(150 * size.min(3)) {
+            self.put_one_of(&["+", "+", "-", "-", "*"]);
+            self.operand(size.saturating_sub(1));
+        }
+    }
+
+    fn operand(&mut self, size: usize) {
+        match self.random.below(100) {
+            0..=19 => {
+                let number = self.random.between(-3, 3).to_string();
+                self.number(&number);
+            }
+            20..=23 => {
+                if self.random.chance(300) {
+                    self.put(&["-"]);
+                }
+                self.put_one_of(&NUMBERS);
+            }
+            24..=31 if size > 0 => {
+                self.put(&["("]);
+                self.expression(size - 1);
+                self.put(&[")"]);
+            }
+            32..=41 if size > 0 && (!self.onwards().is_empty() || self.random.chance(60)) => {
+                self.call(size.saturating_sub(1));
+            }
+            _ => match self.known_name() {
+                Some(name) => self.put(&[&name]),
+                None => self.put_one_of(&["0", "1", "2"]),
+            },
+        }
+    }
+
+    /// From main all others, from another one those after it.
+    fn onwards(&self) -> Vec<usize> {
+        let main = |number: usize| self.functions[number].0 == "main";
+        let first = if main(self.present) { 0 } else { self.present + 1 };
+        (first..self.functions.len()).filter(|number| !main(*number)).collect()
+    }
+
+    fn call(&mut self, size: usize) {
+        // Calls lead mostly onwards, so that few programs call without end.
+        let onwards = self.onwards();
+        let number = if !onwards.is_empty() && !self.random.chance(50) {
+            onwards[self.random.below(onwards.len())]
+        } else {
+            self.random.below(self.functions.len())
+        };
+        let (mut name, mut parameters) = self.functions[number].clone();
+        if self.mistake() {
+            name = self.random.pick(&FUNCTION_NAMES).to_string();
+        }
+        if self.mistake() {
+            parameters = self.random.below(6);
+        }
+        self.put(&[&name, "("]);
+        for number in 0..parameters {
+            if number > 0 {
+                self.put(&[","]);
+            }
+            self.expression(size);
+        }
+        self.put(&[")"]);
+    }
+}
+
+const SPARE_TOKENS: [&str; 34] = [
+    "(", ")", "{", "}", ";", ",", "=", "<", ">", "<=", ">=", "==", "!=", "&&", "||", "+", "-", "*",
+    "int", "free", "if", "else", "while", "return", "fail", "true", "false", "a", "f", "main", "0",
+    "7", "12ab", "!",
+];
+
+fn damaged(random: &mut Random) -> Vec<u8> {
+    let mut tokens = program(random, 0);
+    for _ in 0..1 + random.below(3) {
+        let place = random.below(tokens.len());
+        match random.below(6) {
+            0 => {
+                tokens.remove(place);
+            }
+            1 => tokens.insert(place, random.pick(&SPARE_TOKENS).to_string()),
+            2 => tokens[place] = random.pick(&SPARE_TOKENS).to_string(),
+            3 => {
+                let other = random.below(tokens.len());
+                tokens.swap(place, other);
+            }
+            4 => tokens.truncate(place),
+            _ => tokens.insert(place, tokens[place].clone()),
+        }
+        if tokens.is_empty() {
+            return Vec::new();
+        }
+    }
+    let mut text = layout(random, &tokens);
+    if random.chance(300) && !text.is_empty() {
+        for _ in 0..1 + random.below(3) {
+            let place = random.below(text.len());
+            match random.below(4) {
+                0 => text[place] = random.below(256) as u8,
+                1 => text.insert(place, *random.pick(&[&b'!', &b'&', &b'|', &b'_', &b'=', &b'-'])),
+                2 => text.insert(place, random.below(256) as u8),
+                _ => {
+                    text.remove(place);
+                    if text.is_empty() {
+                        return text;
+                    }
+                }
+            }
+        }
+    }
+    text
+}
+
+fn noise(random: &mut Random) -> Vec<u8> {
+    let length = random.below(60);
+    match random.below(3) {
+        0 => (0..length).map(|_| random.below(256) as u8).collect(),
+        1 => {
+            let bytes = b"ab1_ \t\n\r(){};,=<>!&|+-*if";
+            (0..length).map(|_| bytes[random.below(bytes.len())]).collect()
+        }
+        _ => {
+            let tokens: Vec<String> =
+                (0..length).map(|_| random.pick(&SPARE_TOKENS).to_string()).collect();
+            layout(random, &tokens)
+        }
+    }
+}
+
+/// Texts at a limit and around it.
+fn at_limits(random: &mut Random) -> Vec<u8> {
+    match random.below(12) {
+        0 => long_name(random),
+        1 => large_number(random),
+        2 | 3 => deep(random),
+        4 => many_declarations(random),
+        5 => many_parameters(random),
+        6 => many_functions(random),
+        7 => mains(random),
+        8 => ends(random),
+        9 => shadows(random),
+        _ => padded(random),
+    }
+}
+
+fn long_name(random: &mut Random) -> Vec<u8> {
+    let name = "abcdefgh_jklmnopqrst";
+    let name = &name[..15 + random.below(4)];
+    let other = "variable_of_main_";
+    let other = &other[..15 + random.below(3)];
+    format!("int {name}() {{ return 1; }} int main() {{ int {other}; return {other} + {name}(); }}")
+        .into_bytes()
+}
+
+fn large_number(random: &mut Random) -> Vec<u8> {
+    let number = match random.below(6) {
+        0 => "2147483647".to_string(),
+        1 => "2147483648".to_string(),
+        2 => "0".repeat(random.below(40)) + "2147483647",
+        3 => "9".repeat(1 + random.below(40)),
+        4 => "18446744073709551616".to_string(),
+        _ => random.between(2_147_483_640, 2_147_483_655).to_string(),
+    };
+    let minus = random.pick(&["", "-", "- "]);
+    format!("int main() {{ return {minus}{number}; }}").into_bytes()
+}
+
+/// Mixed nesting to a depth of about 24.
+fn deep(random: &mut Random) -> Vec<u8> {
+    let levels = 20 + random.below(8);
+    let statements = if random.chance(300) { levels } else { random.below(levels) };
+    let mut open = String::new();
+    let mut close = String::new();
+    for _ in 0..statements {
+        let (before, after) = *random.pick(&[
+            &("{ ", "}"),
+            &("while (false) ", ""),
+            &("if (true) ", "else fail; "),
+            &("if (a < 1) ; else ", ""),
+            &("while (a < 0) { ", "}"),
+        ]);
+        open.push_str(before);
+        close.insert_str(0, after);
+    }
+    let mut inner_open = String::new();
+    let mut inner_close = String::new();
+    for _ in statements..levels {
+        let (before, after) = *random.pick(&[
+            &("(", ")"),
+            &("f(", ")"),
+            &("1 + f(", ") * 2"),
+            &("2 - (", ")"),
+            &("g(1, ", ")"),
+            &("g(", ", (3))"),
+        ]);
+        inner_open.push_str(before);
+        inner_close.insert_str(0, after);
+    }
+    let inner = random.pick(&["a", "-1", "f(1)", "(2)", "1 + 2"]);
+    let form = match random.below(4) {
+        0 => ("return ", ";"),
+        1 => ("a = ", ";"),
+        2 => ("if (1 < ", ") ; else ;"),
+        _ => ("", ";"),
+    };
+    format!(
+        "int f(int p) {{ return p; }} int g(int p, int q) {{ return p; }} int main() {{ int a; \
+         {open}{}{inner_open}{inner}{inner_close}{}{close} return 0; }}",
+        form.0, form.1
+    )
+    .into_bytes()
+}
+
+fn many_declarations(random: &mut Random) -> Vec<u8> {
+    let parameters = random.below(5);
+    let count = 14 + random.below(5);
+    let mut text = String::from("int main() { return 0; } int f(");
+    for number in 0..parameters {
+        text.push_str(if number > 0 { ", " } else { "" });
+        text.push_str(&format!("int p{number}"));
+    }
+    text.push_str(") { ");
+    for number in parameters..count {
+        let free = random.pick(&["", " free"]);
+        let (before, after) = *random.pick(&[&("", ""), &("{ ", " }"), &("while (true) ", "")]);
+        text.push_str(&format!("{before}int v{number}{free};{after} "));
+    }
+    text.push_str("return 1; }");
+    text.into_bytes()
+}
+
+fn many_parameters(random: &mut Random) -> Vec<u8> {
+    let parameters = 3 + random.below(16);
+    let arguments = if random.chance(700) { parameters } else { 3 + random.below(4) };
+    let declared: Vec<String> = (0..parameters).map(|n| format!("int p{n}")).collect();
+    let given: Vec<String> = (0..arguments).map(|n| n.to_string()).collect();
+    format!(
+        "int main() {{ return f({}); }} int f({}) {{ return p0; }}",
+        given.join(","),
+        declared.join(",")
+    )
+    .into_bytes()
+}
+
+fn many_functions(random: &mut Random) -> Vec<u8> {
+    let count = 15 + random.below(4);
+    let main = random.below(count);
+    let mut text = String::new();
+    for number in 0..count {
+        let name = if number == main { "main".to_string() } else { format!("f{number}") };
+        let called = random.below(count);
+        let called = if called == main { "main".to_string() } else { format!("f{called}") };
+        text.push_str(&format!("int {name}() {{ return {called}(); }}\n"));
+    }
+    text.into_bytes()
+}
+
+fn mains(random: &mut Random) -> Vec<u8> {
+    let parts = [
+        "int main() { return 1; }",
+        "int main(int a) { return a; }",
+        "int main(int a, int b) { return main(b); }",
+        "int f() { return main(); }",
+        "int f(int main) { return main; }",
+        "int g() { return main(1); }",
+        "int g() { return f(); }",
+        "int Main() { return 0; }",
+        "",
+    ];
+    (0..1 + random.below(3)).map(|_| random.pick(&parts)).collect::<Vec<_>>().join(" ").into_bytes()
+}
+
+fn ends(random: &mut Random) -> Vec<u8> {
+    fn end(random: &mut Random, depth: usize) -> String {
+        match random.below(if depth > 4 { 6 } else { 10 }) {
+            0 | 1 => "return 1;".to_string(),
+            2 => "fail;".to_string(),
+            3 => random.pick(&["while (true) ;", ";", "{ }", "1;", "return 1; ;"]).to_string(),
+            4 | 5 => "{ return 1; }".to_string(),
+            6 | 7 => {
+                format!("if (true) {} else {}", end(random, depth + 1), end(random, depth + 1))
+            }
+            8 => format!("{{ ; {} }}", end(random, depth + 1)),
+            _ => format!("while (true) {}", end(random, depth + 1)),
+        }
+    }
+    let first = end(random, 0);
+    let second = end(random, 0);
+    format!("int f() {{ {first} }} int main() {{ {second} }}").into_bytes()
+}
+
+/// Declarations and uses of few names in many blocks.
+fn shadows(random: &mut Random) -> Vec<u8> {
+    let mut text = String::from(random.pick(&[
+        "int main() { ",
+        "int main() { return 0; } int f(int a) { ",
+        "int main() { return 0; } int a(int b, int c) { ",
+    ]));
+    let mut open = 0;
+    for _ in 0..random.below(12) {
+        let name = random.pick(&["a", "b", "c"]);
+        match random.below(9) {
+            0 => text.push_str(&format!("int {name}; ")),
+            1 => text.push_str(&format!("{name} = 1; ")),
+            2 => text.push_str(&format!("if (true) int {name}; else int {name} free; ")),
+            3 => text.push_str(&format!("while (false) int {name}; ")),
+            4 | 5 => {
+                text.push_str("{ ");
+                open += 1;
+            }
+            6 => text.push_str(&format!("{{ int {name}; }} ")),
+            7 => text.push_str(&format!("{{ {name} = {name}; }} ")),
+            _ if open > 0 => {
+                text.push_str("} ");
+                open -= 1;
+            }
+            _ => {}
+        }
+    }
+    text.push_str(&"} ".repeat(open));
+    text.push_str("return 1; }");
+    text.into_bytes()
+}
+
+/// A text of about 2,048 bytes.
+fn padded(random: &mut Random) -> Vec<u8> {
+    let length = 2046 + random.below(5);
+    let tokens = program(random, 0);
+    let mut text = layout(random, &tokens);
+    let filler = *random.pick(&[&b' ', &b'\n', &b';', &b'a', &b'9', &b'(', &b'!', &b'{']);
+    let place = if random.chance(500) { text.len() } else { random.below(text.len() + 1) };
+    while text.len() < length {
+        text.insert(place, filler);
+    }
+    text
+}
+
+/// A random job, its budget not yet held down.
+pub fn job(random: &mut Random) -> Job {
+    let (low, high) = window(random);
+    let steps = match random.below(20) {
+        0..=2 => 1 + random.below(30) as u32,
+        3..=9 => 1 + random.below(150) as u32,
+        10..=13 => 1 + random.below(1000) as u32,
+        14..=18 => 1000,
+        _ => *random.pick(&[&0, &1, &2, &999, &1001, &u32::MAX, &0x8000_0000]),
+    };
+    let skip = match random.below(10) {
+        0..=5 => 0,
+        6..=7 => random.below(4) as u32,
+        8 => random.below(40) as u32,
+        _ => *random.pick(&[&u32::MAX, &1000, &0x8000_0000]),
+    };
+    let budget = match random.below(10) {
+        0 => random.below(100) as u32,
+        1 => random.below(1000) as u32,
+        2..=3 => random.below(20_000) as u32,
+        _ => u32::MAX - random.below(3) as u32,
+    };
+    let rows_len = match random.below(10) {
+        0..=1 => random.below(26),
+        2..=3 => random.below(120),
+        _ => 10 * random.below(500) + random.below(10),
+    };
+    let scratch_len = match random.below(40) {
+        0 => *random.pick(&[&0, &1, &(LEAST_SCRATCH / 2), &(LEAST_SCRATCH - 1)]),
+        1..=3 => LEAST_SCRATCH + random.below(100),
+        _ => LEAST_SCRATCH,
+    };
+    Job { low, high, steps, skip, budget, rows_len, scratch_len }
+}
+
+fn window(random: &mut Random) -> (i32, i32) {
+    let (low, values) = match random.below(20) {
+        0..=10 => (random.between(-3, 2), random.between(1, 5)),
+        11..=13 => (random.between(-10, 5), random.between(1, 20)),
+        14 => (random.between(-100, 100), random.between(1, 1000)),
+        15 => (random.between(-5000, 10), random.between(4090, 4098)),
+        16 => (i64::from(i32::MIN), random.between(1, 4098)),
+        17 => {
+            let values = random.between(1, 4098);
+            (i64::from(i32::MAX) - values + 1, values)
+        }
+        18 => (random.between(i64::from(i32::MIN), i64::from(i32::MAX) - 5), random.between(1, 4)),
+        _ => {
+            let any = |random: &mut Random| random.between(i32::MIN.into(), i32::MAX.into()) as i32;
+            return (any(random), any(random));
+        }
+    };
+    (low as i32, (low + values - 1) as i32)
+}
