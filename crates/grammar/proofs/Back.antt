@@ -29,18 +29,18 @@ then-ok {c} f q = ap (λ (o : Res c). andThen o f) q
 
 module _ (ks : List ℕ) where
   -- token p is k, and r are the tokens after it
-  record Ahead (p k : ℕ) (r : List ℕ) : Type 0 where
-    here : getD ks p 0 ≡ k
-    next : drop (p + 1) ks ≡ r
-    inside : p < length ks
+  pub record Ahead (p k : ℕ) (r : List ℕ) : Type 0 where
+    pub here : getD ks p 0 ≡ k
+    pub next : drop (p + 1) ks ≡ r
+    pub inside : p < length ks
 
-  ahead : (p : ℕ) {k : ℕ} {r : List ℕ} → drop p ks ≡ k ∷ r → Ahead p k r
+  pub ahead : (p : ℕ) {k : ℕ} {r : List ℕ} → drop p ks ≡ k ∷ r → Ahead p k r
   ahead p {k} {r} e =
       let i : p < length ks = omega (arith, ap length e, length-drop p ks) in
       let q : getD ks p 0 ∷ drop (p + 1) ks ≡ k ∷ r = rw (add-one) (sym (drop-cons ks p 0 i) ∙ e) in
       record { here = cc; next = cc; inside = i }
 
-  past : {c : Cat} (t : Tree c) (p : ℕ) {r : List ℕ} → drop p ks ≡ onto t r → drop (p + width t) ks ≡ r
+  pub past : {c : Cat} (t : Tree c) (p : ℕ) {r : List ℕ} → drop p ks ≡ onto t r → drop (p + width t) ks ≡ r
   past t p {r} e = sym (drop-drop (width t) p ks) ∙ ap (drop (width t)) (e ∙ onto-append t [] r) ∙ drop-append-seam (onto t []) r
 
   ends : {c : Cat} (t : Tree c) (p : ℕ) {q k : ℕ} {r : List ℕ} → drop p ks ≡ onto t (k ∷ r) → q ≡ p + width t → Ahead q k r
@@ -357,10 +357,10 @@ module _ (ks : List ℕ) where
   -- ---- every tree
 
   -- where the numbers of a tree are counted in another way
-  two : (x : ℕ) → x + 1 + 1 ≡ x + 2
+  pub two : (x : ℕ) → x + 1 + 1 ≡ x + 2
   two x = omega arith
 
-  three : (x : ℕ) → x + 1 + 1 + 1 ≡ x + 3
+  pub three : (x : ℕ) → x + 1 + 1 + 1 ≡ x + 3
   three x = omega arith
 
   abbrev Back : (c : Cat) → Tree c → ℕ → ℕ → Type 0

@@ -2,6 +2,7 @@
 --   parsed-back  every program is read back from its tokens, each token with its number
 --   only-tree    two programs with the same tokens are the same, up to the numbers in them
 --   accepts      a list that is the tokens of some program is accepted, and kept: one that is accepted is the tokens of the tree that is read
+--   leaf         each number in the tree that is read is that of a token of the right kind
 --   first-bad    a list that is refused is refused at the first token that no program could have there
 use Prim.Native.Nat.{ℕ, _+_, _*_}
 use mathlib.Core.Path.{_≡_, refl, sym, ap, _∙_, subst}
@@ -10,10 +11,12 @@ use native.Mathlib.Omega.{arith}
 use lib.ListN.{length}
 use Rattle.syntax.specs.Token.{kEnd}
 use Rattle.syntax.specs.Tree.{Tree, prog, onto, width, numbered}
+use Rattle.syntax.specs.Abstract.{ast}
 use Rattle.grammar.specs.Parse.{Res, ok, bad, parsed}
-use Rattle.grammar.specs.Text.{Tokens, Keeps, First-bad}
+use Rattle.grammar.specs.Text.{Tokens, Keeps, First-bad, Leaves}
 use Rattle.grammar.proofs.Place as P
 use Rattle.grammar.proofs.Back.{read-back}
+use Rattle.grammar.proofs.Leaves.{leaves}
 
 pub parsed-back : (t : Tree prog) → parsed (onto t (kEnd ∷ [])) ≡ ok (numbered 0 t) (width t)
 parsed-back t = read-back (onto t (kEnd ∷ [])) t refl (8 * length (onto t (kEnd ∷ [])) + 8) (omega arith)
@@ -36,6 +39,9 @@ module _ (ks : List ℕ) (h : Tokens ks) where
     where
       go : P.Text ks (h .ends) (h .only) (h .filled) (ok t m) → Keeps ks t
       go (P.kept q) = let z : ok t m ≡ ok (numbered 0 t) (width t) = sym e ∙ accepts ks t q in record { tokens = q; numbers = cc }
+
+  pub leaf : {t : Tree prog} {m : ℕ} → parsed ks ≡ ok t m → Leaves ks (ast t)
+  leaf {t} e = let k = kept e in subst (λ (x : Tree prog). Leaves ks (ast x)) (sym (k .numbers)) (leaves ks t 0 (kEnd ∷ []) (k .tokens))
 
   pub first-bad : {m : ℕ} → parsed ks ≡ bad m → First-bad ks m
   first-bad {m} e = go (subst (λ (v : Res prog). P.Text ks (h .ends) (h .only) (h .filled) v) e text)

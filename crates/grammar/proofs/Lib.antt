@@ -5,7 +5,9 @@ pub mod Lengths
 pub mod Right
 pub mod Place
 pub mod Back
+pub mod Leaves
 pub mod Grammar
+pub mod Examples
 pub mod Steps
 pub mod Marks
 pub mod Whole

@@ -11,7 +11,7 @@ use syntax::put;
 use syntax::token;
 
 // What a reader answers: a tree's root, the number of the token after it and the count of nodes; or the number of the token that does not fit.
-pub enum Read {
+enum Read {
     Found {
         next: usize,
         root: usize,

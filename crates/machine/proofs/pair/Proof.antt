@@ -1,0 +1,42 @@
+use Prim.Native.Nat.{ℕ}
+use mathlib.Core.Path.{subst}
+use Rattle.simulation.specs.Words.{codeIn}
+use Rattle.machine.specs.Contracts.{Taking, topped}
+use Rattle.machine.proofs.Operands.{paired}
+use Rattle.machine.proofs.Stays.{topped-ready}
+use borrow.Author.Needs.{needs}
+use Rattle.machine.proofs.pair.Statement.{statement}
+use Rattle.machine.proofs.pair.Tie as tie
+use Rattle.machine.proofs.pair.Reads as reads
+use Rattle.machine.proofs.pair.Lts as lts
+use Rattle.machine.proofs.less.Reads as less-reads
+use Rattle.machine.proofs.take.Reads as take-reads
+
+-- src/lib.rt:212:9
+take-requires : tie.Need-take-requires
+take-requires c κs = search needs
+
+-- src/lib.rt:221:41
+less-requires : tie.Need-less-requires
+less-requires c κs = search needs
+
+-- src/lib.rt:221:9
+take-requires-2 : tie.Need-take-requires-2
+take-requires-2 c κs =
+    let s = c .before .before .before .before in
+    let t = c .before .take in
+    (s .pre .0, topped-ready (s .args .mem .now) (s .args .run) (t .result .top) (s .pre .1) (t .ensures .low) (t .ensures .high))
+
+-- src/lib.rt:208:1
+returns : tie.Need-returns
+returns c =
+    let s = c .before .before .before .before .before in
+    let a = s .args in
+    let t = c .before .before .take in
+    let u = c .take2 in
+    let l = c .before .less in
+    paired (a .code .now) (a .size) (a .mem .now) (a .run) (a .d) (u .result .value) (t .result .value) (u .result .top) (t .result .top) (t .ensures)
+    (subst (λ (j : ℕ). Taking (codeIn (a .code .now) (a .size)) (a .mem .now) (topped (a .run) (t .result .top)) j (u .result .value) (u .result .top)) (l .ensures) (u .ensures))
+
+pub pair-spec : {M : Type 1} → statement M
+pair-spec = tie.close (tie.spec take-requires less-requires take-requires-2 returns)

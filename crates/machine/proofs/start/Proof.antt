@@ -1,0 +1,26 @@
+use native.Mathlib.Omega.{arith}
+use Rattle.machine.proofs.Capacity.{started}
+use borrow.Author.Needs.{needs}
+use Rattle.machine.proofs.start.Statement.{statement}
+use Rattle.machine.proofs.start.Tie as tie
+use Rattle.machine.proofs.start.Reads as reads
+use Rattle.machine.proofs.start.Lts as lts
+use Rattle.machine.proofs.blank.Reads as blank-reads
+
+-- src/lib.rt:402:5
+blank-requires : tie.Need-blank-requires
+blank-requires c κs = search needs
+
+-- src/lib.rt:398:1
+same-length : tie.Need-same-length
+same-length c = search needs
+
+-- src/lib.rt:398:1
+returns : tie.Need-returns
+returns c =
+    let s = c .before .before .before .before .before in
+    let b = c .before .before .blank in
+    started (s .args .mem .now) (b .last .0) (s .pre) (omega (arith, b .kept .0)) (b .ensures)
+
+pub start-spec : {M : Type 1} → statement M
+start-spec = tie.close (tie.spec blank-requires same-length returns)

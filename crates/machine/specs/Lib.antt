@@ -1,0 +1,3 @@
+-- The machine of `simulation` in lent memory: what the words stand for, and what the functions promise.
+pub mod Memory
+pub mod Contracts

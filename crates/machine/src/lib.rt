@@ -1,0 +1,529 @@
+// The machine of `simulation`, over lent memory.
+ghost use mathlib.Core.Path.{_≡_};
+ghost use Prim.Native.Nat.{suc, _+_, _-_, _*_, _<_, _≤_};
+ghost use lib.ListN.{length, getD};
+ghost use lib.IntN.{pos};
+ghost use Rattle.semantics.specs.Program.{slot};
+ghost use Rattle.semantics.specs.Search.{known, work as workS};
+ghost use Rattle.simulation.specs.Machine.{Doing, extent as extentS, landing as landingS, advance as advanceS};
+ghost use Rattle.simulation.specs.Code.{operate as operateS, store as storeS, return as returnS, fail as failS, call as callS, act};
+ghost use Rattle.simulation.specs.Words.{codeIn};
+ghost use Rattle.ints.specs.Numbers.{operation};
+ghost use Rattle.machine.specs.Memory.{cellAt, nodeAs, machineAt};
+ghost use Rattle.machine.specs.Contracts.{cellOf, Sized, Room, Ready, Put, Noded, Worked, Popped, Taking, Paired, Blank, Gathering, Goes, acts, storing, Asked, moved as movedS, flagged as flaggedS, Done, Started};
+
+// "A value is known, or open with the expression it stands for": a number, or the place of a node.
+pub enum Value {
+    Known(i32),
+    Open(usize),
+}
+
+// What stands in a cell of the memory.
+pub struct Cell {
+    pub value: Value,
+}
+
+// "An address names a variable and is never itself a value": a variable's place in its frame.
+pub struct Address(pub usize);
+
+// The machine's state, beside the memory: the entry to be worked next, the flag, where the temporaries of the function that runs begin and end, how many functions wait for it, and how many nodes there are.
+pub struct Run {
+    pub pc: usize,
+    pub flag: bool,
+    pub base: usize,
+    pub top: usize,
+    pub depth: usize,
+    pub nodes: usize,
+}
+
+// What working one entry did: the machine goes on, without a step or after one; it has reached a free declaration, or a comparison, by its number, of two values; or the run has ended.
+pub enum Did {
+    Silent(Run),
+    Step(Run),
+    Free(Run),
+    Test(u32, Value, Value, Run),
+    Returned(Value),
+    Failed,
+    Cut,
+}
+
+// A value, and how many nodes there are with it.
+pub struct Made {
+    pub value: Value,
+    pub nodes: usize,
+}
+
+// An operand, and where the temporaries end without it.
+pub struct Took {
+    pub value: Value,
+    pub top: usize,
+}
+
+// Two operands, and where the temporaries end without them.
+pub struct Both {
+    pub left: Value,
+    pub right: Value,
+    pub top: usize,
+}
+
+// The cell at a word.
+pub fn load(mem: &[u32], at: usize) -> Cell
+    requires { ⌜ at + 1 < length (now mem) ⌝ }
+    ensures { λ r. ⌜ (cellOf (r .value) ≡ cellAt (now (mem .entry)) at) × Sized (r .value) ⌝ }
+{
+    if mem[at] == 0 {
+        Cell {
+            value: Value::Known(ints::signed(mem[at + 1])),
+        }
+    } else {
+        Cell {
+            value: Value::Open(mem[at + 1] as usize),
+        }
+    }
+}
+
+// Writes a cell.
+pub fn put(mem: &mut [u32], at: usize, c: Cell)
+    requires { ⌜ (at + 1 < length (now mem)) × Sized (c .value) ⌝ }
+    ensures { λ _. ⌜ Put (now (mem .entry)) (now (mem .exit)) at (cellOf (c .value)) ⌝ }
+{
+    let v = c.value;
+    match v {
+        Value::Known(z) => {
+            mem[at] = 0;
+            mem[at + 1] = ints::word(z);
+        }
+        Value::Open(j) => {
+            mem[at] = 1;
+            mem[at + 1] = j as u32;
+        }
+    }
+}
+
+// Adds a node, by its three words.
+fn node(mem: &mut [u32], nodes: usize, k: u32, x: u32, y: u32)
+    requires { ⌜ Room (now mem) (nodes + 1) ⌝ }
+    ensures { λ _. ⌜ Noded (now (mem .entry)) (now (mem .exit)) nodes (nodeAs k x y) ⌝ }
+{
+    let at = 1202 + 12 * nodes;
+    mem[at] = k;
+    mem[at + 1] = x;
+    mem[at + 2] = y;
+}
+
+// An operation, by its number: two numbers are worked, anything else is a new node.
+fn work(mem: &mut [u32], nodes: usize, op: u32, v: Value, w: Value) -> Made
+    requires { ⌜ Room (now mem) (nodes + 1) × (op < 3) × Sized v × Sized w ⌝ }
+    ensures { λ r. ⌜ Worked (now (mem .entry)) (now (mem .exit)) nodes (operation op) v w (r .value) (r .nodes) ⌝ }
+{
+    match v {
+        Value::Known(a) => match w {
+            Value::Known(b) => Made {
+                value: Value::Known(ints::operate(op, a, b)),
+                nodes: nodes,
+            },
+            Value::Open(j) => {
+                node(mem, nodes, op + 9, ints::word(a), j as u32);
+                Made {
+                    value: Value::Open(nodes),
+                    nodes: nodes + 1,
+                }
+            }
+        },
+        Value::Open(i) => match w {
+            Value::Known(b) => {
+                node(mem, nodes, op + 5, i as u32, ints::word(b));
+                Made {
+                    value: Value::Open(nodes),
+                    nodes: nodes + 1,
+                }
+            }
+            Value::Open(j) => {
+                node(mem, nodes, op + 13, i as u32, j as u32);
+                Made {
+                    value: Value::Open(nodes),
+                    nodes: nodes + 1,
+                }
+            }
+        },
+    }
+}
+
+// The newest temporary, taken.
+fn pop(mem: &[u32], run: Run) -> Took
+    requires { ⌜ Ready (now mem) run ⌝ }
+    ensures { λ r. ⌜ Popped (now (mem .entry)) run (r .value) (r .top) ⌝ }
+{
+    if run.top == run.base {
+        return Took {
+            value: Value::Known(0),
+            top: run.top,
+        };
+    }
+    let c = load(mem, 1200 + 12 * (run.top - 1));
+    let v = c.value;
+    Took {
+        value: v,
+        top: run.top - 1,
+    }
+}
+
+// The operand that ends just before entry j.
+fn take(code: &[u32], size: usize, mem: &[u32], run: Run, j: usize) -> Took
+    requires { ⌜ (2 * size ≤ length (now code)) × Ready (now mem) run ⌝ }
+    ensures { λ r. ⌜ Taking (codeIn (now (code .entry)) size) (now (mem .entry)) run j (r .value) (r .top) ⌝ }
+{
+    if j == 0 {
+        return pop(mem, run);
+    }
+    if size < j {
+        return pop(mem, run);
+    }
+    let k = code[2 * (j - 1)];
+    let w = code[2 * (j - 1) + 1];
+    if k == 1 {
+        return Took {
+            value: Value::Known(ints::signed(w)),
+            top: run.top,
+        };
+    }
+    if k == 2 {
+        let c = load(mem, 32 * run.depth + 2 * (w as usize % 16));
+        let v = c.value;
+        return Took {
+            value: v,
+            top: run.top,
+        };
+    }
+    pop(mem, run)
+}
+
+// a - b, or 0.
+fn less(a: usize, b: usize) -> usize
+    ensures { λ r. ⌜ r ≡ a - b ⌝ }
+{
+    if a < b { 0 } else { a - b }
+}
+
+// The two operands of the next entry, the right one of which has d entries.
+pub fn pair(code: &[u32], size: usize, mem: &[u32], run: Run, d: usize) -> Both
+    requires { ⌜ (2 * size ≤ length (now code)) × Ready (now mem) run ⌝ }
+    ensures { λ r. ⌜ Paired (codeIn (now (code .entry)) size) (now (mem .entry)) run d (r .left) (r .right) (r .top) ⌝ }
+{
+    let b = take(code, size, mem, run, run.pc);
+    let rest = Run {
+        pc: run.pc,
+        flag: run.flag,
+        base: run.base,
+        top: b.top,
+        depth: run.depth,
+        nodes: run.nodes,
+    };
+    let a = take(code, size, mem, rest, less(run.pc, d));
+    let x = a.value;
+    let y = b.value;
+    Both {
+        left: x,
+        right: y,
+        top: a.top,
+    }
+}
+
+// An operation.
+pub fn operate(code: &[u32], size: usize, mem: &mut [u32], run: Run, op: u32, d: usize) -> Run
+    requires { ⌜ (2 * size ≤ length (now code)) × Ready (now mem) run × (op < 3) × (run .pc < size) × Room (now mem) (run .top + 1) × Room (now mem) (run .nodes + 1) ⌝ }
+    ensures { λ r. ⌜ Goes Doing.step 1 (acts (codeIn (now (code .entry)) size) (now (mem .entry)) run (operateS (operation op) d)) (now (mem .entry)) (run .nodes) (now (mem .exit)) r ⌝ }
+{
+    let p = pair(code, size, mem, run, d);
+    let x = p.left;
+    let y = p.right;
+    let made = work(mem, run.nodes, op, x, y);
+    let v = made.value;
+    put(mem, 1200 + 12 * p.top, Cell { value: v });
+    Run {
+        pc: run.pc + 1,
+        flag: run.flag,
+        base: run.base,
+        top: p.top + 1,
+        depth: run.depth,
+        nodes: made.nodes,
+    }
+}
+
+// An assignment.
+pub fn store(code: &[u32], size: usize, mem: &mut [u32], run: Run, a: Address) -> Run
+    requires { ⌜ (2 * size ≤ length (now code)) × Ready (now mem) run × (a .0 < 16) × (run .pc < size) ⌝ }
+    ensures { λ r. ⌜ Goes Doing.silent 0 (acts (codeIn (now (code .entry)) size) (now (mem .entry)) run (storeS (slot (a .0)))) (now (mem .entry)) (run .nodes) (now (mem .exit)) r ⌝ }
+{
+    let t = take(code, size, mem, run, run.pc);
+    let v = t.value;
+    put(mem, 32 * run.depth + 2 * a.0, Cell { value: v });
+    Run {
+        pc: run.pc + 1,
+        flag: run.flag,
+        base: run.base,
+        top: t.top,
+        depth: run.depth,
+        nodes: run.nodes,
+    }
+}
+
+// A declaration: the variable is 0.
+pub fn clear(mem: &mut [u32], run: Run, a: Address) -> Run
+    requires { ⌜ Ready (now mem) run × (a .0 < 16) × (run .pc < 65536) ⌝ }
+    ensures { λ r. ⌜ Goes (λ x. x) 0 (storing (now (mem .entry)) run (a .0) (known (pos 0))) (now (mem .entry)) (run .nodes) (now (mem .exit)) r ⌝ }
+{
+    put(
+        mem,
+        32 * run.depth + 2 * a.0,
+        Cell {
+            value: Value::Known(0),
+        },
+    );
+    Run {
+        pc: run.pc + 1,
+        flag: run.flag,
+        base: run.base,
+        top: run.top,
+        depth: run.depth,
+        nodes: run.nodes,
+    }
+}
+
+// A free declaration: the variable is the unknown k.
+pub fn ask(mem: &mut [u32], run: Run, a: Address, k: u32) -> Run
+    requires { ⌜ Ready (now mem) run × (a .0 < 16) × (run .pc < 65536) × Room (now mem) (run .nodes + 1) ⌝ }
+    ensures { λ r. ⌜ Asked (storing (now (mem .entry)) run (a .0)) (now (mem .entry)) (run .nodes) (now (mem .exit)) k r ⌝ }
+{
+    node(mem, run.nodes, 0, k, 0);
+    put(
+        mem,
+        32 * run.depth + 2 * a.0,
+        Cell {
+            value: Value::Open(run.nodes),
+        },
+    );
+    Run {
+        pc: run.pc + 1,
+        flag: run.flag,
+        base: run.base,
+        top: run.top,
+        depth: run.depth,
+        nodes: run.nodes + 1,
+    }
+}
+
+// A return to a caller.
+pub fn leave(code: &[u32], size: usize, mem: &mut [u32], run: Run) -> Run
+    requires { ⌜ (2 * size ≤ length (now code)) × Ready (now mem) run × (1 ≤ run .depth) × Room (now mem) (run .base + 1) ⌝ }
+    ensures { λ r. ⌜ Goes Doing.silent 0 (acts (codeIn (now (code .entry)) size) (now (mem .entry)) run returnS) (now (mem .entry)) (run .nodes) (now (mem .exit)) r ⌝ }
+{
+    let t = take(code, size, mem, run, run.pc);
+    let v = t.value;
+    let d = run.depth - 1;
+    let pc = mem[1056 + 2 * d] as usize;
+    let base = mem[1057 + 2 * d] as usize;
+    put(mem, 1200 + 12 * run.base, Cell { value: v });
+    Run {
+        pc: pc,
+        flag: run.flag,
+        base: base,
+        top: run.base + 1,
+        depth: d,
+        nodes: run.nodes,
+    }
+}
+
+// Sixteen cells that are 0.
+fn blank(mem: &mut [u32], at: usize)
+    requires { ⌜ at + 32 ≤ length (now mem) ⌝ }
+    ensures { λ _. ⌜ Blank (now (mem .entry)) (now (mem .exit)) at 16 ⌝ }
+{
+    let mut i = 0;
+    while i < 16 {
+        put(
+            mem,
+            at + 2 * i,
+            Cell {
+                value: Value::Known(0),
+            },
+        );
+        i += 1;
+    }
+}
+
+// How many entries the argument has that ends at an entry.
+fn extent(code: &[u32], size: usize, e: usize) -> usize
+    requires { ⌜ 2 * size ≤ length (now code) ⌝ }
+    ensures { λ r. ⌜ r ≡ extentS (getD (codeIn (now (code .entry)) size .entries) e (act failS)) ⌝ }
+{
+    if e < size {
+        if code[2 * e] == 3 {
+            return code[2 * e + 1] as usize;
+        }
+    }
+    0
+}
+
+// Takes n arguments into the next frame, and says where the temporaries then end.
+fn gather(code: &[u32], size: usize, mem: &mut [u32], run: Run, n: usize) -> usize
+    requires { ⌜ (2 * size ≤ length (now code)) × Ready (now mem) run × (run .depth < 32) ⌝ }
+    ensures { λ r. ⌜ Gathering (codeIn (now (code .entry)) size) (now (mem .entry)) (now (mem .exit)) run n 0 0 r ⌝ }
+{
+    let at = 32 * (run.depth + 1);
+    blank(mem, at);
+    let mut k = n;
+    let mut j = run.pc;
+    let mut top = run.top;
+    while 0 < k {
+        k -= 1;
+        let e = less(j, 1);
+        let rest = Run {
+            pc: run.pc,
+            flag: run.flag,
+            base: run.base,
+            top: top,
+            depth: run.depth,
+            nodes: run.nodes,
+        };
+        let t = take(code, size, mem, rest, e);
+        let d = extent(code, size, e);
+        j = less(e, d);
+        top = t.top;
+        if k < 16 {
+            let v = t.value;
+            put(mem, at + 2 * k, Cell { value: v });
+        }
+    }
+    top
+}
+
+// A call of function g with n arguments.
+pub fn enter(code: &[u32], size: usize, mem: &mut [u32], run: Run, g: usize, n: usize) -> Run
+    requires { ⌜ (2 * size + 16 ≤ length (now code)) × Ready (now mem) run × (run .depth < 32) × (run .pc < size) × (size < 65536) × (g < 16) ⌝ }
+    ensures { λ r. ⌜ Goes Doing.step 1 (acts (codeIn (now (code .entry)) size) (now (mem .entry)) run (callS g n)) (now (mem .entry)) (run .nodes) (now (mem .exit)) r ⌝ }
+{
+    let top = gather(code, size, mem, run, n);
+    mem[1056 + 2 * run.depth] = (run.pc + 1) as u32;
+    mem[1057 + 2 * run.depth] = run.base as u32;
+    Run {
+        pc: code[2 * size + g] as usize,
+        flag: run.flag,
+        base: top,
+        top: top,
+        depth: run.depth + 1,
+        nodes: run.nodes,
+    }
+}
+
+// The same at another entry.
+fn moved(run: Run, pc: usize) -> Run
+    ensures { λ r. ⌜ r ≡ movedS run pc ⌝ }
+{
+    Run {
+        pc: pc,
+        flag: run.flag,
+        base: run.base,
+        top: run.top,
+        depth: run.depth,
+        nodes: run.nodes,
+    }
+}
+
+// The same at the next entry, with another flag.
+fn flagged(run: Run, flag: bool) -> Run
+    requires { ⌜ run .pc < 65536 ⌝ }
+    ensures { λ r. ⌜ r ≡ movedS (flaggedS run flag) (run .pc + 1) ⌝ }
+{
+    Run {
+        pc: run.pc + 1,
+        flag: flag,
+        base: run.base,
+        top: run.top,
+        depth: run.depth,
+        nodes: run.nodes,
+    }
+}
+
+// Where a jump over w entries goes that is made if the flag is as said.
+fn landing(run: Run, flag: bool, w: usize) -> usize
+    requires { ⌜ (run .pc < 65536) × (w < 4294967296) ⌝ }
+    ensures { λ r. ⌜ r ≡ landingS flag (run .flag) w (suc (run .pc)) ⌝ }
+{
+    if run.flag == flag {
+        run.pc + 1 + w
+    } else {
+        run.pc + 1
+    }
+}
+
+// Where a path starts.
+pub fn start(mem: &mut [u32]) -> Run
+    requires { ⌜ 1200 ≤ length (now mem) ⌝ }
+    ensures { λ r. ⌜ Started (now (mem .entry)) (now (mem .exit)) r ⌝ }
+{
+    blank(mem, 0);
+    Run {
+        pc: 0,
+        flag: false,
+        base: 0,
+        top: 0,
+        depth: 0,
+        nodes: 0,
+    }
+}
+
+// Works one entry; the next unknown is k.
+pub fn advance(code: &[u32], size: usize, mem: &mut [u32], run: Run, k: u32) -> Did
+    requires { ⌜ (2 * size + 16 ≤ length (now code)) × (size < 65536) × Ready (now mem) run × Room (now mem) (run .top + 1) × Room (now mem) (run .nodes + 1) ⌝ }
+    ensures { λ r. ⌜ Done (advanceS known workS (codeIn (now (code .entry)) size) (machineAt (now (mem .entry)) run)) (now (mem .entry)) (run .nodes) (now (mem .exit)) k r ⌝ }
+{
+    if size <= run.pc {
+        return Did::Failed;
+    }
+    let kind = code[2 * run.pc];
+    let w = code[2 * run.pc + 1] as usize;
+    match kind {
+        1..=3 => Did::Silent(moved(run, run.pc + 1)),
+        4..=6 => Did::Step(operate(code, size, mem, run, kind - 4, w)),
+        7..=12 => {
+            let p = pair(code, size, mem, run, w);
+            let x = p.left;
+            let y = p.right;
+            let rest = Run {
+                pc: run.pc + 1,
+                flag: run.flag,
+                base: run.base,
+                top: p.top,
+                depth: run.depth,
+                nodes: run.nodes,
+            };
+            Did::Test(kind - 7, x, y, rest)
+        }
+        13 => {
+            if run.depth == 32 {
+                return Did::Cut;
+            }
+            Did::Step(enter(code, size, mem, run, w % 16, w / 16))
+        }
+        14 => Did::Silent(flagged(run, false)),
+        15 => Did::Silent(flagged(run, true)),
+        16 => Did::Silent(moved(run, landing(run, false, w))),
+        17 => Did::Silent(moved(run, landing(run, true, w))),
+        18 => Did::Silent(moved(run, run.pc + 1 + w)),
+        19 => Did::Step(moved(run, less(run.pc, w))),
+        20 => Did::Step(moved(run, run.pc + 1)),
+        21 => Did::Step(clear(mem, run, Address(w % 16))),
+        22 => Did::Free(ask(mem, run, Address(w % 16), k)),
+        23 => Did::Silent(store(code, size, mem, run, Address(w % 16))),
+        24 => {
+            if run.depth == 0 {
+                let t = take(code, size, mem, run, run.pc);
+                let v = t.value;
+                return Did::Returned(v);
+            }
+            Did::Silent(leave(code, size, mem, run))
+        }
+        _ => Did::Failed,
+    }
+}

@@ -1,0 +1,52 @@
+use Rattle.texts.proofs.end_of.Statement.{statement}
+use Rattle.texts.proofs.end_of.Tie as tie
+use Rattle.texts.proofs.end_of.Reads as reads
+use Rattle.texts.proofs.end_of.Lts as lts
+
+abbrev Inv-loop : tie.InvT-loop
+Inv-loop input at n end₀ end = ?
+
+abbrev μ-loop : tie.MeasureT-loop
+μ-loop input at n end₀ end = ?
+
+-- src/main.rt:15:5
+loop-holds : tie.Need-loop-holds Inv-loop μ-loop
+loop-holds c = ?
+
+-- src/main.rt:16:12
+shared-slice-read-if1 : tie.Need-shared-slice-read-if1 Inv-loop μ-loop
+shared-slice-read-if1 c = ?
+
+-- src/main.rt:17:13
+returns : tie.Need-returns Inv-loop μ-loop
+returns c = ?
+
+-- src/main.rt:19:9
+add-end : tie.Need-add-end Inv-loop μ-loop
+add-end c = ?
+
+-- src/main.rt:15:5
+loop-less : tie.Need-loop-less Inv-loop μ-loop
+loop-less c = ?
+
+-- src/main.rt:15:5
+loop-again : tie.Need-loop-again Inv-loop μ-loop
+loop-again c = ?
+
+-- src/main.rt:10:1
+returns-2 : tie.Need-returns-2 Inv-loop μ-loop
+returns-2 c = ?
+
+pub end-of-spec : {M : Type 1} → statement M
+end-of-spec =
+    tie.close
+    (tie.spec
+    Inv-loop
+    μ-loop
+    loop-holds
+    shared-slice-read-if1
+    returns
+    add-end
+    loop-less
+    loop-again
+    returns-2)
