@@ -45,7 +45,7 @@ pub judges : (same : ℕ → ℕ → Bool) (isMain : ℕ → Bool) (end : ℕ) (
 unfolding rules firstBroken
 judges same isMain end es slots slots′ heads′ h misnamed r hs named ruled =
     let e : faultOf r ≡ orElse 5 (place (ruled .deep)) (orElse 6 (place misnamed) (orElse 7 (place (ruled .miscalled)) (orElse 8 (place (ruled .mainless)) (orElse 9 (place (ruled .unended)) (orElse 10 (place (ruled .many)) none))))) =
-          ap faultOf (ruled .is) ∙ fault-chosen (ruled .deep) misnamed (ruled .miscalled) (ruled .mainless) (ruled .unended) (ruled .many) h in
+    ap faultOf (ruled .is) ∙ fault-chosen (ruled .deep) misnamed (ruled .miscalled) (ruled .mainless) (ruled .unended) (ruled .many) h in
     let k : (n : ℕ) (x : B.Broken) (later : Judged) → Known same es slots slots′ heads′ later → Known same es slots slots′ heads′ (unless n x later) = known-unless same es slots slots′ heads′ in
     record {
       fault = rw (e, ruled .rule5, named .least, ruled .rule7, ruled .rule8, ruled .rule9, ruled .rule10, hs);

@@ -9,7 +9,6 @@ ghost use Rattle.events.specs.Walk.{Ready};
 ghost use Rattle.checker.specs.Judge.{unless, chosen, Ruled, Judges};
 ghost use Rattle.checker.specs.Check.{checkedTokens, checked};
 ghost use Rattle.checker.specs.Analysis.{concluded, Inspected, Lent, Settles, Slices, Analyses, verdictOf};
-
 use grammar::Parsed;
 use lexer::Lexed;
 use rules::broken::Broken;
@@ -31,7 +30,15 @@ fn before(number: u32, broken: Broken, later: Judged) -> Judged
 }
 
 // The first of the rules 5 to 10 that is broken, where h functions are there.
-fn choose(deep: Broken, misnamed: Broken, miscalled: Broken, mainless: Broken, unended: Broken, many: Broken, h: usize) -> Judged
+fn choose(
+    deep: Broken,
+    misnamed: Broken,
+    miscalled: Broken,
+    mainless: Broken,
+    unended: Broken,
+    many: Broken,
+    h: usize,
+) -> Judged
     ensures { λ r. ⌜ r ≡ chosen deep misnamed miscalled mainless unended many h ⌝ }
 {
     let last = before(10, many, Judged::Kept(h));
@@ -88,7 +95,12 @@ pub fn judge(
 // What an analysis answers: a refusal's number and place, or the count of tokens, the root of the tree, the count of events and the count of functions.
 pub enum Analysed {
     Refused(u32, usize),
-    Fine { tokens: usize, root: usize, events: usize, functions: usize },
+    Fine {
+        tokens: usize,
+        root: usize,
+        events: usize,
+        functions: usize,
+    },
 }
 
 // What check answers.
@@ -103,7 +115,12 @@ fn conclude(places: &[u32], judged: Judged, tokens: usize, root: usize, events: 
 {
     match judged {
         Judged::Broken(number, i) => Analysed::Refused(number, rules::spelling::word(places, i)),
-        Judged::Kept(functions) => Analysed::Fine { tokens, root, events, functions },
+        Judged::Kept(functions) => Analysed::Fine {
+            tokens,
+            root,
+            events,
+            functions,
+        },
     }
 }
 
@@ -146,7 +163,18 @@ fn settle(
     match grammar::parse(kinds, nodes) {
         Parsed::Bad(m) => Analysed::Refused(4, rules::spelling::word(places, m)),
         Parsed::Tree { root, count: _ } => {
-            inspect(text, places, values, nodes, root, kinds.len(), items, heads, scope, slots)
+            inspect(
+                text,
+                places,
+                values,
+                nodes,
+                root,
+                kinds.len(),
+                items,
+                heads,
+                scope,
+                slots,
+            )
         }
     }
 }
@@ -169,7 +197,17 @@ pub fn analyse(
     match lexer::lex(text, kinds, places, values) {
         Lexed::Refused(number, place) => Analysed::Refused(number, place),
         Lexed::Tokens(n) => {
-            settle(text, &kinds[..n], &places[..n], &values[..n], nodes, items, heads, scope, slots)
+            settle(
+                text,
+                &kinds[..n],
+                &places[..n],
+                &values[..n],
+                nodes,
+                items,
+                heads,
+                scope,
+                slots,
+            )
         }
     }
 }
@@ -199,6 +237,11 @@ pub fn check(text: &[u8]) -> Checked
     );
     match analysed {
         Analysed::Refused(number, place) => Checked::Refused(number, place),
-        Analysed::Fine { tokens: _, root: _, events: _, functions: _ } => Checked::Accepted,
+        Analysed::Fine {
+            tokens: _,
+            root: _,
+            events: _,
+            functions: _,
+        } => Checked::Accepted,
     }
 }

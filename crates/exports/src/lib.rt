@@ -2,7 +2,6 @@
 ghost use mathlib.Core.Path.{_≡_};
 ghost use Rattle.checker.specs.Check.{checked};
 ghost use Rattle.exports.specs.Answers.{checkWords};
-
 use checker::Checked;
 
 // Check: answer[0] is 0 if the text is accepted, else the number of the refusal; answer[1] is the place, 0 if accepted.

@@ -2,7 +2,6 @@
 use checker::Checked;
 use libc::STDIN_FILENO;
 use libc::STDOUT_FILENO;
-
 ghost use Prim.Native.Nat.{_≤_, _<_};
 ghost use lib.ListN.{length};
 

@@ -11,8 +11,6 @@ use Rattle.checker.proofs.analyse.Lts as lts
 use Rattle.checker.proofs.settle.Reads as settle-reads
 use Rattle.lexer.proofs.lex.Reads as lex-reads
 
-
-
 -- src/lib.rt:169:11
 lex-requires : tie.Need-lex-requires
 lex-requires c κs = search needs

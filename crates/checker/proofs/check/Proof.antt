@@ -7,8 +7,6 @@ use Rattle.checker.proofs.check.Reads as reads
 use Rattle.checker.proofs.check.Lts as lts
 use Rattle.checker.proofs.analyse.Reads as analyse-reads
 
-
-
 -- src/lib.rt:191:9
 slice-aggregate-analyse : tie.Need-slice-aggregate-analyse
 slice-aggregate-analyse c = search needs

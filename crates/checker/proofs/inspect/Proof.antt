@@ -12,8 +12,6 @@ use Rattle.checker.proofs.conclude.Reads as conclude-reads
 use Rattle.checker.proofs.judge.Reads as judge-reads
 use Rattle.events.proofs.walk.Reads as walk-reads
 
-
-
 -- src/lib.rt:123:9
 walk-requires : tie.Need-walk-requires
 walk-requires c κs = search needs

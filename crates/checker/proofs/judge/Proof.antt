@@ -14,8 +14,6 @@ use Rattle.checker.proofs.rule_all.Reads as rule-all-reads
 use Rattle.rules.proofs.heads.collect_heads.Reads as collect-heads-reads
 use Rattle.scopes.proofs.names.names.Reads as names-reads
 
-
-
 -- src/lib.rt:78:9
 collect-heads-requires : tie.Need-collect-heads-requires
 collect-heads-requires c κs = search needs

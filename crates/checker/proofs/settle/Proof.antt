@@ -12,8 +12,6 @@ use Rattle.checker.proofs.inspect.Reads as inspect-reads
 use Rattle.grammar.proofs.parse.Reads as parse-reads
 use Rattle.rules.proofs.spelling.word.Reads as word-reads
 
-
-
 -- src/lib.rt:146:11
 parse-requires : tie.Need-parse-requires
 parse-requires c κs = search needs

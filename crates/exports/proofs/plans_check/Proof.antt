@@ -11,8 +11,6 @@ use Rattle.exports.proofs.plans_check.Reads as reads
 use Rattle.exports.proofs.plans_check.Lts as lts
 use Rattle.checker.proofs.check.Reads as check-reads
 
-
-
 -- src/lib.rt:15:9
 returns : tie.Need-returns
 returns c = rw (lt-ltb _ _ (c .if1 .taken))

@@ -1,0 +1,261 @@
+-- What the compiler asks of an accepted text, from the rules that the text keeps: the tree is sound, it has at most 16 functions, and its code has room where the text's tokens have.
+use Prim.Native.Nat.{ℕ, suc, _+_, _*_, _≤_, _<_}
+use mathlib.Core.Path.{_≡_, refl, sym, subst}
+use mathlib.Core.Bool.{Bool, not}
+use mathlib.Core.List.{List, [], _∷_, _++_}
+use native.Mathlib.Nat.{zero-add}
+use native.Mathlib.Omega.{arith}
+use lib.ListN.{length}
+use Rattle.syntax.specs.Tree.{Tree, width, numbered}
+use Rattle.syntax.specs.Tree as T
+use Rattle.syntax.specs.Ast.{Sort, Ast, prog}
+use Rattle.syntax.specs.Ast as A
+use Rattle.syntax.specs.Abstract.{ast}
+use Rattle.syntax.specs.Table.{Holds}
+use Rattle.events.specs.Event.{Event, function, parameter, thing, opens, closes, declares, uses, calls, ends, stops, closing, first, eventsAt, events}
+use Rattle.events.proofs.Widths.{width-numbered}
+use Rattle.rules.specs.Rules.{heads, miscalls, mainless, tooMany}
+use Rattle.rules.specs.Names.{badNames, meant, meanings}
+use Rattle.rules.specs.Resolve.{part, mainOf, resolved}
+use Rattle.semantics.specs.Program.{Stmts}
+use Rattle.simulation.specs.Code.{codeOf}
+use Rattle.simulation.specs.Words.{codeIn, Fits}
+use Rattle.simulation.proofs.Placed.{Placed}
+use Rattle.simulation.proofs.Inside.{Closed}
+use Rattle.compiler.specs.Coded.{word, program}
+use Rattle.compiler.specs.Sound.{Sound}
+use Rattle.compiler.specs.Compile.{Tokens, Ready, Compiled}
+use Rattle.compiler.proofs.Agreeing.{sound-same, part-same}
+use Rattle.compiler.proofs.Parts.{funs, funs-length}
+use Rattle.compiler.proofs.Lengths.{Within, numbered-within, code-short}
+use Rattle.compiler.proofs.Meanings.{AllGood, good}
+use Rattle.compiler.proofs.Placing.{fits-program, placed-code, closed-code}
+use Rattle.compiler.proofs.Counts.{few-functions, main-lt}
+
+-- ---- good events
+
+module _ (same : ℕ → ℕ → Bool) (means : ℕ → ℕ) where
+  abbrev All : List Event → Type 0
+  All es = AllGood same means es
+
+  front : (xs ys : List Event) → All (xs ++ ys) → All xs
+  front [] ys h = tt
+  front (x ∷ xs) ys h = (h .0, front xs ys (h .1))
+
+  back : (xs ys : List Event) → All (xs ++ ys) → All ys
+  back [] ys h = h
+  back (x ∷ xs) ys h = back xs ys (h .1)
+
+  -- ---- a tree whose events are good is sound
+
+  module _ (m : ℕ) (value : ℕ → ℕ) (small : (i : ℕ) → i < m → value i < 2147483648) where
+    pub sound : {s : Sort} (d : ℕ) (t : Ast s) → Within m t → All (eventsAt d t) → Sound m value means t
+    unfolding eventsAt Within Sound
+    sound d (A.number i) w h = (w, small i w)
+    sound d (A.negative i) w h = (w, small (i + 1) w)
+    sound d (A.name i) w h = (w, h .0)
+    sound d (A.call i a) w h = (w .0, h .0 .0, h .0 .1, sound (suc d) a (w .1) (h .1))
+    sound d (A.bracket i e) w h = sound (suc d) e (w .1) (h .1)
+    sound d (A.times a b) w h = (sound d a (w .0) (front (eventsAt d a) (eventsAt d b) h), sound d b (w .1) (back (eventsAt d a) (eventsAt d b) h))
+    sound d (A.plus a b) w h = (sound d a (w .0) (front (eventsAt d a) (eventsAt d b) h), sound d b (w .1) (back (eventsAt d a) (eventsAt d b) h))
+    sound d (A.minus a b) w h = (sound d a (w .0) (front (eventsAt d a) (eventsAt d b) h), sound d b (w .1) (back (eventsAt d a) (eventsAt d b) h))
+    sound d A.noArgs w h = tt
+    sound d (A.moreArgs l e) w h = (sound d l (w .0) (front (eventsAt d l) (thing d (first e) ∷ eventsAt d e) h), sound d e (w .1) (back (eventsAt d l) (thing d (first e) ∷ eventsAt d e) h .1))
+    sound d (A.cmpMark o) w h = tt
+    sound d A.always w h = tt
+    sound d A.never w h = tt
+    sound d (A.compare a o b) w h = (sound d a (w .0) (front (eventsAt d a) (eventsAt d b) h), sound d b (w .1) (back (eventsAt d a) (eventsAt d b) h))
+    sound d (A.both a b) w h = (sound d a (w .0) (front (eventsAt d a) (eventsAt d b) h), sound d b (w .1) (back (eventsAt d a) (eventsAt d b) h))
+    sound d (A.either a b) w h = (sound d a (w .0) (front (eventsAt d a) (eventsAt d b) h), sound d b (w .1) (back (eventsAt d a) (eventsAt d b) h))
+    sound d (A.empty i) w h = tt
+    sound d (A.declare i) w h = (w, h .1 .0)
+    sound d (A.declareFree i) w h = (w, h .1 .0)
+    sound d (A.assign i e) w h = (w .0, h .1 .0, sound d e (w .1) (h .1 .1))
+    sound d (A.eval e) w h = sound d e w (h .1)
+    sound d (A.block i b) w h = sound (suc d) b (w .1) (h .1)
+    sound d (A.ifElse i c s t) w h =
+        let xs = thing d i ∷ eventsAt d c in
+        let ys = opens ∷ eventsAt (suc d) s in
+        let zs = closes ∷ opens ∷ eventsAt (suc d) t in
+        let u = front ((xs ++ ys) ++ zs) (closes ∷ []) h in
+        let v = front (xs ++ ys) zs u in
+        (sound d c (w .1 .0) (front xs ys v .1), sound (suc d) s (w .1 .1 .0) (back xs ys v .1), sound (suc d) t (w .1 .1 .1) (back (xs ++ ys) zs u .1 .1))
+    sound d (A.while i c s) w h =
+        let xs = thing d i ∷ eventsAt d c in
+        let ys = opens ∷ eventsAt (suc d) s in
+        let u = front (xs ++ ys) (closes ∷ []) h in
+        (sound d c (w .1 .0) (front xs ys u .1), sound (suc d) s (w .1 .1) (back xs ys u .1))
+    sound d (A.return i e) w h = sound d e (w .1) (h .1)
+    sound d (A.fail i) w h = tt
+    sound d A.noStmts w h = tt
+    sound d (A.moreStmts l s) w h = (sound d l (w .0) (front (eventsAt d l) (eventsAt d s) h), sound d s (w .1) (back (eventsAt d l) (eventsAt d s) h))
+    sound d (A.braced l j) w h = sound d l (w .0) (front (opens ∷ eventsAt d l) (closes ∷ []) h .1)
+    sound d A.noParams w h = tt
+    sound d (A.moreParams l i) w h = tt
+    sound d (A.function i p b) w h =
+        let xs = function i ∷ eventsAt d p in
+        let u = front (xs ++ eventsAt d b) (ends (closing b) (not (stops b)) ∷ []) h in
+        sound d b (w .1 .1) (back xs (eventsAt d b) u)
+    sound d A.noFuns w h = tt
+    sound d (A.moreFuns l f) w h = (sound d l (w .0) (front (eventsAt d l) (eventsAt d f) h), sound d f (w .1) (back (eventsAt d l) (eventsAt d f) h))
+
+-- ---- the functions of a tree are those of its events
+
+heads-append : (xs ys : List Event) → length (heads (xs ++ ys)) ≡ length (heads xs) + length (heads ys)
+unfolding heads
+heads-append [] ys = sym (zero-add (length (heads ys)))
+heads-append (function i ∷ xs) ys = omega (arith, heads-append xs ys)
+heads-append (parameter i ∷ xs) ys = heads-append xs ys
+heads-append (thing d i ∷ xs) ys = heads-append xs ys
+heads-append (opens ∷ xs) ys = heads-append xs ys
+heads-append (closes ∷ xs) ys = heads-append xs ys
+heads-append (declares i ∷ xs) ys = heads-append xs ys
+heads-append (uses i ∷ xs) ys = heads-append xs ys
+heads-append (calls i n ∷ xs) ys = heads-append xs ys
+heads-append (ends i b ∷ xs) ys = heads-append xs ys
+
+abbrev Many : (s : Sort) → Ast s → ℕ
+Many A.expr t = 0
+Many A.args t = 0
+Many A.mark t = 0
+Many A.cond t = 0
+Many A.stmt t = 0
+Many A.stmts t = 0
+Many A.body t = 0
+Many A.params t = 0
+Many A.fun t = 1
+Many A.prog t = funs t
+
+two : (d : ℕ) {s₁ s₂ : Sort} (x : Ast s₁) (y : Ast s₂) {a b : ℕ} → length (heads (eventsAt d x)) ≡ a → length (heads (eventsAt d y)) ≡ b → length (heads (eventsAt d x ++ eventsAt d y)) ≡ a + b
+two d x y e f = omega (arith, heads-append (eventsAt d x) (eventsAt d y))
+
+pub heads-many : {s : Sort} (d : ℕ) (t : Ast s) → length (heads (eventsAt d t)) ≡ Many s t
+unfolding eventsAt heads funs
+heads-many d (A.number i) = refl
+heads-many d (A.negative i) = refl
+heads-many d (A.name i) = refl
+heads-many d (A.call i a) = heads-many (suc d) a
+heads-many d (A.bracket i e) = heads-many (suc d) e
+heads-many d (A.times a b) = two d a b (heads-many d a) (heads-many d b)
+heads-many d (A.plus a b) = two d a b (heads-many d a) (heads-many d b)
+heads-many d (A.minus a b) = two d a b (heads-many d a) (heads-many d b)
+heads-many d A.noArgs = refl
+heads-many d (A.moreArgs l e) = omega (arith, heads-append (eventsAt d l) (thing d (first e) ∷ eventsAt d e), heads-many d l, heads-many d e)
+heads-many d (A.cmpMark o) = refl
+heads-many d A.always = refl
+heads-many d A.never = refl
+heads-many d (A.compare a o b) = two d a b (heads-many d a) (heads-many d b)
+heads-many d (A.both a b) = two d a b (heads-many d a) (heads-many d b)
+heads-many d (A.either a b) = two d a b (heads-many d a) (heads-many d b)
+heads-many d (A.empty i) = refl
+heads-many d (A.declare i) = refl
+heads-many d (A.declareFree i) = refl
+heads-many d (A.assign i e) = heads-many d e
+heads-many d (A.eval e) = heads-many d e
+heads-many d (A.block i b) = heads-many (suc d) b
+heads-many d (A.ifElse i c s t) =
+    let xs = thing d i ∷ eventsAt d c in
+    let ys = opens ∷ eventsAt (suc d) s in
+    let zs = closes ∷ opens ∷ eventsAt (suc d) t in
+    omega (arith, heads-append ((xs ++ ys) ++ zs) (closes ∷ []), heads-append (xs ++ ys) zs, heads-append xs ys, heads-many d c, heads-many (suc d) s, heads-many (suc d) t)
+heads-many d (A.while i c s) =
+    let xs = thing d i ∷ eventsAt d c in
+    let ys = opens ∷ eventsAt (suc d) s in
+    omega (arith, heads-append (xs ++ ys) (closes ∷ []), heads-append xs ys, heads-many d c, heads-many (suc d) s)
+heads-many d (A.return i e) = heads-many d e
+heads-many d (A.fail i) = refl
+heads-many d A.noStmts = refl
+heads-many d (A.moreStmts l s) = two d l s (heads-many d l) (heads-many d s)
+heads-many d (A.braced l j) = omega (arith, heads-append (opens ∷ eventsAt d l) (closes ∷ []), heads-many d l)
+heads-many d A.noParams = refl
+heads-many d (A.moreParams l i) = omega (arith, heads-append (eventsAt d l) (parameter i ∷ []), heads-many d l)
+heads-many d (A.function i p b) =
+    let xs = function i ∷ eventsAt d p in
+    omega (arith, heads-append (xs ++ eventsAt d b) (ends (closing b) (not (stops b)) ∷ []), heads-append xs (eventsAt d b), heads-many d p, heads-many d b)
+heads-many d A.noFuns = refl
+heads-many d (A.moreFuns l f) = omega (arith, heads-append (eventsAt d l) (eventsAt d f), heads-many d l, heads-many d f)
+
+pub functions-few : (value means : ℕ → ℕ) (p : Ast prog) → tooMany (events p) ≡ [] → length (part value means p []) ≤ 16
+unfolding events
+functions-few value means p ten = omega (arith, funs-length value means p, heads-many 1 p, few-functions (eventsAt 1 p) ten)
+
+-- ---- an accepted text
+
+-- t: the tree of the text; f: what its tokens meant before
+module _ (same : ℕ → ℕ → Bool) (t : Tree T.prog) (f : ℕ → ℕ) where
+  abbrev tree : Ast prog
+  tree = ast (numbered 0 t)
+
+  abbrev meaningOf : ℕ → ℕ
+  meaningOf i = meant f (meanings same (events tree)) i
+
+  -- it keeps the rules 6, 7 and 10
+  pub record Keeps : Type 0 where
+    pub six : badNames same (events tree) ≡ []
+    pub seven : miscalls same (events tree) ≡ []
+    pub ten : tooMany (events tree) ≡ []
+
+  within : (m : ℕ) → width t ≤ m → Within m tree
+  within m h = numbered-within 0 m t (omega arith)
+
+  pub accepted-sound : (m : ℕ) → width t ≤ m → (value : ℕ → ℕ) → ((i : ℕ) → i < m → value i < 2147483648) → Keeps → Sound m value meaningOf tree
+  unfolding events
+  accepted-sound m h value small k = sound same meaningOf m value small 1 tree (within m h) (good same f (eventsAt 1 tree) (k .six) (k .seven) (k .ten))
+
+  -- the tree stands at node i, the slices hold the values and the meanings of the text's m tokens, and there is room for two words a token
+  pub record Given (l : List ℕ) (i : ℕ) (values slots : List ℕ) (g : ℕ) (code : List ℕ) (m : ℕ) : Type 0 where
+    pub holds : Holds l i tree
+    pub room : 5 * i + 5 ≤ length l
+    pub few : i < 65536
+    pub tokens : Tokens m values slots
+    pub wide : width t ≤ m
+    pub small : (j : ℕ) → j < m → word values j < 2147483648
+    pub agree : (j : ℕ) → j < m → word slots j ≡ meaningOf j
+    pub main : g < 16
+    pub less : 3 + width t < 65536
+    pub space : 2 * (3 + width t) + 16 ≤ length code
+
+  module _ {l : List ℕ} {i : ℕ} {values slots : List ℕ} {g : ℕ} {code : List ℕ} {m : ℕ} (given : Given l i values slots g code m) (k : Keeps) where
+    stands : Sound m (word values) (word slots) tree
+    stands = sound-same m (word values) meaningOf (word values) (word slots) (record { at = λ j h. refl }) (record { at = λ j h. sym (given .agree j h) }) tree (accepted-sound m (given .wide) (word values) (given .small) k)
+
+    size : length (codeOf (program values slots g tree) .entries) ≤ 3 + width t
+    size = omega (arith, code-short (word values) (word slots) (numbered 0 t) g, width-numbered 0 t)
+
+    -- what the compiler asks
+    pub accepted-ready : Ready l i values slots g code
+    accepted-ready = record {
+      rooted = record { tree = tree; holds = given .holds; room = given .room; few = given .few };
+      tokens = m;
+      within = given .tokens;
+      sound = stands;
+      functions = functions-few (word values) (word slots) tree (k .ten);
+      main = given .main;
+      few = omega (arith, size, given .less);
+      space = omega (arith, size, given .space);
+    }
+
+    -- the program that is compiled is the resolved one
+    pub accepted-program : (value : ℕ → ℕ) → ((j : ℕ) → j < m → word values j ≡ value j) → part (word values) (word slots) tree [] ≡ part value meaningOf tree []
+    accepted-program value valued = part-same m (word values) (word slots) value meaningOf (record { at = valued }) (record { at = given .agree }) tree (within m (given .wide)) []
+
+    module _ {after : List ℕ} {r : ℕ} (c : Compiled l i values slots g code after r) where
+      fitting : Fits (program values slots g tree)
+      fitting = fits-program m values slots g tree stands (functions-few (word values) (word slots) tree (k .ten)) (given .main)
+
+      -- in the words that it leaves the resolved program is placed, and no entry leads out of them
+      pub accepted-placed : (value : ℕ → ℕ) → ((j : ℕ) → j < m → word values j ≡ value j) → (isMain : ℕ → Bool) → g ≡ mainOf isMain (heads (events tree)) → Placed (codeIn after r) (resolved value meaningOf isMain (heads (events tree)) tree)
+      accepted-placed value valued isMain e =
+          subst (λ (h : ℕ). Placed (codeIn after r) (record { bodies = part value meaningOf tree []; main = h })) e
+          (subst (λ (bs : List Stmts). Placed (codeIn after r) (record { bodies = bs; main = g })) (accepted-program value valued)
+          (placed-code tree (given .holds) fitting (omega (arith, size, given .space)) c))
+
+      pub accepted-closed : Closed (codeIn after r)
+      accepted-closed = closed-code tree (given .holds) fitting (omega (arith, size, given .space)) c
+
+      pub accepted-few : r < 65536
+      accepted-few = omega (arith, c .total tree (given .holds), size, given .less)
+
+  -- where rule 8 is kept too, main's number is below 16
+  pub accepted-main : (isMain : ℕ → Bool) (end : ℕ) → mainless isMain end (events tree) ≡ [] → Keeps → mainOf isMain (heads (events tree)) < 16
+  accepted-main isMain end eight k = omega (arith, main-lt isMain end (heads (events tree)) eight, few-functions (events tree) (k .ten))

@@ -1,0 +1,81 @@
+-- What the functions of the pass ask and answer, each of a node of the table.
+use Prim.Native.Nat.{ℕ, _+_, _-_, _*_, _≤_, _<_}
+use mathlib.Core.Path.{_≡_}
+use mathlib.Core.Bool.{cond}
+use mathlib.Core.List.{List, [], _∷_}
+use lib.Dec.{eqb}
+use lib.ListN.{length, set}
+use lib.Seq.{sets}
+use Rattle.syntax.specs.Ast.{Sort, Ast, args, prog}
+use Rattle.syntax.specs.Table.{Holds}
+use Rattle.events.specs.Event.{count}
+use Rattle.events.specs.Walk.{Rooted}
+use Rattle.events.specs.Visit.{level}
+use Rattle.rules.specs.Resolve.{part}
+use Rattle.simulation.specs.Code.{Entry, entriesOf, startsOf}
+use Rattle.simulation.specs.Words.{wordsOf}
+use Rattle.compiler.specs.Coded.{word, coded}
+use Rattle.compiler.specs.Sound.{Sound}
+use Rattle.compiler.specs.Compile.{Tokens}
+
+-- there is room in code for these entries after n
+pub record Due (code : List ℕ) (n : ℕ) (es : List Entry) : Type 0 where
+  pub few : n + length es < 65536
+  pub space : 2 * (n + length es) ≤ length code
+
+-- the tree at node i has the level v, and there is room for its code
+pub record Room (v : ℕ) (l : List ℕ) (i : ℕ) (values slots code : List ℕ) (n : ℕ) : Type 0 where
+  pub sort : Sort
+  pub rooted : Rooted sort l i
+  pub part : level sort ≡ v
+  pub tokens : ℕ
+  pub within : Tokens tokens values slots
+  pub sound : Sound tokens (word values) (word slots) (rooted .tree)
+  pub due : Due code n (coded (word values) (word slots) (rooted .tree))
+
+-- a program stands at node i; there is room for its code, and for where its functions begin
+pub record RoomP (l : List ℕ) (i : ℕ) (values slots code : List ℕ) (n : ℕ) (starts : List ℕ) : Type 0 where
+  pub rooted : Rooted prog l i
+  pub tokens : ℕ
+  pub within : Tokens tokens values slots
+  pub sound : Sound tokens (word values) (word slots) (rooted .tree)
+  pub due : Due code n (coded (word values) (word slots) (rooted .tree))
+  pub few : length (part (word values) (word slots) (rooted .tree) []) ≤ length starts
+
+-- ---- what is answered
+
+-- the kind of an entry that takes two operands, or ends an argument, by the kind of the node: `*`, `+`, `-`, an argument, a comparison by its number
+unfoldable pub operationOf : ℕ → ℕ → ℕ
+operationOf k c = cond (eqb k 6) 6 (cond (eqb k 7) 4 (cond (eqb k 8) 5 (cond (eqb k 10) 3 (7 + c))))
+
+-- r is the count of the arguments at node i
+pub record Arity (l : List ℕ) (i r : ℕ) : Type 0 where
+  pub is : (a : Ast args) → Holds l i a → r ≡ count a
+
+-- r is the count of the functions at node i
+pub record Functions (l : List ℕ) (i r : ℕ) : Type 0 where
+  pub small : r ≤ i
+  pub is : (value means : ℕ → ℕ) (p : Ast prog) → Holds l i p → r ≡ length (part value means p [])
+
+-- the entries es follow n entries, which makes r; the other words are as they were
+pub record Grown (before after : List ℕ) (n r : ℕ) (es : List Entry) : Type 0 where
+  pub total : r ≡ n + length es
+  pub words : after ≡ sets before (2 * n) (wordsOf es)
+
+-- one entry, by its kind and its number
+pub record Emitted (before after : List ℕ) (n r k w : ℕ) : Type 0 where
+  pub total : r ≡ n + 1
+  pub words : after ≡ sets before (2 * n) (k ∷ w ∷ [])
+
+-- entry i leads to entry `to`
+pub record Aimed (before after : List ℕ) (i to : ℕ) : Type 0 where
+  pub words : after ≡ set before (2 * i + 1) (to - (i + 1))
+
+-- the code of the tree at node i
+pub record Written (l : List ℕ) (i : ℕ) (values slots before after : List ℕ) (n r : ℕ) : Type 0 where
+  pub is : {s : Sort} (t : Ast s) → Holds l i t → Grown before after n r (coded (word values) (word slots) t)
+
+-- the code of the program at node i, and where its functions begin
+pub record Built (l : List ℕ) (i : ℕ) (values slots before after : List ℕ) (n r : ℕ) (table table′ : List ℕ) : Type 0 where
+  pub code : (p : Ast prog) → Holds l i p → Grown before after n r (entriesOf (part (word values) (word slots) p []))
+  pub starts : (p : Ast prog) → Holds l i p → table′ ≡ sets table 0 (startsOf n (part (word values) (word slots) p []))

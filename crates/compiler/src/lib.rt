@@ -1,0 +1,297 @@
+// The code of a resolved program: one pass over the node table.
+ghost use mathlib.Core.Path.{_≡_};
+ghost use Prim.Native.Nat.{_+_, _*_, _≤_, _<_};
+ghost use lib.IntN.{pos, _-ℤ_};
+ghost use lib.ListN.{length, getD};
+ghost use lib.Seq.{sets};
+ghost use Rattle.semantics.specs.Int.{low32};
+ghost use Rattle.syntax.specs.Ast.{args, prog};
+ghost use Rattle.events.specs.Walk.{Rooted};
+ghost use Rattle.compiler.specs.Compile.{Ready, Compiled};
+ghost use Rattle.compiler.specs.Pass.{operationOf, Arity, Functions, Emitted, Aimed, Room, Written, RoomP, Built};
+use syntax::fetch;
+use syntax::kind;
+
+pub mod entry;
+
+fn wide(x: u32) -> usize
+    ensures { λ r. ⌜ (r ≡ x) × (r < 4294967296) ⌝ }
+{
+    x as usize
+}
+
+// Word i.
+fn word(words: &[u32], i: usize) -> usize
+    requires { ⌜ i < length (now words) ⌝ }
+    ensures { λ r. ⌜ (r ≡ getD (now (words .entry)) i 0) × (r < 4294967296) ⌝ }
+{
+    wide(words[i])
+}
+
+// The low 32 bits of a number, negated.
+fn negative(x: u32) -> usize
+    ensures { λ r. ⌜ (r ≡ low32 (pos 0 -ℤ pos x)) × (r < 4294967296) ⌝ }
+{
+    wide(std::num::wrapping_sub_u32(0, x))
+}
+
+// The same of the number at word i.
+fn negated(words: &[u32], i: usize) -> usize
+    requires { ⌜ i < length (now words) ⌝ }
+    ensures { λ r. ⌜ (r ≡ low32 (pos 0 -ℤ pos (getD (now (words .entry)) i 0))) × (r < 4294967296) ⌝ }
+{
+    negative(words[i])
+}
+
+// Writes entry n and answers n + 1.
+fn emit(code: &mut [u32], n: usize, k: u32, w: usize) -> usize
+    requires { ⌜ (2 * n + 2 ≤ length (now code)) × (n < 65536) × (w < 4294967296) ⌝ }
+    ensures { λ r. ⌜ Emitted (now (code .entry)) (now (code .exit)) n r k w ⌝ }
+{
+    code[2 * n] = k;
+    code[2 * n + 1] = w as u32;
+    n + 1
+}
+
+// Entry i leads to entry `to`.
+fn aim(code: &mut [u32], i: usize, to: usize)
+    requires { ⌜ (i < to) × (to < 65536) × (2 * i + 2 ≤ length (now code)) ⌝ }
+    ensures { λ r. ⌜ Aimed (now (code .entry)) (now (code .exit)) i to ⌝ }
+{
+    code[2 * i + 1] = (to - (i + 1)) as u32;
+}
+
+// The count of the arguments at node i.
+fn arity(nodes: &[u32], i: usize) -> usize
+    requires { ⌜ Rooted args (now nodes) i ⌝ }
+    ensures { λ r. ⌜ Arity (now (nodes .entry)) i r ⌝ }
+{
+    let mut j = i;
+    let mut count = 0;
+    loop {
+        let node = fetch(nodes, j);
+        if node.kind != kind::MORE_ARGS {
+            return count;
+        }
+        j = node.first;
+        count += 1;
+    }
+}
+
+// The count of the functions at node i.
+fn functions(nodes: &[u32], i: usize) -> usize
+    requires { ⌜ Rooted prog (now nodes) i ⌝ }
+    ensures { λ r. ⌜ Functions (now (nodes .entry)) i r ⌝ }
+{
+    let mut j = i;
+    let mut count = 0;
+    loop {
+        let node = fetch(nodes, j);
+        if node.kind != kind::MORE_FUNS {
+            return count;
+        }
+        j = node.first;
+        count += 1;
+    }
+}
+
+// The kind of an entry that takes two operands, or ends an argument.
+fn operation(k: u32, c: usize) -> u32
+    requires { ⌜ c < 6 ⌝ }
+    ensures { λ r. ⌜ r ≡ operationOf k c ⌝ }
+{
+    match k {
+        kind::TIMES => entry::MUL,
+        kind::PLUS => entry::ADD,
+        kind::MINUS => entry::SUB,
+        kind::MORE_ARGS => entry::ARGUMENT,
+        _ => entry::COMPARE + c as u32,
+    }
+}
+
+// The code of an expression, a condition or arguments.
+fn expression(
+    nodes: &[u32],
+    i: usize,
+    values: &[u32],
+    slots: &[u32],
+    code: &mut [u32],
+    n: usize,
+) -> usize
+    requires { ⌜ Room 0 (now nodes) i (now values) (now slots) (now code) n ⌝ }
+    ensures { λ r. ⌜ Written (now (nodes .entry)) i (now (values .entry)) (now (slots .entry)) (now (code .entry)) (now (code .exit)) n r ⌝ }
+{
+    let node = fetch(nodes, i);
+    let k = node.kind;
+    match k {
+        kind::NUMBER => {
+            let w = word(values, node.token);
+            emit(code, n, entry::NUMBER, w)
+        }
+        kind::NEGATIVE => {
+            let w = negated(values, node.token + 1);
+            emit(code, n, entry::NUMBER, w)
+        }
+        kind::NAME => {
+            let w = word(slots, node.token);
+            emit(code, n, entry::NAME, w)
+        }
+        kind::CALL => {
+            let m = expression(nodes, node.first, values, slots, code, n);
+            let count = arity(nodes, node.first);
+            let g = word(slots, node.token);
+            emit(code, m, entry::CALL, g + 16 * count)
+        }
+        kind::BRACKET => expression(nodes, node.first, values, slots, code, n),
+        kind::NO_ARGS => n,
+        kind::ALWAYS => emit(code, n, entry::ALWAYS, 0),
+        kind::NEVER => emit(code, n, entry::NEVER, 0),
+        kind::BOTH | kind::EITHER => {
+            let m = expression(nodes, node.first, values, slots, code, n);
+            let q = emit(code, m, k + 2, 0);
+            let r = expression(nodes, node.second, values, slots, code, q);
+            aim(code, m, r);
+            r
+        }
+        _ => {
+            let m = expression(nodes, node.first, values, slots, code, n);
+            let r = expression(nodes, node.second, values, slots, code, m);
+            let o = operation(k, node.third);
+            emit(code, r, o, r - m)
+        }
+    }
+}
+
+// The code of a statement, of statements, or of these in braces.
+fn statement(
+    nodes: &[u32],
+    i: usize,
+    values: &[u32],
+    slots: &[u32],
+    code: &mut [u32],
+    n: usize,
+) -> usize
+    requires { ⌜ Room 1 (now nodes) i (now values) (now slots) (now code) n ⌝ }
+    ensures { λ r. ⌜ Written (now (nodes .entry)) i (now (values .entry)) (now (slots .entry)) (now (code .entry)) (now (code .exit)) n r ⌝ }
+{
+    let node = fetch(nodes, i);
+    let k = node.kind;
+    match k {
+        kind::EMPTY => emit(code, n, entry::BEGIN, 0),
+        kind::DECLARE => {
+            let w = word(slots, node.token + 1);
+            emit(code, n, entry::CLEAR, w)
+        }
+        kind::DECLARE_FREE => {
+            let w = word(slots, node.token + 1);
+            emit(code, n, entry::ASK, w)
+        }
+        kind::ASSIGN => {
+            let q = emit(code, n, entry::BEGIN, 0);
+            let m = expression(nodes, node.first, values, slots, code, q);
+            let w = word(slots, node.token);
+            emit(code, m, entry::STORE, w)
+        }
+        kind::EVAL => {
+            let q = emit(code, n, entry::BEGIN, 0);
+            expression(nodes, node.first, values, slots, code, q)
+        }
+        kind::BLOCK => {
+            let q = emit(code, n, entry::BEGIN, 0);
+            statement(nodes, node.first, values, slots, code, q)
+        }
+        kind::IF_ELSE => {
+            let q = emit(code, n, entry::BEGIN, 0);
+            let m = expression(nodes, node.first, values, slots, code, q);
+            let a = emit(code, m, entry::JUMP, 0);
+            let b = statement(nodes, node.second, values, slots, code, a);
+            let e = emit(code, b, entry::SKIP, 0);
+            let r = statement(nodes, node.third, values, slots, code, e);
+            aim(code, b, r);
+            aim(code, m, e);
+            r
+        }
+        kind::WHILE => {
+            let q = emit(code, n, entry::BEGIN, 0);
+            let m = expression(nodes, node.first, values, slots, code, q);
+            let a = emit(code, m, entry::JUMP, 0);
+            let b = statement(nodes, node.second, values, slots, code, a);
+            let r = emit(code, b, entry::AGAIN, b - q);
+            aim(code, m, r);
+            r
+        }
+        kind::RETURN => {
+            let q = emit(code, n, entry::BEGIN, 0);
+            let m = expression(nodes, node.first, values, slots, code, q);
+            emit(code, m, entry::RETURN, 0)
+        }
+        kind::FAIL => {
+            let q = emit(code, n, entry::BEGIN, 0);
+            emit(code, q, entry::FAIL, 0)
+        }
+        kind::MORE_STMTS => {
+            let m = statement(nodes, node.first, values, slots, code, n);
+            statement(nodes, node.second, values, slots, code, m)
+        }
+        kind::BRACED => statement(nodes, node.first, values, slots, code, n),
+        _ => n,
+    }
+}
+
+// The code of a program, and where each of its functions begins.
+fn program(
+    nodes: &[u32],
+    i: usize,
+    values: &[u32],
+    slots: &[u32],
+    code: &mut [u32],
+    n: usize,
+    starts: &mut [u32],
+) -> usize
+    requires { ⌜ RoomP (now nodes) i (now values) (now slots) (now code) n (now starts) ⌝ }
+    ensures { λ r. ⌜ Built (now (nodes .entry)) i (now (values .entry)) (now (slots .entry)) (now (code .entry)) (now (code .exit)) n r (now (starts .entry)) (now (starts .exit)) ⌝ }
+{
+    let node = fetch(nodes, i);
+    if node.kind != kind::MORE_FUNS {
+        return n;
+    }
+    let m = program(nodes, node.first, values, slots, code, n, starts);
+    let g = functions(nodes, node.first);
+    starts[g] = m as u32;
+    let function = fetch(nodes, node.second);
+    let q = statement(nodes, function.second, values, slots, code, m);
+    emit(code, q, entry::FAIL, 0)
+}
+
+// Copies words to those from word i on.
+fn copy(words: &[u32], code: &mut [u32], i: usize)
+    requires { ⌜ (i + length (now words) ≤ length (now code)) × (i < 1000000) ⌝ }
+    ensures { λ r. ⌜ now (code .exit) ≡ sets (now (code .entry)) i (now (words .entry)) ⌝ }
+{
+    let mut j = 0;
+    while j < words.len() {
+        code[i + j] = words[j];
+        j += 1;
+    }
+}
+
+// Writes the code of the program at node `root`, whose main is the function of that number, and answers how many entries it has. After them stands where each function begins, in 16 words.
+pub fn compile(
+    nodes: &[u32],
+    root: usize,
+    values: &[u32],
+    slots: &[u32],
+    main: usize,
+    code: &mut [u32],
+) -> usize
+    requires { ⌜ Ready (now nodes) root (now values) (now slots) main (now code) ⌝ }
+    ensures { λ r. ⌜ Compiled (now (nodes .entry)) root (now (values .entry)) (now (slots .entry)) main (now (code .entry)) (now (code .exit)) r ⌝ }
+{
+    let a = emit(code, 0, entry::CALL, main);
+    let b = emit(code, a, entry::RETURN, 0);
+    let n = emit(code, b, entry::FAIL, 0);
+    let mut starts = [2; 16];
+    let r = program(nodes, root, values, slots, code, n, &mut starts);
+    copy(&starts, code, 2 * r);
+    r
+}

@@ -1,0 +1,10 @@
+-- Theorems of the settings in memory.
+pub mod Entries
+pub mod Pass
+pub mod Turns
+pub mod Sheet
+pub mod Counting
+pub mod Slice
+pub mod Renumbered
+pub mod Going
+pub mod Loops

@@ -1,0 +1,78 @@
+-- What a setting tried reads of the memory: tests, results and the setting itself.
+use mathlib.Core.Path.{_≡_, refl, sym, ap, ap₂, _∙_}
+use mathlib.Core.List.{List, _∷_, map}
+use Prim.Native.Nat.{ℕ, zero, suc, _+_, _*_, _≤_, _<_}
+use native.Mathlib.Omega.{arith}
+use lib.ListN.{length, getD}
+use lib.IntN.{ℤ}
+use Rattle.semantics.specs.Search as search
+use Rattle.semantics.specs.Search.{under}
+use Rattle.simulation.specs.Nodes.{Cell, Node, Noted, meaning, testOf, numberIn, meetsIn}
+use Rattle.simulation.proofs.Nodes.{number-ok, meets-ok}
+use Rattle.machine.specs.Memory.{nodesIn, settingIn, numbersIn, testsIn, windowsIn}
+use Rattle.machine.specs.Contracts.{Other}
+use Rattle.settings.specs.Table.{windowAt, testAt, Numbered, Renumbered, Steady, Holding}
+use Rattle.settings.specs.Tries.{tests}
+use Rattle.settings.proofs.Pass.{setting-same, nodes-same}
+use Rattle.settings.proofs.Turns.{tab-same, windows-tab}
+
+-- the words of a test stay
+abbrev Tests : List ℕ → List ℕ → Type 0
+Tests m m′ = (i j : ℕ) → 1208 + 12 * j ≤ i → i < 1211 + 12 * j → getD m′ i 0 ≡ getD m i 0
+
+test-same : (m m′ : List ℕ) → Tests m m′ → (j : ℕ) → testAt m′ j ≡ testAt m j
+test-same m m′ h j = rw (h (1208 + 12 * j) j (omega arith) (omega arith), h (1209 + 12 * j) j (omega arith) (omega arith), h (1210 + 12 * j) j (omega arith) (omega arith))
+
+tests-same : (m m′ : List ℕ) → Tests m m′ → (t : ℕ) → testsIn m′ t ≡ testsIn m t
+unfolding testsIn
+tests-same m m′ h zero = refl
+tests-same m m′ h (suc t) = ap₂ (λ (x : Noted) (l : List Noted). x ∷ l) (test-same m m′ h t) (tests-same m m′ h t)
+
+pub renumbered : (m m′ : List ℕ) {n k : ℕ} → Numbered m m′ n k → Renumbered m m′
+renumbered m m′ p = record { other = λ i h. p .other i (λ j l e. h j e) }
+
+pub renumbered-none : (m : List ℕ) → Renumbered m m
+renumbered-none m = record { other = λ i h. refl }
+
+pub setting-stays : (m m′ : List ℕ) (k : ℕ) → k ≤ 8 → Renumbered m m′ → settingIn m′ k ≡ settingIn m k
+setting-stays m m′ k h p = setting-same m m′ k (λ i l. p .other (1136 + i) (λ j e. omega arith))
+
+-- ---- after a pass
+
+module _ (m m′ : List ℕ) (n k : ℕ) (p : Numbered m m′ n k) where
+  pub meets-is : (t : ℕ) → meetsIn (numbersIn m′ n) (testsIn m′ t) ≡ search.meets (tests m n t) (settingIn m k)
+  meets-is t = ap₂ meetsIn (p .is) (tests-same m m′ (λ i j l u. p .other i (λ q g e. omega arith)) t) ∙ meets-ok (settingIn m k) (nodesIn m n) (testsIn m t)
+
+  pub result-is : (v : Cell) → numberIn (numbersIn m′ n) v ≡ under (settingIn m k) (meaning (nodesIn m n) v)
+  result-is v = ap (λ (zs : List ℤ). numberIn zs v) (p .is) ∙ number-ok (settingIn m k) (nodesIn m n) v
+
+-- ---- while settings are tried
+
+module _ (m m′ : List ℕ) (s : Steady m m′) where
+  pub nodes-steady : (n : ℕ) → nodesIn m′ n ≡ nodesIn m n
+  nodes-steady n = nodes-same m m′ (λ i j l u. s .other i (λ a b. omega arith) (λ q e. omega arith)) n
+
+  pub tests-steady : (n t : ℕ) → tests m′ n t ≡ tests m n t
+  tests-steady n t = ap₂ (λ (ns : List Node) (ts : List Noted). map (testOf ns) ts) (nodes-steady n) (tests-same m m′ (λ i j l u. s .other i (λ a b. omega arith) (λ q e. omega arith)) t)
+
+  pub windows-steady : (k : ℕ) → k ≤ 8 → windowsIn m′ k ≡ windowsIn m k
+  windows-steady k h =
+      windows-tab m′ k h
+      ∙ tab-same (windowAt m′) (windowAt m) 0 k (λ j l u. rw (s .other (1120 + 2 * j) (λ a b. omega arith) (λ q e. omega arith), s .other (1121 + 2 * j) (λ a b. omega arith) (λ q e. omega arith)))
+      ∙ sym (windows-tab m k h)
+
+pub steady-none : (m : List ℕ) → Steady m m
+steady-none m = record { other = λ i h g. refl }
+
+pub steady-numbers : (m m₁ m₂ : List ℕ) → Steady m m₁ → Renumbered m₁ m₂ → Steady m m₂
+steady-numbers m m₁ m₂ s r = record { other = λ i h g. r .other i g ∙ s .other i h g }
+
+pub steady-setting : (m m₁ m₂ : List ℕ) (k : ℕ) → k ≤ 8 → Steady m m₁ → Other m₁ m₂ 1136 (1136 + k) → Steady m m₂
+steady-setting m m₁ m₂ k l s o = record { other = λ i h g. o .outside i (λ a b. h a (omega arith)) ∙ s .other i h g }
+
+pub holding-same : (m m′ : List ℕ) (n t k : ℕ) → length m′ ≡ length m → Holding m n t k → Holding m′ n t k
+holding-same m m′ n t k e h = record {
+  few = h .few;
+  nodes = record { words = omega (arith, h .nodes .words); small = h .nodes .small };
+  tests = record { words = omega (arith, h .tests .words); small = h .tests .small };
+}
