@@ -13,7 +13,6 @@ use Rattle.syntax.specs.Ast as A
 use Rattle.syntax.specs.Abstract.{ast}
 use Rattle.syntax.specs.Table.{Holds}
 use Rattle.events.specs.Event.{Event, function, parameter, thing, opens, closes, declares, uses, calls, ends, stops, closing, first, eventsAt, events}
-use Rattle.events.proofs.Widths.{width-numbered}
 use Rattle.rules.specs.Rules.{heads, miscalls, mainless, tooMany}
 use Rattle.rules.specs.Names.{badNames, meant, meanings}
 use Rattle.rules.specs.Resolve.{part, mainOf, resolved}
@@ -181,12 +180,12 @@ functions-few value means p ten = omega (arith, funs-length value means p, heads
 
 -- ---- an accepted text
 
--- t: the tree of the text; f: what its tokens meant before
+-- t: the tree of the text, numbered by its tokens; f: what its tokens meant before
 module _ (same : ℕ → ℕ → Bool) (t : Tree T.prog) (f : ℕ → ℕ) where
-  abbrev tree : Ast prog
-  tree = ast (numbered 0 t)
+  abbrev pub tree : Ast prog
+  tree = ast t
 
-  abbrev meaningOf : ℕ → ℕ
+  abbrev pub meaningOf : ℕ → ℕ
   meaningOf i = meant f (meanings same (events tree)) i
 
   -- it keeps the rules 6, 7 and 10
@@ -195,12 +194,12 @@ module _ (same : ℕ → ℕ → Bool) (t : Tree T.prog) (f : ℕ → ℕ) where
     pub seven : miscalls same (events tree) ≡ []
     pub ten : tooMany (events tree) ≡ []
 
-  within : (m : ℕ) → width t ≤ m → Within m tree
-  within m h = numbered-within 0 m t (omega arith)
+  pub accepted-within : (m : ℕ) → t ≡ numbered 0 t → width t ≤ m → Within m tree
+  accepted-within m e h = subst (λ (u : Tree T.prog). Within m (ast u)) (sym e) (numbered-within 0 m t (omega arith))
 
-  pub accepted-sound : (m : ℕ) → width t ≤ m → (value : ℕ → ℕ) → ((i : ℕ) → i < m → value i < 2147483648) → Keeps → Sound m value meaningOf tree
+  pub accepted-sound : (m : ℕ) → Within m tree → (value : ℕ → ℕ) → ((i : ℕ) → i < m → value i < 2147483648) → Keeps → Sound m value meaningOf tree
   unfolding events
-  accepted-sound m h value small k = sound same meaningOf m value small 1 tree (within m h) (good same f (eventsAt 1 tree) (k .six) (k .seven) (k .ten))
+  accepted-sound m h value small k = sound same meaningOf m value small 1 tree h (good same f (eventsAt 1 tree) (k .six) (k .seven) (k .ten))
 
   -- the tree stands at node i, the slices hold the values and the meanings of the text's m tokens, and there is room for two words a token
   pub record Given (l : List ℕ) (i : ℕ) (values slots : List ℕ) (g : ℕ) (code : List ℕ) (m : ℕ) : Type 0 where
@@ -208,6 +207,7 @@ module _ (same : ℕ → ℕ → Bool) (t : Tree T.prog) (f : ℕ → ℕ) where
     pub room : 5 * i + 5 ≤ length l
     pub few : i < 65536
     pub tokens : Tokens m values slots
+    pub numbers : t ≡ numbered 0 t
     pub wide : width t ≤ m
     pub small : (j : ℕ) → j < m → word values j < 2147483648
     pub agree : (j : ℕ) → j < m → word slots j ≡ meaningOf j
@@ -216,11 +216,14 @@ module _ (same : ℕ → ℕ → Bool) (t : Tree T.prog) (f : ℕ → ℕ) where
     pub space : 2 * (3 + width t) + 16 ≤ length code
 
   module _ {l : List ℕ} {i : ℕ} {values slots : List ℕ} {g : ℕ} {code : List ℕ} {m : ℕ} (given : Given l i values slots g code m) (k : Keeps) where
+    within : Within m tree
+    within = accepted-within m (given .numbers) (given .wide)
+
     stands : Sound m (word values) (word slots) tree
-    stands = sound-same m (word values) meaningOf (word values) (word slots) (record { at = λ j h. refl }) (record { at = λ j h. sym (given .agree j h) }) tree (accepted-sound m (given .wide) (word values) (given .small) k)
+    stands = sound-same m (word values) meaningOf (word values) (word slots) (record { at = λ j h. refl }) (record { at = λ j h. sym (given .agree j h) }) tree (accepted-sound m within (word values) (given .small) k)
 
     size : length (codeOf (program values slots g tree) .entries) ≤ 3 + width t
-    size = omega (arith, code-short (word values) (word slots) (numbered 0 t) g, width-numbered 0 t)
+    size = code-short (word values) (word slots) t g
 
     -- what the compiler asks
     pub accepted-ready : Ready l i values slots g code
@@ -237,7 +240,7 @@ module _ (same : ℕ → ℕ → Bool) (t : Tree T.prog) (f : ℕ → ℕ) where
 
     -- the program that is compiled is the resolved one
     pub accepted-program : (value : ℕ → ℕ) → ((j : ℕ) → j < m → word values j ≡ value j) → part (word values) (word slots) tree [] ≡ part value meaningOf tree []
-    accepted-program value valued = part-same m (word values) (word slots) value meaningOf (record { at = valued }) (record { at = given .agree }) tree (within m (given .wide)) []
+    accepted-program value valued = part-same m (word values) (word slots) value meaningOf (record { at = valued }) (record { at = given .agree }) tree within []
 
     module _ {after : List ℕ} {r : ℕ} (c : Compiled l i values slots g code after r) where
       fitting : Fits (program values slots g tree)

@@ -123,7 +123,7 @@ unfolding wordsIn
 length-code p = omega (arith, length-append (wordsOf (codeOf p .entries)) (frame 2 16 (codeOf p .starts)), length-words (codeOf p .entries), frame-length 2 16 (codeOf p .starts))
 
 module _ {l : List ℕ} {i : ℕ} {values slots : List ℕ} {g : ℕ} {before after : List ℕ} {r : ℕ} (p : Ast prog) (held : Holds l i p) (fitting : Fits (program values slots g p)) (space : 2 * length (codeOf (program values slots g p) .entries) + 16 ≤ length before) (c : Compiled l i values slots g before after r) where
-  abbrev it : Program
+  abbrev pub it : Program
   it = program values slots g p
 
   -- the words of the code, and after them what stood there
