@@ -1,5 +1,4 @@
--- Check and remarks.
+-- Check.
 pub mod Check
-pub mod Remarks
 pub mod Judge
 pub mod Analysis

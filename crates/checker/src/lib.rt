@@ -1,4 +1,4 @@
-// Check and remarks.
+// Check.
 ghost use mathlib.Core.Path.{_≡_};
 ghost use Prim.Native.Nat.{_*_, _≤_, _<_};
 ghost use lib.ListN.{length};

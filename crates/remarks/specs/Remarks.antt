@@ -1,13 +1,23 @@
 -- Remarks (document 01): the functions but main that no chain of calls in the text leads to from main. The order in which they are written is left open.
 use Prim.Native.Nat.{ℕ, suc, _-_, _<_, _≤_}
 use mathlib.Core.Path.{_≡_}
-use mathlib.Core.Bool.{Bool}
-use mathlib.Core.List.{List, [], _∷_, List·Memᴰ}
+use mathlib.Core.Bool.{Bool, cond}
+use mathlib.Core.List.{List, [], _∷_, map, List·Memᴰ}
 use mathlib.Core.Option.{Option, none, some}
 use lib.ListN.{length, getD}
-use Rattle.events.specs.Event.{Event, function, parameter, thing, opens, closes, declares, uses, calls, ends}
+use lib.Dec.{ltb}
+use Rattle.events.specs.Event.{Event, events, function, parameter, thing, opens, closes, declares, uses, calls, ends}
 use Rattle.rules.specs.Scan.{scan}
 use Rattle.rules.specs.Rules.{Head, heads, functionOf}
+use Rattle.rules.specs.Resolve.{mainOf}
+use Rattle.rules.specs.Spelling.{sameName, isMain}
+use Rattle.syntax.specs.Tree.{Tree, prog}
+use Rattle.syntax.specs.Abstract.{ast}
+use Rattle.lexer.specs.Lex.{Token, lexed, tokens}
+use Rattle.grammar.specs.Parse.{parsed, ok}
+use Rattle.checker.specs.Check.{Verdict, accepted, refused, checked, kinds, places, values}
+use Rattle.remarks.specs.declared.Answer.{Answer}
+use Rattle.remarks.specs.declared.Answer.the-variants.{Refused, Count}
 
 -- a function's number and that of one that it calls
 pub record Call : Type 0 where
@@ -65,3 +75,30 @@ pub record Remarked (Belongs : ℕ → Type 0) (offset : ℕ → ℕ) (before af
   pub once : (j k : ℕ) → j < count → k < count → getD after j 0 ≡ getD after k 0 → j ≡ k
   pub kept : (k : ℕ) → count ≤ k → getD after k 0 ≡ getD before k 0
   pub size : length after ≡ length before
+
+-- ---- the operation
+
+-- "Remarks refuses 15 if the lent u16 slice has under 16 places (place 0), then as check."
+abbrev pub verdict : (text offsets : List ℕ) → Verdict
+verdict text offsets = cond (ltb (length offsets) 16) (refused 15 0) (checked text)
+
+-- the place of the name of function g; ps are the places of the tokens
+abbrev pub nameOffset : List ℕ → List Head → ℕ → ℕ
+nameOffset ps hs g = getD ps (getD (map (λ (h : Head). h .name) hs) g 0) 0
+
+-- the function g of a text with the tokens ts and the tree t is but main, and no chain of calls in the text leads to it from main
+abbrev pub Belongs : List ℕ → List Token → Tree prog → ℕ → Type 0
+Belongs text ts t g =
+    Unreached
+    (callsOf (sameName text (places ts) (values ts)) (events (ast t)))
+    (length (heads (events (ast t))))
+    (mainOf (isMain text (places ts) (values ts)) (heads (events (ast t))))
+    g
+
+-- "Else it writes the name offset of each function but main that no chain of calls in the text leads to from main, each once, in any order, into the first places, and answers the count. Other places keep their words."
+-- A refusal writes nothing.
+pub data Answers (text before after : List ℕ) : Answer → Verdict → Type 0 where
+  refuses : {n p : ℕ} → after ≡ before → Answers text before after (Refused n p) (refused n p)
+  counts : {n m : ℕ} {ts : List Token} {t : Tree prog} → lexed text ≡ tokens ts → parsed (kinds ts) ≡ ok t m
+      → Remarked (Belongs text ts t) (nameOffset (places ts) (heads (events (ast t)))) before after n
+      → Answers text before after (Count n) accepted

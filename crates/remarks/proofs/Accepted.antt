@@ -1,0 +1,198 @@
+-- What holds of the functions of a text that keeps the rules 6, 8 and 10.
+use Prim.Native.Nat.{ℕ, zero, suc, _+_, _*_, _≤_, _<_}
+use mathlib.Core.Path.{_≡_, refl, sym, ap, subst, _∙_}
+use mathlib.Core.Bool.{Bool, true, false, cond, _||_}
+use mathlib.Core.List.{List, [], _∷_, _++_, map, map-append, append-assoc}
+use mathlib.Core.Option.{Option, none, some}
+use native.Mathlib.Omega.{arith}
+use native.Mathlib.Nat.{add-zero, add-suc, suc-add}
+use native.Mathlib.Decide.{decLt}
+use lib.ListN.{length, getD, length-append, List·getD-append}
+use lib.Seq.{getD-append-seam}
+use lib.Dec.{leb}
+use borrow.Author.Tests.{leb-false}
+use Rattle.events.specs.Event.{Event, function, parameter, thing, opens, closes, declares, uses, calls, ends}
+use Rattle.events.proofs.Tokens.{Within, Each}
+use Rattle.events.proofs.Tokens as W
+use Rattle.rules.specs.Scan.{scan, when, least, lesser, on}
+use Rattle.rules.specs.Rules.{Head, heads, functionOf, tooDeep, miscalls, openEnds, mains, badMain, mainless, Tally, tally, counted, over, tooMany}
+use Rattle.rules.specs.Names.{ifFound, repeated, badVariables, badFunctions, badNames, uncalled}
+use Rattle.rules.specs.Resolve.{mainOf}
+use Rattle.rules.specs.Answers.{headsFrom, storedHeads}
+use Rattle.rules.proofs.Functions.{bad-none}
+use Rattle.checker.specs.Check.{Fault, fault, orElse, rules, firstBroken}
+use Rattle.remarks.proofs.Marking.{clash}
+
+nil-left : {A : Type 0} (a b : List A) → a ++ b ≡ [] → a ≡ []
+nil-left [] b e = refl
+nil-left (x ∷ a) b e = absurd (let z : _≡_ {A = ℕ} 0 1 = cc in omega arith)
+
+nil-right : {A : Type 0} (a b : List A) → a ++ b ≡ [] → b ≡ []
+nil-right [] b e = e
+nil-right (x ∷ a) b e = absurd (let z : _≡_ {A = ℕ} 0 1 = cc in omega arith)
+
+-- ---- a rule that is not broken
+
+whole : (n : ℕ) (x : Option ℕ) (later : Option Fault) → orElse n x later ≡ none → (x ≡ none) × (later ≡ none)
+whole n none later e = (refl, e)
+whole n (some i) later e = absurd (let z : _≡_ {A = ℕ} 0 1 = cc in omega arith)
+
+least-none : (l : List ℕ) → least l ≡ none → l ≡ []
+unfolding least lesser
+least-none [] e = refl
+least-none (i ∷ l) e = absurd (go (least l) e)
+  where
+    go : (x : Option ℕ) → lesser i x ≡ none → ⊥
+    go none e = let z : _≡_ {A = ℕ} 0 1 = cc in omega arith
+    go (some j) e = let z : _≡_ {A = ℕ} 0 1 = cc in omega arith
+
+pub record Unbroken (same : ℕ → ℕ → Bool) (isMain : ℕ → Bool) (end : ℕ) (es : List Event) : Type 0 where
+  pub repeats : repeated same [] (heads es) ≡ []
+  pub main : mainless isMain end es ≡ []
+  pub many : tooMany es ≡ []
+
+pub unbroken : (same : ℕ → ℕ → Bool) (isMain : ℕ → Bool) (end : ℕ) (es : List Event) → firstBroken (rules same isMain end es) ≡ none → Unbroken same isMain end es
+unfolding rules firstBroken
+unbroken same isMain end es e =
+    let after10 : Option Fault = none in
+    let after9 = orElse 10 (least (tooMany es)) after10 in
+    let after8 = orElse 9 (least (openEnds es)) after9 in
+    let after7 = orElse 8 (least (mainless isMain end es)) after8 in
+    let after6 = orElse 7 (least (miscalls same es)) after7 in
+    let after5 = orElse 6 (least (badNames same es)) after6 in
+    let r5 = whole 5 (least (tooDeep es)) after5 e in
+    let r6 = whole 6 (least (badNames same es)) after6 (r5 .1) in
+    let r7 = whole 7 (least (miscalls same es)) after7 (r6 .1) in
+    let r8 = whole 8 (least (mainless isMain end es)) after8 (r7 .1) in
+    let r9 = whole 9 (least (openEnds es)) after9 (r8 .1) in
+    let r10 = whole 10 (least (tooMany es)) after10 (r9 .1) in
+    let bad : badVariables same es ++ badFunctions same es ≡ [] = least-none (badNames same es) (r6 .0) in
+    record {
+      repeats = nil-right (on (uncalled same (heads es)) es) (repeated same [] (heads es)) (nil-right (badVariables same es) (badFunctions same es) bad);
+      main = least-none (mainless isMain end es) (r8 .0);
+      many = least-none (tooMany es) (r10 .0);
+    }
+
+-- ---- rule 10: at most 16 functions
+
+room : (b : Bool) (i : ℕ) → when b i ≡ [] → b ≡ false
+room true i e = absurd (let z : _≡_ {A = ℕ} 0 1 = cc in omega arith)
+room false i e = refl
+
+count : (es : List Event) (c : Tally) → c .functions ≤ 16 → scan counted over c es ≡ [] → c .functions + length (heads es) ≤ 16
+unfolding scan counted over heads
+count [] c h e = omega (arith, h)
+count (function i ∷ es) c h e =
+    let k = leb-false 16 (c .functions) (room (leb 16 (c .functions)) i (nil-left (when (leb 16 (c .functions)) i) _ e)) in
+    omega (arith, count es (tally (suc (c .functions)) 0 0) (omega (arith, k)) (nil-right (when (leb 16 (c .functions)) i) _ e))
+count (parameter i ∷ es) c h e = count es (counted c (parameter i)) h (nil-right (over c (parameter i)) _ e)
+count (thing d i ∷ es) c h e = count es c h e
+count (opens ∷ es) c h e = count es c h e
+count (closes ∷ es) c h e = count es c h e
+count (declares i ∷ es) c h e = count es (counted c (declares i)) h (nil-right (over c (declares i)) _ e)
+count (uses i ∷ es) c h e = count es c h e
+count (calls i n ∷ es) c h e = count es c h e
+count (ends i b ∷ es) c h e = count es c h e
+
+pub few-functions : (es : List Event) → tooMany es ≡ [] → length (heads es) ≤ 16
+few-functions es e = omega (arith, count es (tally 0 0 0) (omega arith) e)
+
+-- ---- rule 8: there is a main
+
+pub has-main : (isMain : ℕ → Bool) (end : ℕ) (l : List ℕ) (h : ℕ) → badMain isMain end (mains isMain (storedHeads l h)) ≡ [] → mainOf isMain (storedHeads l h) < h
+has-main isMain end l h e = go (decLt (mainOf isMain (storedHeads l h)) h)
+  where
+    go : Dec (mainOf isMain (storedHeads l h) < h) → mainOf isMain (storedHeads l h) < h
+    go (yes p) = p
+    go (no p) = absurd (let f : end ∷ [] ≡ [] = sym (bad-none isMain end l h (omega (arith, p))) ∙ e in let z : _≡_ {A = ℕ} 0 1 = cc in omega arith)
+
+-- ---- rule 6: no two functions have the same name
+
+abbrev pub nameAt : List Head → ℕ → ℕ
+nameAt hs g = getD (map (λ (h : Head). h .name) hs) g 0
+
+length-map : (hs : List Head) → length (map (λ (h : Head). h .name) hs) ≡ length hs
+length-map [] = refl
+length-map (h ∷ hs) = ap suc (length-map hs)
+
+name-before : (xs bs : List Head) (g : ℕ) → g < length xs → nameAt (xs ++ bs) g ≡ nameAt xs g
+name-before xs bs g h =
+    ap (λ (l : List ℕ). getD l g 0) (map-append (λ (x : Head). x .name) xs bs)
+    ∙ List·getD-append (map (λ (x : Head). x .name) xs) (map (λ (x : Head). x .name) bs) 0 g (omega (arith, length-map xs, h))
+
+name-seam : (xs : List Head) (x : Head) (bs : List Head) → nameAt (xs ++ x ∷ bs) (length xs) ≡ x .name
+name-seam xs x bs =
+    ap (λ (l : List ℕ). getD l (length xs) 0) (map-append (λ (y : Head). y .name) xs (x ∷ bs))
+    ∙ ap (λ (k : ℕ). getD (map (λ (y : Head). y .name) xs ++ x .name ∷ map (λ (y : Head). y .name) bs) k 0) (sym (length-map xs))
+    ∙ getD-append-seam (map (λ (y : Head). y .name) xs) (x .name) (map (λ (y : Head). y .name) bs) 0
+
+module _ (same : ℕ → ℕ → Bool) where
+  none-named : (hs : List Head) (i : ℕ) → functionOf same hs i ≡ none → (g : ℕ) → g < length hs → same (nameAt hs g) i ≡ false
+  unfolding functionOf
+  none-named [] i e g h = absurd (omega (arith, h))
+  none-named (x ∷ hs) i e g h = go (same (x .name) i) refl (functionOf same hs i) (none-named hs i) refl e g h
+    where
+      go : (b : Bool) → same (x .name) i ≡ b → (o : Option ℕ) → (functionOf same hs i ≡ none → (g : ℕ) → g < length hs → same (nameAt hs g) i ≡ false) → functionOf same hs i ≡ o
+          → _≡_ {A = Option ℕ} (cond b (some 0) (elim o [ none ↦ none | some n ↦ some (suc n) ])) none
+          → (g : ℕ) → g < suc (length hs) → same (nameAt (x ∷ hs) g) i ≡ false
+      go true p o f q e g h = absurd (let z : _≡_ {A = ℕ} 0 1 = cc in omega arith)
+      go false p none f q e zero h = p
+      go false p none f q e (suc g) h = f q g (omega (arith, h))
+      go false p (some n) f q e g h = absurd (let z : _≡_ {A = ℕ} 0 1 = cc in omega arith)
+
+  not-found : (o : Option ℕ) (i : ℕ) → ifFound same o i ≡ [] → o ≡ none
+  not-found none i e = refl
+  not-found (some n) i e = absurd (let z : _≡_ {A = ℕ} 0 1 = cc in omega arith)
+
+  others : (xs bs : List Head) → repeated same xs bs ≡ [] → (f g : ℕ) → f < g → length xs ≤ g → g < length (xs ++ bs) → same (nameAt (xs ++ bs) f) (nameAt (xs ++ bs) g) ≡ false
+  unfolding repeated
+  others xs [] e f g h k l = absurd (omega (arith, k, l, length-append {A = Head} xs []))
+  others xs (x ∷ bs) e f g h k l = go (decLt (length xs) g) (others (xs ++ x ∷ []) bs (nil-right (ifFound same (functionOf same xs (x .name)) (x .name)) (repeated same (xs ++ x ∷ []) bs) e) f g h)
+    where
+      joined : (xs ++ x ∷ []) ++ bs ≡ xs ++ x ∷ bs
+      joined = append-assoc xs (x ∷ []) bs
+
+      go : Dec (length xs < g)
+          → (length (xs ++ x ∷ []) ≤ g → g < length ((xs ++ x ∷ []) ++ bs) → same (nameAt ((xs ++ x ∷ []) ++ bs) f) (nameAt ((xs ++ x ∷ []) ++ bs) g) ≡ false)
+          → same (nameAt (xs ++ x ∷ bs) f) (nameAt (xs ++ x ∷ bs) g) ≡ false
+      go (yes p) r =
+          subst (λ (hs : List Head). same (nameAt hs f) (nameAt hs g) ≡ false) joined
+          (r (omega (arith, p, length-append xs (x ∷ []))) (subst (λ (hs : List Head). g < length hs) (sym joined) l))
+      go (no p) r =
+          let z : g ≡ length xs = omega (arith, p, k) in
+          ap (λ (i : ℕ). same i (nameAt (xs ++ x ∷ bs) g)) (name-before xs (x ∷ bs) f (omega (arith, h, z)))
+          ∙ ap (same (nameAt xs f)) (ap (nameAt (xs ++ x ∷ bs)) z ∙ name-seam xs x bs)
+          ∙ none-named xs (x .name) (not-found (functionOf same xs (x .name)) (x .name) (nil-left (ifFound same (functionOf same xs (x .name)) (x .name)) (repeated same (xs ++ x ∷ []) bs) e)) f (omega (arith, h, z))
+
+  pub other-name : (hs : List Head) → repeated same [] hs ≡ [] → (f g : ℕ) → f < g → g < length hs → same (nameAt hs f) (nameAt hs g) ≡ false
+  other-name hs e f g h l = others [] hs e f g h (omega arith) l
+
+-- ---- the names of functions are tokens of the text
+
+names-within : (m : ℕ) (e : Event) (es : List Event) → Within m e → ((g : ℕ) → g < length (heads es) → nameAt (heads es) g < m) → (g : ℕ) → g < length (heads (e ∷ es)) → nameAt (heads (e ∷ es)) g < m
+unfolding heads Within
+names-within m (function i) es w f zero h = w
+names-within m (function i) es w f (suc g) h = f g (omega (arith, h))
+names-within m (parameter i) es w f g h = f g h
+names-within m (thing d i) es w f g h = f g h
+names-within m opens es w f g h = f g h
+names-within m closes es w f g h = f g h
+names-within m (declares i) es w f g h = f g h
+names-within m (uses i) es w f g h = f g h
+names-within m (calls i n) es w f g h = f g h
+names-within m (ends i b) es w f g h = f g h
+
+no-heads : (g : ℕ) → g < length (heads []) → ⊥
+unfolding heads
+no-heads g h = omega (arith, h)
+
+pub names-below : {m : ℕ} {es : List Event} → Each m es → (g : ℕ) → g < length (heads es) → nameAt (heads es) g < m
+names-below W.Each.none g h = absurd (no-heads g h)
+names-below {m} (W.Each.more {e = e} {es = es} w p) g h = names-within m e es w (names-below p) g h
+
+-- the name of a function that stands in a slice
+pub name-stored : (l : List ℕ) (k m g : ℕ) → g < m → nameAt (headsFrom l k m) g ≡ getD l (2 * (k + g)) 0
+unfolding headsFrom
+name-stored l k zero g h = absurd (omega (arith, h))
+name-stored l k (suc m) zero h = rw (add-zero k)
+name-stored l k (suc m) (suc g) h = name-stored l (suc k) m g (omega (arith, h)) ∙ rw (suc-add k g, add-suc k g)

@@ -1,0 +1,6 @@
+-- Theorems about remarks.
+pub mod Marking
+pub mod Writing
+pub mod Accepted
+pub mod Places
+pub mod Telling

@@ -1,0 +1,3 @@
+-- Remarks.
+pub mod Remarks
+pub mod Steps
