@@ -1,7 +1,7 @@
 -- What holds of the functions of a text that keeps the rules 6, 8 and 10.
 use Prim.Native.Nat.{ℕ, zero, suc, _+_, _*_, _≤_, _<_}
 use mathlib.Core.Path.{_≡_, refl, sym, ap, subst, _∙_}
-use mathlib.Core.Bool.{Bool, true, false, cond, _||_}
+use mathlib.Core.Bool.{Bool, true, false, cond}
 use mathlib.Core.List.{List, [], _∷_, _++_, map, map-append, append-assoc}
 use mathlib.Core.Option.{Option, none, some}
 use native.Mathlib.Omega.{arith}
@@ -20,8 +20,7 @@ use Rattle.rules.specs.Names.{ifFound, repeated, badVariables, badFunctions, ba
 use Rattle.rules.specs.Resolve.{mainOf}
 use Rattle.rules.specs.Answers.{headsFrom, storedHeads}
 use Rattle.rules.proofs.Functions.{bad-none}
-use Rattle.checker.specs.Check.{Fault, fault, orElse, rules, firstBroken}
-use Rattle.remarks.proofs.Marking.{clash}
+use Rattle.checker.specs.Check.{Fault, orElse, rules, firstBroken}
 
 nil-left : {A : Type 0} (a b : List A) → a ++ b ≡ [] → a ≡ []
 nil-left [] b e = refl

@@ -4,3 +4,4 @@ pub mod Writing
 pub mod Accepted
 pub mod Places
 pub mod Telling
+pub mod Texts

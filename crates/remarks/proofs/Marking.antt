@@ -1,7 +1,7 @@
 -- Marked functions: the calls that are still to be followed, and what follows where none is left.
-use Prim.Native.Nat.{ℕ, zero, suc, _+_, _-_, _*_, _≤_, _<_}
+use Prim.Native.Nat.{ℕ, zero, suc, _+_, _≤_, _<_}
 use mathlib.Core.Path.{_≡_, refl, sym, ap, subst, _∙_}
-use mathlib.Core.Bool.{Bool, true, false, cond}
+use mathlib.Core.Bool.{Bool, true, false}
 use mathlib.Core.List.{List, [], _∷_, _++_, List·Memᴰ, List·Memᴰ·head, List·Memᴰ·tail, List·Memᴰ·append-cases, List·Memᴰ·eq-of-singleton, List·Memᴰ·not-nil}
 use mathlib.Core.Logic.{_⊎_, inl, inr}
 use mathlib.Core.Option.{Option, none, some}
@@ -232,7 +232,7 @@ marking-turn {cs} {main} {l₀} {l} {g} w f h = record {
     go k (inl q) = subst (λ (x : ℕ). Leads cs main x) (f .to ∙ sym q) (further (w .led (f .call .caller) (f .from)) (f .among))
     go k (inr q) = w .led k q
 
-leads-marked : {cs : List Call} {main : ℕ} (l : List ℕ) → fresh l cs ≡ none → unmarked l main ≡ false → (g : ℕ) → Leads cs main g → unmarked l g ≡ false
+pub leads-marked : {cs : List Call} {main : ℕ} (l : List ℕ) → fresh l cs ≡ none → unmarked l main ≡ false → (g : ℕ) → Leads cs main g → unmarked l g ≡ false
 leads-marked l e h g here = h
 leads-marked {cs} l e h g (further {c = c} p m) = closed l cs e c m (leads-marked l e h (c .caller) p)
 

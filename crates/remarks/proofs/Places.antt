@@ -1,18 +1,18 @@
 -- The places of the names of an accepted text's functions, and what the analysis gives for writing them.
 use Prim.Native.Nat.{ℕ, zero, suc, _+_, _-_, _*_, _≤_, _<_}
 use mathlib.Core.Path.{_≡_, refl, sym, ap, subst, _∙_}
-use mathlib.Core.Bool.{Bool, true, false, _&&_}
+use mathlib.Core.Bool.{true}
 use mathlib.Core.List.{List, [], _∷_}
 use native.Mathlib.Omega.{arith}
 use native.Mathlib.Decide.{decLt}
 use lib.ListN.{length, getD, take}
 use lib.Seq.{getD-take}
 use borrow.Author.Tests.{eq-eqb}
-use Rattle.syntax.specs.Tree.{Tree, prog, numbered, width}
+use Rattle.syntax.specs.Tree.{Tree, prog, width}
 use Rattle.syntax.specs.Token.{kEnd}
 use Rattle.syntax.specs.Abstract.{ast}
 use Rattle.lexer.specs.Lex as L
-use Rattle.lexer.specs.Lex.{Token, lexed, same}
+use Rattle.lexer.specs.Lex.{Token, same}
 use Rattle.lexer.specs.Parts.{stored}
 use Rattle.lexer.proofs.Theorems.{Ascending, no-more, above, ascending, inside, lexed-tokens, stored-length, stored-at}
 use Rattle.grammar.proofs.Grammar.{kept}
@@ -24,7 +24,6 @@ use Rattle.events.proofs.Tokens.{numbered-below, Each, events-within}
 use Rattle.rules.specs.Spelling.{spelled, sameName, isMain}
 use Rattle.rules.specs.Rules as R
 use Rattle.rules.specs.Rules.{Head}
-use Rattle.rules.specs.Answers.{storedHeads}
 use Rattle.rules.proofs.Functions.{length-heads}
 use Rattle.checker.specs.Analysis.{Known}
 use Rattle.checker.proofs.Analysing.{Into, as-long, token-list, few-listed}
@@ -115,7 +114,7 @@ module _ {text ks ps vs nodes items heads before slots : List ℕ} {n root e h :
       (ap (λ (i : ℕ). sameName text (take n ps) (take n vs) i (nameAt (R.heads (events (ast (k .tree)))) g)) (sym (name-is g q) ∙ sym s ∙ name-is f p) ∙ d)
 
   apart : Apart (take n ps) heads h
-  apart = record { fits = λ g p. omega (arith, low-place x (getD heads (2 * g) 0) (token-below g p)); differ = λ f g p q z. go f g p q z (decLt f g) (decLt g f) }
+  apart = record { most = omega (arith, as-many-functions, few-functions (events (ast (k .tree))) (rules .many)); fits = λ g p. omega (arith, low-place x (getD heads (2 * g) 0) (token-below g p)); differ = λ f g p q z. go f g p q z (decLt f g) (decLt g f) }
     where
       go : (f g : ℕ) → f < h → g < h → offsetIn (take n ps) heads f ≡ offsetIn (take n ps) heads g → Dec (f < g) → Dec (g < f) → f ≡ g
       go f g p q z (yes a) b = absurd (one-place f g p q z a)

@@ -1,11 +1,9 @@
 -- The answer, from what the analysis and the writing say.
-use Prim.Native.Nat.{ℕ, _+_, _*_, _≤_, _<_}
+use Prim.Native.Nat.{ℕ, _≤_, _<_}
 use mathlib.Core.Path.{_≡_, refl, sym, ap, subst, _∙_}
-use mathlib.Core.Bool.{Bool, true, false, cond}
 use mathlib.Core.List.{List}
 use native.Mathlib.Omega.{arith}
 use lib.ListN.{length, getD, take}
-use lib.Dec.{ltb}
 use borrow.Author.Tests.{lt-ltb, le-ltb}
 use Rattle.syntax.specs.Abstract.{ast}
 use Rattle.lexer.specs.Parts.{stored}
@@ -14,14 +12,13 @@ use Rattle.grammar.specs.Parse.{parsed}
 use Rattle.events.specs.Event.{events}
 use Rattle.rules.specs.Spelling.{sameName, isMain}
 use Rattle.rules.specs.Rules as R
-use Rattle.rules.specs.Rules.{Head}
 use Rattle.rules.specs.Resolve.{mainOf}
-use Rattle.checker.specs.Check.{Verdict, accepted, refused, checked, values}
+use Rattle.checker.specs.Check.{Verdict, accepted, checked, values}
 use Rattle.checker.specs.Analysis.{Known, Analyses}
 use Rattle.checker.specs.Analysis as N
 use Rattle.checker.specs.declared.Analysed.the-variants as A
 use Rattle.checker.proofs.Analysing.{Into, few-tokens, stored-values}
-use Rattle.remarks.specs.Remarks.{callsOf, Unreached, Remarked, nameOffset, Belongs, Answers, refuses, counts, verdict}
+use Rattle.remarks.specs.Remarks.{callsOf, Unreached, Remarked, nameOffset, Answers, refuses, counts, verdict}
 use Rattle.remarks.specs.Steps.{offsetIn, Fair, Lists}
 use Rattle.remarks.specs.declared.Answer.{Answer}
 use Rattle.remarks.specs.declared.Answer.the-variants.{Refused, Count}
@@ -29,7 +26,7 @@ use Rattle.remarks.proofs.Places.{as-many-functions, name-is, fair}
 
 -- two names for the offsets of what belongs
 other-offset : {B : ℕ → Type 0} {off off′ : ℕ → ℕ} {before after : List ℕ} {k : ℕ} → ((g : ℕ) → B g → off g ≡ off′ g) → Remarked B off before after k → Remarked B off′ before after k
-other-offset {B} {off} {off′} {before} {after} {k} f r = record { all = λ g b. one g b (r .all g b); only = λ j h. two j (r .only j h); once = r .once; kept = r .kept; size = r .size }
+other-offset {B} {off} {off′} {before} {after} {k} f r = record { all = λ g b. one g b (r .all g b); only = λ j h. two j (r .only j h); once = r .once; kept = r .kept; size = r .size; within = r .within; few = r .few }
   where
     one : (g : ℕ) → B g → (j : ℕ) × (j < k) × (getD after j 0 ≡ off g) → (j : ℕ) × (j < k) × (getD after j 0 ≡ off′ g)
     one g b w = (w .0, w .1, w .2 ∙ f g b)

@@ -1,5 +1,5 @@
 -- The places of the names of functions that are not marked, written one after another.
-use Prim.Native.Nat.{ℕ, zero, suc, _+_, _*_, _≤_, _<_}
+use Prim.Native.Nat.{ℕ, _+_, _≤_, _<_}
 use mathlib.Core.Path.{_≡_, refl, sym, ap, subst, _∙_}
 use mathlib.Core.Bool.{Bool, true, false}
 use mathlib.Core.List.{List}
@@ -13,7 +13,7 @@ use Rattle.remarks.proofs.Marking.{clash}
 
 -- two names for what belongs
 pub same-belong : {B D : ℕ → Type 0} {off : ℕ → ℕ} {before after : List ℕ} {k : ℕ} → ((g : ℕ) → B g → D g) → ((g : ℕ) → D g → B g) → Remarked B off before after k → Remarked D off before after k
-same-belong {B} {D} {off} {before} {after} {k} f b r = record { all = λ g d. r .all g (b g d); only = λ j h. one j (r .only j h); once = r .once; kept = r .kept; size = r .size }
+same-belong {B} {D} {off} {before} {after} {k} f b r = record { all = λ g d. r .all g (b g d); only = λ j h. one j (r .only j h); once = r .once; kept = r .kept; size = r .size; within = r .within; few = r .few }
   where
     one : (j : ℕ) → (g : ℕ) × B g × (getD after j 0 ≡ off g) → (g : ℕ) × D g × (getD after j 0 ≡ off g)
     one j w = (w .0, f (w .0) (w .1), w .2)
@@ -28,7 +28,7 @@ pub written-start : (ps heads : List ℕ) (h : ℕ) (l before : List ℕ) → Wr
 written-start ps heads h l before = record {
   inside = omega arith;
   few = omega arith;
-  noted = record { all = λ g b. absurd (omega (arith, b .function)); only = λ j h. absurd (omega (arith, h)); once = λ i j h. absurd (omega (arith, h)); kept = λ j h. refl; size = refl };
+  noted = record { all = λ g b. absurd (omega (arith, b .function)); only = λ j h. absurd (omega (arith, h)); once = λ i j h. absurd (omega (arith, h)); kept = λ j h. refl; size = refl; within = omega arith; few = omega arith };
 }
 
 below-or : {l : List ℕ} {g x : ℕ} → Unmarked l (g + 1) x → Dec (x < g) → (x ≡ g → Unmarked l g x) → Unmarked l g x
@@ -83,6 +83,8 @@ module _ {ps heads l before after : List ℕ} {h k g : ℕ} (w : Written ps head
     once = λ i j p q e. once-next i j p q e (decLt i k) (decLt j k);
     kept = λ j q. getD-set-other after k j (offsetIn ps heads g) 0 (λ e. omega (arith, q, e)) ∙ w .noted .kept j (omega (arith, q));
     size = length-set after k (offsetIn ps heads g) ∙ w .noted .size;
+    within = omega (arith, room, length-set after k (offsetIn ps heads g));
+    few = omega (arith, w .few, lt, a .most);
   }
 
   pub written-add : {after′ : List ℕ} → after′ ≡ set after k (offsetIn ps heads g) → Written ps heads h l before after′ (k + 1) (g + 1)

@@ -75,6 +75,8 @@ pub record Remarked (Belongs : ℕ → Type 0) (offset : ℕ → ℕ) (before af
   pub once : (j k : ℕ) → j < count → k < count → getD after j 0 ≡ getD after k 0 → j ≡ k
   pub kept : (k : ℕ) → count ≤ k → getD after k 0 ≡ getD before k 0
   pub size : length after ≡ length before
+  pub within : count ≤ length after
+  pub few : count ≤ 16
 
 -- ---- the operation
 

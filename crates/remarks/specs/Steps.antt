@@ -40,8 +40,9 @@ pub record Unmarked (l : List ℕ) (h g : ℕ) : Type 0 where
 abbrev pub offsetIn : (ps heads : List ℕ) → ℕ → ℕ
 offsetIn ps heads g = getD ps (getD heads (2 * g) 0) 0
 
--- the names of h functions have places that fit two bytes, no two the same
+-- at most sixteen functions, whose names have places that fit two bytes, no two the same
 pub record Apart (ps heads : List ℕ) (h : ℕ) : Type 0 where
+  pub most : h ≤ 16
   pub fits : (g : ℕ) → g < h → offsetIn ps heads g < 65536
   pub differ : (f g : ℕ) → f < h → g < h → offsetIn ps heads f ≡ offsetIn ps heads g → f ≡ g
 

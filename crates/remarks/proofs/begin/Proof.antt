@@ -1,7 +1,7 @@
 -- Only a function's event begins a function.
 use Prim.Native.Nat.{ℕ}
 use mathlib.Core.Path.{_≡_, refl}
-use mathlib.Core.List.{List, [], _∷_}
+use mathlib.Core.List.{[], _∷_}
 use native.Mathlib.Numerals.{add-one}
 use borrow.Author.Needs.{needs}
 use types.Run.{OneOf}

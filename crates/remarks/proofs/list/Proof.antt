@@ -1,12 +1,10 @@
 -- Marks from nothing, then what is not marked.
 use Prim.Native.Nat.{ℕ, _<_}
-use mathlib.Core.Path.{_≡_, refl, sym, ap, subst, _∙_}
+use mathlib.Core.Path.{_≡_}
 use native.Mathlib.Omega.{arith}
 use native.Mathlib.Decide.{decLt}
-use lib.ListN.{length, getD, replicate, getD-replicate, List·getD-eq-default, length-replicate}
+use lib.ListN.{getD, replicate, getD-replicate, List·getD-eq-default}
 use borrow.Author.Needs.{needs}
-use Rattle.remarks.specs.Remarks.{Remarked, Unreached}
-use Rattle.remarks.specs.Steps.{callsIn, offsetIn}
 use Rattle.remarks.proofs.Writing.{unreached}
 use Rattle.remarks.proofs.list.Statement.{statement}
 use Rattle.remarks.proofs.list.Tie as tie

@@ -1,14 +1,12 @@
 -- A mark more at each turn, on a function that calls lead to; at the end none is left to follow.
-use Prim.Native.Nat.{ℕ, _-_, _≤_}
-use mathlib.Core.Path.{_≡_, refl, sym, ap, _∙_}
+use mathlib.Core.Path.{sym, ap, _∙_}
 use native.Mathlib.Omega.{arith}
-use lib.ListN.{length, length-set}
+use lib.ListN.{length-set}
 use borrow.Author.Needs.{needs}
-use Rattle.events.specs.Stored.{stored}
 use Rattle.rules.specs.Spelling.{sameName}
 use Rattle.rules.specs.Answers.{found}
-use Rattle.remarks.specs.Steps.{fresh, callsIn}
-use Rattle.remarks.proofs.Marking.{Marking, zeros, fewer, Follows, follows, marking-start, marking-turn, marking-end}
+use Rattle.remarks.specs.Steps.{callsIn}
+use Rattle.remarks.proofs.Marking.{Marking, zeros, fewer, follows, marking-start, marking-turn, marking-end}
 use Rattle.remarks.proofs.reach.Statement.{statement}
 use Rattle.remarks.proofs.reach.Tie as tie
 

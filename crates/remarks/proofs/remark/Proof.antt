@@ -1,7 +1,6 @@
 -- By what the analysis says.
-use mathlib.Core.Path.{_≡_, refl, sym, ap, _∙_}
+use mathlib.Core.Path.{refl, _∙_}
 use native.Mathlib.Omega.{arith}
-use lib.ListN.{length}
 use borrow.Author.Needs.{needs}
 use Rattle.checker.proofs.Analysing.{as-long}
 use Rattle.remarks.proofs.Telling.{tokens-few, fair-so, refused-so, counted-so}

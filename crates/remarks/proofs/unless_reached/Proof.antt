@@ -1,5 +1,4 @@
 -- By the two flags.
-use mathlib.Core.Path.{_≡_, sym, ap, _∙_}
 use borrow.Author.Needs.{needs}
 use borrow.Author.Tests.{eq-eqb, ne-eqb}
 use Rattle.remarks.specs.Steps.{fresh}

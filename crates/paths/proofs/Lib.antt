@@ -1,0 +1,12 @@
+-- Theorems about the memory of a path, and what a caller takes from its end (Ending).
+pub mod Table
+pub mod Choice
+pub mod Narrowing
+pub mod Choosing
+pub mod Machinery
+pub mod Comparing
+pub mod Growing
+pub mod Turning
+pub mod Keeping
+pub mod Walking
+pub mod Ending
