@@ -1,4 +1,4 @@
-// Reads texts, which a byte 1 separates, and prints what check answers for each: a line `accepted`, or `refused N at P`.
+// Reads texts, which a byte 1 separates, and prints what check and remarks answer for each: a line `accepted` with the offsets of remarks behind it, or `refused N at P`.
 use checker::Checked;
 use libc::STDIN_FILENO;
 use libc::STDOUT_FILENO;
@@ -20,10 +20,35 @@ fn end_of(input: &[u8], at: usize, n: usize) -> usize
     end
 }
 
+fn wide(x: u16) -> u64 {
+    x as u64
+}
+
+fn print_offsets(offsets: &[u16], count: usize) {
+    let mut k = 0;
+    while k < count {
+        if k < offsets.len() {
+            io::write_all(STDOUT_FILENO, b" ");
+            io::print_decimal(STDOUT_FILENO, wide(offsets[k]));
+        }
+        k += 1;
+    }
+}
+
+fn print_remarks(text: &[u8]) {
+    let mut offsets = [0u16; 16];
+    match remarks::remarks(text, &mut offsets) {
+        remarks::Answer::Refused(_, _) => {}
+        remarks::Answer::Count(count) => print_offsets(&offsets, count),
+    }
+}
+
 fn print_answer(text: &[u8]) {
     match checker::check(text) {
         Checked::Accepted => {
-            io::write_all(STDOUT_FILENO, b"accepted\n");
+            io::write_all(STDOUT_FILENO, b"accepted");
+            print_remarks(text);
+            io::write_all(STDOUT_FILENO, b"\n");
         }
         Checked::Refused(number, place) => {
             io::write_all(STDOUT_FILENO, b"refused ");
