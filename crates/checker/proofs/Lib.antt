@@ -4,4 +4,5 @@ pub mod Inspecting
 pub mod Settling
 pub mod Analysing
 pub mod Small
+pub mod Exactly
 pub mod Texts

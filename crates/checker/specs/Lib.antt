@@ -1,4 +1,5 @@
 -- Check.
 pub mod Check
+pub mod Accepted
 pub mod Judge
 pub mod Analysis

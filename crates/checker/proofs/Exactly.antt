@@ -1,0 +1,71 @@
+-- Check accepts a text exactly if it keeps every rule.
+use Prim.Native.Nat.{ℕ, _-_}
+use mathlib.Core.Path.{_≡_, refl, sym, ap, _∙_, subst}
+use mathlib.Core.Bool.{Bool}
+use mathlib.Core.List.{List, [], _∷_}
+use mathlib.Core.Logic.{_↔_}
+use mathlib.Core.Option.{Option, none, some}
+use native.Mathlib.Omega.{arith}
+use lib.ListN.{length, getD}
+use Rattle.lexer.specs.Lex as L
+use Rattle.lexer.specs.Lex.{Token, lexed}
+use Rattle.syntax.specs.Tree.{Tree, prog}
+use Rattle.syntax.specs.Abstract.{ast}
+use Rattle.grammar.specs.Parse.{Res, parsed, ok, bad}
+use Rattle.events.specs.Event.{Event, events}
+use Rattle.rules.specs.Scan.{least, lesser}
+use Rattle.rules.specs.Spelling.{sameName, isMain}
+use Rattle.checker.specs.Check.{Verdict, accepted, refused, Fault, fault, Rule, rule, orElse, rules, firstBroken, verdict, rulesOf, checkedTokens, checked, kinds, places, values}
+use Rattle.checker.specs.Accepted.{Keeps}
+
+least-none : (is : List ℕ) → least is ≡ none → is ≡ []
+unfolding least lesser
+least-none [] e = refl
+least-none (i ∷ is) e = absurd (go (least is) e)
+  where
+    go : (o : Option ℕ) → lesser i o ≡ none → ⊥
+    go none q = let z : _≡_ {A = ℕ} 0 1 = cc in omega arith
+    go (some j) q = let z : _≡_ {A = ℕ} 0 1 = cc in omega arith
+
+-- a rule that is passed is not broken, and the later ones are passed
+passed : (n : ℕ) (is : List ℕ) (later : Option Fault) → orElse n (least is) later ≡ none → (is ≡ []) × (later ≡ none)
+passed n is later e = go (least is) refl e
+  where
+    go : (o : Option ℕ) → least is ≡ o → orElse n o later ≡ none → (is ≡ []) × (later ≡ none)
+    go none q f = (least-none is q, f)
+    go (some i) q f = let z : _≡_ {A = ℕ} 0 1 = cc in absurd (omega arith)
+
+is-accepted : (ps : List ℕ) (o : Option Fault) → verdict ps o ≡ accepted → o ≡ none
+is-accepted ps none e = refl
+is-accepted ps (some f) e = let z : _≡_ {A = ℕ} 0 1 = cc in absurd (omega arith)
+
+module _ (text : List ℕ) where
+  to : checked text ≡ accepted → Keeps text
+  unfolding checked checkedTokens rules firstBroken
+  to e = go (lexed text) refl e
+    where
+      kept : (ts : List Token) → lexed text ≡ L.tokens ts → (t : Tree prog) (m : ℕ) → parsed (kinds ts) ≡ ok t m → firstBroken (rulesOf text (places ts) (values ts) (length (kinds ts)) (events (ast t))) ≡ none → Keeps text
+      kept ts l t m p f =
+          let a = passed 5 _ _ f in
+          let b = passed 6 _ _ (a .1) in
+          let c = passed 7 _ _ (b .1) in
+          let d = passed 8 _ _ (c .1) in
+          let g = passed 9 _ _ (d .1) in
+          let h = passed 10 _ _ (g .1) in
+          record { tokens = ts; tree = t; after = m; lexes = l; parses = p; depth = a .0; names = b .0; calls = c .0; main = d .0; ends = g .0; counts = h .0 }
+
+      read : (ts : List Token) → lexed text ≡ L.tokens ts → (r : Res prog) → parsed (kinds ts) ≡ r
+          → elim r [ bad m ↦ refused 4 (getD (places ts) m 0) | ok t m ↦ verdict (places ts) (firstBroken (rulesOf text (places ts) (values ts) (length (kinds ts)) (events (ast t)))) ] ≡ accepted → Keeps text
+      read ts l (bad m) p q = let z : _≡_ {A = ℕ} 0 1 = cc in absurd (omega arith)
+      read ts l (ok t m) p q = kept ts l t m p (is-accepted (places ts) (firstBroken (rulesOf text (places ts) (values ts) (length (kinds ts)) (events (ast t)))) q)
+
+      go : (a : L.Answer) → lexed text ≡ a → elim a [ L.refused n p ↦ refused n p | L.tokens ts ↦ checkedTokens text (kinds ts) (places ts) (values ts) ] ≡ accepted → Keeps text
+      go (L.refused n p) l q = let z : _≡_ {A = ℕ} 0 1 = cc in absurd (omega arith)
+      go (L.tokens ts) l q = read ts l (parsed (kinds ts)) refl q
+
+  from : Keeps text → checked text ≡ accepted
+  unfolding checked checkedTokens rules firstBroken least
+  from k = rw (k .lexes, checked) (rw (k .parses, checkedTokens) (rw (k .depth, k .names, k .calls, k .main, k .ends, k .counts)))
+
+  pub exactly : (checked text ≡ accepted) ↔ Keeps text
+  exactly = (to, from)

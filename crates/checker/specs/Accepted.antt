@@ -1,0 +1,29 @@
+-- What it means that a text keeps every rule, without a word of numbers and places. That check accepts exactly these texts is proved in proofs/Exactly.
+use Prim.Native.Nat.{ℕ, _-_}
+use mathlib.Core.Path.{_≡_}
+use mathlib.Core.List.{List, []}
+use lib.ListN.{length}
+use Rattle.lexer.specs.Lex as L
+use Rattle.lexer.specs.Lex.{Token, lexed}
+use Rattle.syntax.specs.Tree.{Tree, prog}
+use Rattle.syntax.specs.Abstract.{ast}
+use Rattle.grammar.specs.Parse.{parsed, ok}
+use Rattle.events.specs.Event.{events}
+use Rattle.rules.specs.Spelling.{sameName, isMain}
+use Rattle.rules.specs.Rules.{tooDeep, miscalls, mainless, openEnds, tooMany}
+use Rattle.rules.specs.Names.{badNames}
+use Rattle.checker.specs.Check.{kinds, places, values}
+
+-- it has tokens, they are the tokens of a tree, and nothing in the tree breaks a rule
+pub record Keeps (text : List ℕ) : Type 0 where
+  pub tokens : List Token
+  pub tree : Tree prog
+  pub after : ℕ
+  pub lexes : lexed text ≡ L.tokens tokens
+  pub parses : parsed (kinds tokens) ≡ ok tree after
+  pub depth : tooDeep (events (ast tree)) ≡ []
+  pub names : badNames (sameName text (places tokens) (values tokens)) (events (ast tree)) ≡ []
+  pub calls : miscalls (sameName text (places tokens) (values tokens)) (events (ast tree)) ≡ []
+  pub main : mainless (isMain text (places tokens) (values tokens)) (length (kinds tokens) - 1) (events (ast tree)) ≡ []
+  pub ends : openEnds (events (ast tree)) ≡ []
+  pub counts : tooMany (events (ast tree)) ≡ []
