@@ -1,0 +1,37 @@
+use Prim.Native.Nat.{ℕ, _+_, _-_, _*_, _≤_, _<_}
+use native.Mathlib.Omega.{arith}
+use mathlib.Core.Path.{_≡_, refl, sym, _∙_, ap}
+use mathlib.Core.List.{List, _++_}
+use borrow.Author.Needs.{needs}
+use Rattle.lines.proofs.Puts.{and-then, put-as, put-length, put-none}
+use mir.Syntax.{w32}
+use mir.Val.{toZ}
+use mir.Facts.{toZ-ofZ}
+use Rattle.lines.specs.Print.{integer}
+use Rattle.lines.proofs.put_integer.Statement.{statement}
+use Rattle.lines.proofs.put_integer.Tie as tie
+use Rattle.lines.proofs.put_integer.Reads as reads
+use Rattle.lines.proofs.put_integer.Lts as lts
+use Rattle.ints.proofs.word.Reads as word-reads
+use Rattle.lines.proofs.put_word.Reads as put-word-reads
+
+-- src/lib.rt:228:23
+word-requires : tie.Need-word-requires
+word-requires c κs = search needs
+
+-- src/lib.rt:228:5
+put-word-requires : tie.Need-put-word-requires
+put-word-requires c κs = search needs
+
+-- src/lib.rt:224:1
+same-length : tie.Need-same-length
+same-length c = search needs
+
+-- src/lib.rt:224:1
+returns : tie.Need-returns
+returns c =
+    let e : integer (toZ w32 (c .before .before .before .word .result)) ≡ integer (c .before .before .before .before .before .before .args .z) = simp (c .before .before .before .word .ensures, toZ-ofZ (c .before .before .before .before .before .before .fits .z)) in
+    (put-as e (c .before .before .put-word .ensures .0), c .before .before .put-word .ensures .1)
+
+pub put-integer-spec : {M : Type 1} → statement M
+put-integer-spec = tie.close (tie.spec word-requires put-word-requires same-length returns)

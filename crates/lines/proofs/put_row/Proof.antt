@@ -1,0 +1,115 @@
+use Prim.Native.Nat.{ℕ, _+_, _-_, _*_, _≤_, _<_}
+use native.Mathlib.Omega.{arith}
+use mathlib.Core.Path.{_≡_, refl, sym, _∙_, ap}
+use borrow.Author.Needs.{needs}
+use lib.ListN.{length, drop, getD}
+use lib.IntN.{ℤ, pos}
+use mir.Syntax.{w32}
+use mir.Val.{toZ, ofZ, SFits}
+use mir.Facts.{toZ-ofZ}
+use Rattle.lines.specs.Written.{countOf}
+use Rattle.lines.proofs.Puts.{and-then, put-as, put-length, put-none}
+use Rattle.lines.proofs.Lines.{row-line}
+use Rattle.lines.proofs.put_row.Statement.{statement}
+use Rattle.lines.proofs.put_row.Tie as tie
+use Rattle.lines.proofs.put_row.Reads as reads
+use Rattle.lines.proofs.put_row.Lts as lts
+use Rattle.ints.proofs.word.Reads as word-reads
+use Rattle.lines.proofs.put_bytes.Reads as put-bytes-reads
+use Rattle.lines.proofs.put_integer.Reads as put-integer-reads
+use Rattle.lines.proofs.put_values.Reads as put-values-reads
+use Rattle.lines.proofs.value_count.Reads as value-count-reads
+
+-- src/lib.rt:309:34
+mul-put-integer : tie.Need-mul-put-integer
+mul-put-integer c = search needs
+
+-- src/lib.rt:309:34
+shared-slice-copy-out-put-integer : tie.Need-shared-slice-copy-out-put-integer
+shared-slice-copy-out-put-integer c = search needs
+
+-- src/lib.rt:309:9
+put-integer-requires : tie.Need-put-integer-requires
+put-integer-requires c κs = search needs
+
+-- src/lib.rt:310:31
+slice-aggregate-put-bytes : tie.Need-slice-aggregate-put-bytes
+slice-aggregate-put-bytes c = search needs
+
+-- src/lib.rt:310:9
+put-bytes-requires : tie.Need-put-bytes-requires
+put-bytes-requires c κs = search needs
+
+-- src/lib.rt:311:41
+add-word : tie.Need-add-word
+add-word c = search needs
+
+-- src/lib.rt:311:36
+mul-word : tie.Need-mul-word
+mul-word c = search needs
+
+-- src/lib.rt:311:36
+shared-slice-copy-out-word : tie.Need-shared-slice-copy-out-word
+shared-slice-copy-out-word c = search needs
+
+-- src/lib.rt:311:25
+word-requires : tie.Need-word-requires
+word-requires c κs = search needs
+
+-- src/lib.rt:311:9
+value-count-requires : tie.Need-value-count-requires
+value-count-requires c κs = search needs
+
+-- src/lib.rt:312:38
+add-put-values : tie.Need-add-put-values
+add-put-values c = search needs
+
+-- src/lib.rt:312:9
+put-values-requires : tie.Need-put-values-requires
+put-values-requires c κs = search needs
+
+-- src/lib.rt:313:23
+slice-aggregate-put-bytes-2 : tie.Need-slice-aggregate-put-bytes-2
+slice-aggregate-put-bytes-2 c = search needs
+
+-- src/lib.rt:313:5
+put-bytes-requires-2 : tie.Need-put-bytes-requires-2
+put-bytes-requires-2 c κs = search needs
+
+-- src/lib.rt:305:1
+same-length : tie.Need-same-length
+same-length c = search needs
+
+-- src/lib.rt:305:1
+returns : tie.Need-returns
+returns c =
+    let rows = c .before .before .before .before .before .before .before .before .before .before .before .before .before .before .before .before .before .before .before .before .before .before .before .args .rows .now in
+    let base = c .before .before .before .before .before .before .before .before .before .before .before .before .before .before .before .before .before .before .before .before .before .before .before .args .base in
+    let f : SFits w32 (getD rows base (pos 0)) = record { sfits = c .before .before .before .before .before .before .before .before .before .before .before .before .before .before .before .before .before .before .before .before .put-integer-arg2 .given } in
+    let g : SFits w32 (getD rows (base + 1) (pos 0)) = record { sfits = c .before .before .before .before .before .before .before .before .before .before .before .word-arg .given } in
+    let n : c .before .before .before .before .before .before .before .before .before .value-count .result ≡ countOf (getD rows (base + 1) (pos 0)) = c .before .before .before .before .before .before .before .before .before .value-count .ensures ∙ ap countOf (simp (c .before .before .before .before .before .before .before .before .before .before .word .ensures, toZ-ofZ g)) in
+    let w = rw (toZ-ofZ f) at (c .before .before .before .before .before .before .before .before .before .before .before .before .before .before .before .before .before .before .before .put-integer .ensures .0) in (
+      put-as (row-line rows base (c .before .before .before .before .before .before .before .before .before .value-count .result) n) (and-then (and-then (and-then w (c .before .before .before .before .before .before .before .before .before .before .before .before .before .before .put-bytes .ensures)) (c .before .before .before .before .before .before .before .put-values .ensures .0)) (c .before .before .put-bytes2 .ensures)),
+      omega (arith, n, c .before .before .before .before .before .before .before .before .before .before .before .before .before .before .before .before .before .before .before .put-integer .ensures .1, c .before .before .before .before .before .before .before .before .before .before .before .before .before .before .put-bytes .ensures .past, c .before .before .before .before .before .before .before .put-values .ensures .1, c .before .before .put-bytes2 .ensures .past),
+    )
+
+pub put-row-spec : {M : Type 1} → statement M
+put-row-spec =
+    tie.close
+    (tie.spec
+    mul-put-integer
+    shared-slice-copy-out-put-integer
+    put-integer-requires
+    slice-aggregate-put-bytes
+    put-bytes-requires
+    add-word
+    mul-word
+    shared-slice-copy-out-word
+    word-requires
+    value-count-requires
+    add-put-values
+    put-values-requires
+    slice-aggregate-put-bytes-2
+    put-bytes-requires-2
+    same-length
+    returns)

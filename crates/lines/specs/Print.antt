@@ -1,0 +1,58 @@
+-- What the program prints: document 01, "The program".
+use Prim.Native.Nat.{ℕ, zero, suc, _+_, _/_, _%_}
+use mathlib.Core.Bool.{Bool, true, false}
+use mathlib.Core.List.{List, [], _∷_, _++_}
+use lib.ListN.{length}
+use lib.Dec.{ltb}
+use lib.IntN.{ℤ, pos, negsuc}
+use Rattle.lexer.specs.Lex.{bytes}
+use Rattle.semantics.specs.Run.{Row}
+use Rattle.semantics.specs.Search.{Close, whole, cuts, full, spent, Answer}
+
+-- ---- numbers in decimal: no zeros in front, a minus before a negative one
+
+-- the digits of n; k is more than there can be
+unfoldable pub digits : ℕ → ℕ → List ℕ
+digits zero n = []
+digits (suc k) n = elim (ltb n 10) [ true ↦ (48 + n) ∷ [] | false ↦ digits k (n / 10) ++ (48 + n % 10) ∷ [] ]
+
+unfoldable pub natural : ℕ → List ℕ
+natural n = digits (suc n) n
+
+unfoldable pub integer : ℤ → List ℕ
+integer (pos n) = natural n
+integer (negsuc n) = bytes "-" ++ natural (suc n)
+
+-- "Each line ends with LF"
+abbrev pub lineEnd : List ℕ
+lineEnd = 10 ∷ []
+
+-- "a refusal prints `refused N at P`"
+unfoldable pub refusal : ℕ → ℕ → List ℕ
+refusal number place = bytes "refused " ++ natural number ++ bytes " at " ++ natural place ++ lineEnd
+
+-- "Row: result, colon, values, single blanks; with no values it ends after the colon."
+unfoldable pub spaced : List ℤ → List ℕ
+spaced [] = []
+spaced (v ∷ vs) = (bytes " " ++ integer v) ++ spaced vs
+
+unfoldable pub rowLine : Row → List ℕ
+rowLine r = integer (r .result) ++ bytes " :" ++ spaced (r .values) ++ lineEnd
+
+unfoldable pub rowLines : List Row → List ℕ
+rowLines [] = []
+rowLines (r ∷ rs) = rowLine r ++ rowLines rs
+
+unfoldable pub ending : Close → List ℕ
+ending whole = bytes "whole"
+ending cuts = bytes "cut"
+ending full = bytes "full"
+ending spent = bytes "spent"
+
+-- "Last line: ending, rows written, the word `rows`, moves, the word `moves`, single blanks between."
+unfoldable pub lastLine : Close → ℕ → ℕ → List ℕ
+lastLine c rows moves = ending c ++ bytes " " ++ natural rows ++ bytes " rows " ++ natural moves ++ bytes " moves" ++ lineEnd
+
+-- all that is printed of an answer
+unfoldable pub printed : Answer → List ℕ
+printed a = rowLines (a .rows) ++ lastLine (a .close) (length (a .rows)) (a .moves)

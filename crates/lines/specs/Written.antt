@@ -1,0 +1,33 @@
+-- What the public functions for printing say, in the words of Print: bytes written into a lent slice, an ending's number, the rows that words stand for.
+use Prim.Native.Nat.{ℕ, zero, suc, _+_, min}
+use mathlib.Core.Path.{_≡_}
+use mathlib.Core.List.{List, [], _∷_}
+use lib.ListN.{length, take, drop, getD}
+use lib.Seq.{sets}
+use lib.IntN.{ℤ, pos}
+use Rattle.semantics.specs.Run.{Row, clamp}
+use Rattle.semantics.specs.Search.{Close, whole, cuts, full, spent}
+
+-- bytes written: `after` is `before` with these bytes from `at` on, every other byte kept, and `next` is the place past them
+pub record Put (before : List ℕ) (at : ℕ) (written : List ℕ) (after : List ℕ) (next : ℕ) : Type 0 where
+  pub past : next ≡ at + length written
+  pub kept : after ≡ sets before at written
+
+-- an ending by its number
+abbrev pub endingAt : ℕ → Close
+endingAt zero = whole
+endingAt (suc zero) = cuts
+endingAt (suc (suc zero)) = full
+endingAt (suc (suc (suc n))) = spent
+
+-- "A row is 10 signed 32-bit words: result, count of values, eight values, unused ones 0.": the row that ten words stand for
+abbrev pub countOf : ℤ → ℕ
+countOf z = min (clamp z) 8
+
+unfoldable pub rowOf : List ℤ → Row
+rowOf ws = record { result = getD ws 0 (pos 0); values = take (countOf (getD ws 1 (pos 0))) (drop 2 ws) }
+
+-- the n rows at the front of words
+unfoldable pub rowsOf : ℕ → List ℤ → List Row
+rowsOf zero ws = []
+rowsOf (suc n) ws = rowOf ws ∷ rowsOf n (drop 10 ws)

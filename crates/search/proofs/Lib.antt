@@ -1,0 +1,5 @@
+-- Theorems of list.
+pub mod Promises
+pub mod Examples
+pub mod Grounds
+pub mod Cleared

@@ -1,0 +1,22 @@
+-- What the answers of list and its parts stand for.
+use Prim.Native.Nat.{ℕ}
+use mathlib.Core.Option.{Option, none, some}
+use Rattle.semantics.specs.Search.{whole, cuts, full, spent}
+use Rattle.search.specs.List.{Answer, refused, listed}
+use Rattle.search.specs.declared.Listed.{Listed}
+use Rattle.search.specs.declared.Listed.the-variants.{Refused, Whole, Cut, Full, Spent}
+use Rattle.search.specs.declared.Ground.{Ground}
+use Rattle.search.specs.declared.Ground.the-variants.{Nothing, Number}
+
+-- list's answer, in document 01's words: number and place; or rows written, moves made and the ending
+abbrev pub answerOf : Listed → Answer
+answerOf (Refused n p) = refused n p
+answerOf (Whole r m) = listed r m whole
+answerOf (Cut r m) = listed r m cuts
+answerOf (Full r m) = listed r m full
+answerOf (Spent r m) = listed r m spent
+
+-- a ground for a refusal, by its number
+abbrev pub groundOf : Ground → Option ℕ
+groundOf Nothing = none
+groundOf (Number n) = some n
