@@ -12,7 +12,7 @@ use Rattle.rules.specs.Names.{badNames}
 use Rattle.rules.specs.Answers.{storedHeads, place}
 use Rattle.rules.specs.declared.broken.Broken as B
 use Rattle.rules.specs.declared.broken.Broken.the-variants as b
-use Rattle.scopes.specs.Steps.{Named}
+use Rattle.meanings.specs.Steps.{Named}
 use Rattle.checker.specs.Check.{Fault, fault, orElse, rules, firstBroken}
 use Rattle.checker.specs.Judge.{faultOf, Known, unless, chosen, Ruled, Judges}
 use Rattle.checker.specs.declared.Judged.{Judged}

@@ -64,11 +64,11 @@ fn rule_all(
     requires { ⌜ (3 * n ≤ length (now events)) × (2 * h ≤ length (now heads)) ⌝ }
     ensures { λ r. ⌜ Ruled (sameName (now (text .entry)) (now (places .entry)) (now (values .entry))) (isMain (now (text .entry)) (now (places .entry)) (now (values .entry))) end (stored (now (events .entry)) n) (storedHeads (now (heads .entry)) h) h misnamed r ⌝ }
 {
-    let deep = rules::depth::too_deep(events, n);
-    let miscalled = rules::calls::miscalls(text, places, values, events, n, heads, h);
-    let mainless = rules::mains::main_rule(text, places, values, heads, h, end);
-    let unended = rules::ends::open_ends(events, n);
-    let many = rules::counts::too_many(events, n);
+    let deep = breaches::depth::too_deep(events, n);
+    let miscalled = breaches::calls::miscalls(text, places, values, events, n, heads, h);
+    let mainless = breaches::mains::main_rule(text, places, values, heads, h, end);
+    let unended = breaches::ends::open_ends(events, n);
+    let many = breaches::counts::too_many(events, n);
     choose(deep, misnamed, miscalled, mainless, unended, many, h)
 }
 
@@ -88,7 +88,7 @@ pub fn judge(
     ensures { λ r. ⌜ Judges (sameName (now (text .entry)) (now (places .entry)) (now (values .entry))) (isMain (now (text .entry)) (now (places .entry)) (now (values .entry))) end (stored (now (events .entry)) n) (now (slots .entry)) (now (slots .exit)) (now (heads .exit)) r ⌝ }
 {
     let h = rules::heads::collect_heads(events, n, heads);
-    let misnamed = scopes::names::names(text, places, values, events, n, heads, h, scope, slots);
+    let misnamed = meanings::names::names(text, places, values, events, n, heads, h, scope, slots);
     rule_all(text, places, values, events, n, end, heads, h, misnamed)
 }
 

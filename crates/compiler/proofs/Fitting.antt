@@ -19,7 +19,7 @@ use Rattle.rules.specs.Resolve.{part, mainOf, resolved}
 use Rattle.semantics.specs.Program.{Stmts}
 use Rattle.simulation.specs.Code.{codeOf}
 use Rattle.simulation.specs.Words.{codeIn, Fits}
-use Rattle.simulation.proofs.Placed.{Placed}
+use Rattle.simulation.specs.Placed.{Placed}
 use Rattle.simulation.proofs.Inside.{Closed}
 use Rattle.compiler.specs.Coded.{word, program}
 use Rattle.compiler.specs.Sound.{Sound}

@@ -20,7 +20,7 @@ use Rattle.syntax.specs.Table.{Holds}
 use Rattle.rules.specs.Resolve.{Part, part}
 use Rattle.simulation.specs.Code.{codeOf}
 use Rattle.simulation.specs.Words.{codeIn, wordsOf, wordsIn, FitsE, FitsEs, FitsC, FitsS, FitsSs, FitsBs, Fits}
-use Rattle.simulation.proofs.Placed.{Placed}
+use Rattle.simulation.specs.Placed.{Placed}
 use Rattle.simulation.proofs.Inside.{Closed}
 use Rattle.simulation.proofs.Words.{length-words, placed-words, closed-words}
 use Rattle.compiler.specs.Coded.{word, program}

@@ -6,9 +6,8 @@ use mathlib.Core.List.{List, [], _∷_}
 use lib.Dec.{eqb}
 use lib.ListN.{length, set}
 use lib.Seq.{sets}
-use Rattle.syntax.specs.Ast.{Sort, Ast, args, prog}
+use Rattle.syntax.specs.Ast.{Sort, Ast, prog}
 use Rattle.syntax.specs.Table.{Holds}
-use Rattle.events.specs.Event.{count}
 use Rattle.events.specs.Walk.{Rooted}
 use Rattle.events.specs.Visit.{level}
 use Rattle.rules.specs.Resolve.{part}
@@ -47,10 +46,6 @@ pub record RoomP (l : List ℕ) (i : ℕ) (values slots code : List ℕ) (n : �
 -- the kind of an entry that takes two operands, or ends an argument, by the kind of the node: `*`, `+`, `-`, an argument, a comparison by its number
 unfoldable pub operationOf : ℕ → ℕ → ℕ
 operationOf k c = cond (eqb k 6) 6 (cond (eqb k 7) 4 (cond (eqb k 8) 5 (cond (eqb k 10) 3 (7 + c))))
-
--- r is the count of the arguments at node i
-pub record Arity (l : List ℕ) (i r : ℕ) : Type 0 where
-  pub is : (a : Ast args) → Holds l i a → r ≡ count a
 
 -- r is the count of the functions at node i
 pub record Functions (l : List ℕ) (i r : ℕ) : Type 0 where

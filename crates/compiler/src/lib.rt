@@ -5,10 +5,11 @@ ghost use lib.IntN.{pos, _-ℤ_};
 ghost use lib.ListN.{length, getD};
 ghost use lib.Seq.{sets};
 ghost use Rattle.semantics.specs.Int.{low32};
-ghost use Rattle.syntax.specs.Ast.{args, prog};
+ghost use Rattle.syntax.specs.Ast.{prog};
 ghost use Rattle.events.specs.Walk.{Rooted};
 ghost use Rattle.compiler.specs.Compile.{Ready, Compiled};
-ghost use Rattle.compiler.specs.Pass.{operationOf, Arity, Functions, Emitted, Aimed, Room, Written, RoomP, Built};
+ghost use Rattle.compiler.specs.Pass.{operationOf, Functions, Emitted, Aimed, Room, Written, RoomP, Built};
+use events::arity;
 use syntax::fetch;
 use syntax::kind;
 
@@ -59,23 +60,6 @@ fn aim(code: &mut [u32], i: usize, to: usize)
     ensures { λ r. ⌜ Aimed (now (code .entry)) (now (code .exit)) i to ⌝ }
 {
     code[2 * i + 1] = (to - (i + 1)) as u32;
-}
-
-// The count of the arguments at node i.
-fn arity(nodes: &[u32], i: usize) -> usize
-    requires { ⌜ Rooted args (now nodes) i ⌝ }
-    ensures { λ r. ⌜ Arity (now (nodes .entry)) i r ⌝ }
-{
-    let mut j = i;
-    let mut count = 0;
-    loop {
-        let node = fetch(nodes, j);
-        if node.kind != kind::MORE_ARGS {
-            return count;
-        }
-        j = node.first;
-        count += 1;
-    }
 }
 
 // The count of the functions at node i.

@@ -44,7 +44,7 @@ fn first_token(nodes: &[u32], i: usize) -> usize
 }
 
 // The count of the arguments at node i.
-fn arity(nodes: &[u32], i: usize) -> usize
+pub fn arity(nodes: &[u32], i: usize) -> usize
     requires { ⌜ Rooted args (now nodes) i ⌝ }
     ensures { λ r. ⌜ Count (now (nodes .entry)) i r ⌝ }
 {

@@ -3,9 +3,9 @@ ghost use mathlib.Core.Path.{_≡_};
 ghost use mathlib.Core.Bool.{true};
 ghost use mathlib.Core.List.{[], _∷_};
 ghost use Prim.Native.Nat.{ℕ, min, _+_, _-_, _*_, _≤_, _<_};
-ghost use lib.ListN.{length, take, drop, getD};
+ghost use lib.ListN.{length, drop, getD};
 ghost use Rattle.syntax.specs.Token.{kEnd, kName};
-ghost use Rattle.lexer.specs.Lex.{isDigit, isLetter, all, same, bytes, words, marks, kindIn, decimal, front};
+ghost use Rattle.lexer.specs.Lex.{isDigit, isLetter, all, same, words, marks, kindIn, decimal, front};
 ghost use Rattle.lexer.specs.Parts.{classOf, atLeast, span, limit, pieceOf, largeAs, firstLarge, Lexes};
 
 pub mod token;
@@ -142,22 +142,10 @@ pub fn same_bytes(a: &[u8], b: &[u8]) -> bool
     true
 }
 
-// The kind of a word: a reserved one, or a name.
-fn word_kind(word: &[u8]) -> u8
-    ensures { λ r. ⌜ r ≡ kindIn words kName (now (word .entry)) ⌝ }
+// The kind of a word that is none of the first four reserved ones.
+fn other_word_kind(word: &[u8]) -> u8
+    ensures { λ r. ⌜ r ≡ kindIn (drop 4 words) kName (now (word .entry)) ⌝ }
 {
-    if same_bytes(word, b"int") {
-        return token::INT;
-    }
-    if same_bytes(word, b"free") {
-        return token::FREE;
-    }
-    if same_bytes(word, b"if") {
-        return token::IF;
-    }
-    if same_bytes(word, b"else") {
-        return token::ELSE;
-    }
     if same_bytes(word, b"while") {
         return token::WHILE;
     }
@@ -174,6 +162,25 @@ fn word_kind(word: &[u8]) -> u8
         return token::FALSE;
     }
     token::NAME
+}
+
+// The kind of a word: a reserved one, or a name.
+fn word_kind(word: &[u8]) -> u8
+    ensures { λ r. ⌜ r ≡ kindIn words kName (now (word .entry)) ⌝ }
+{
+    if same_bytes(word, b"int") {
+        return token::INT;
+    }
+    if same_bytes(word, b"free") {
+        return token::FREE;
+    }
+    if same_bytes(word, b"if") {
+        return token::IF;
+    }
+    if same_bytes(word, b"else") {
+        return token::ELSE;
+    }
+    other_word_kind(word)
 }
 
 // A value with one more digit, up to the limit.
@@ -355,23 +362,4 @@ pub fn lex(text: &[u8], kinds: &mut [u8], places: &mut [u32], values: &mut [u32]
         return Lexed::Refused(3, large);
     }
     Lexed::Tokens(n + 1)
-}
-
-// Whether the names of m bytes at p and of n bytes at q are the same.
-pub fn same_name(text: &[u8], p: usize, m: usize, q: usize, n: usize) -> bool
-    requires { ⌜ (p + m ≤ length (now text)) × (q + n ≤ length (now text)) ⌝ }
-    ensures { λ r. ⌜ r ≡ same (take m (drop p (now (text .entry)))) (take n (drop q (now (text .entry)))) ⌝ }
-{
-    let a = p + m;
-    let b = q + n;
-    same_bytes(&text[p..a], &text[q..b])
-}
-
-// Whether the name of `size` bytes at `at` is main.
-pub fn is_main(text: &[u8], at: usize, size: usize) -> bool
-    requires { ⌜ at + size ≤ length (now text) ⌝ }
-    ensures { λ r. ⌜ r ≡ same (take size (drop at (now (text .entry)))) (bytes "main") ⌝ }
-{
-    let end = at + size;
-    same_bytes(&text[at..end], b"main")
 }

@@ -14,7 +14,7 @@ use Rattle.simulation.specs.Path.{begins}
 use Rattle.simulation.specs.Lister.{opening}
 use Rattle.simulation.proofs.Drive.{most-turns, kept-start, turns-le}
 use Rattle.simulation.proofs.Listing.{treeOf, Opens, OpensNext, leads-start, path-ok, opens-start}
-use Rattle.simulation.proofs.Placed.{Placed}
+use Rattle.simulation.specs.Placed.{Placed}
 use Rattle.simulation.proofs.Spending.{Fewer, path-fewer}
 use Rattle.machine.specs.Memory.{outcomesIn}
 use Rattle.settings.specs.declared.Tally.{Tally}

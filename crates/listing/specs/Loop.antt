@@ -14,7 +14,7 @@ use Rattle.simulation.specs.Machine.{start}
 use Rattle.simulation.specs.Path.{begins, End}
 use Rattle.simulation.specs.Lister as lister
 use Rattle.simulation.specs.Lister.{go, over, then, next, Start, finish, back, path}
-use Rattle.simulation.proofs.Placed.{Placed}
+use Rattle.simulation.specs.Placed.{Placed}
 use Rattle.machine.specs.Memory.{outcomesIn}
 use Rattle.settings.specs.declared.Tally.{Tally}
 use Rattle.settings.specs.declared.Tried.{Tried}

@@ -6,18 +6,18 @@ ghost use lib.ListN.{length};
 ghost use lib.IntN.{ℤ};
 ghost use Rattle.simulation.specs.Path as path;
 ghost use Rattle.simulation.specs.Words.{codeIn};
-ghost use Rattle.windows.specs.Meaning.{Filled, ofWindow};
+ghost use Rattle.intervals.specs.Meaning.{Filled, ofWindow};
 ghost use Rattle.machine.specs.Contracts.{Room, meant};
 ghost use Rattle.settings.specs.Tries.{tallyIn, Fair};
 ghost use Rattle.settings.specs.declared.Tried.the-variants as tried;
 ghost use Rattle.paths.specs.Point.{Standing};
 ghost use Rattle.listing.specs.Loop.{TakenBack, closes, paying, Backed, Finished, Round, Lists};
+use intervals::Window;
 use machine::Value;
 use paths::Point;
 use paths::Walked;
 use settings::Tally;
 use settings::Tried;
-use windows::Window;
 
 // The outcomes that are forced on the next path, by their count; or there is no next path.
 pub enum Next {

@@ -8,8 +8,8 @@ use lib.IntN.{ℤ}
 use mir.Syntax.{w32}
 use mir.Val.{toZ}
 use Rattle.semantics.specs.Search.{to}
-use Rattle.windows.specs.Meaning.{ofPairs}
-use Rattle.windows.specs.Memory.{pairsAt}
+use Rattle.intervals.specs.Meaning.{ofPairs}
+use Rattle.pairs.specs.Memory.{pairsAt}
 use Rattle.machine.specs.Memory.{windowsIn, settingIn, rangesIn, numbersIn, testAs, testsIn, outcomeAs, outcomesIn}
 use Rattle.machine.specs.Contracts.{Kept}
 

@@ -19,8 +19,8 @@ use Rattle.semantics.specs.Search.{to}
 use Rattle.simulation.specs.Machine.{Caller, Machine, machine}
 use Rattle.simulation.specs.Nodes.{Cell, Known, Open, Node, unknown, operation, meaning, Noted}
 use Rattle.ints.specs.Numbers as numbers
-use Rattle.windows.specs.Meaning.{ofPairs}
-use Rattle.windows.specs.Memory.{pairsAt}
+use Rattle.intervals.specs.Meaning.{ofPairs}
+use Rattle.pairs.specs.Memory.{pairsAt}
 use Rattle.machine.specs.declared.Run.{Run}
 
 -- a value of the program, as the search knows it
@@ -107,6 +107,9 @@ numbersIn m (suc n) = numbersIn m n ++ toZ w32 (getD m (1207 + 12 * n) 0) ∷ []
 -- a test's three words: its kind, and the second words of its two cells. The kind is the comparison's number, and to this 8 is added where the first cell is open, and 16 where the second is
 abbrev pub testAs : ℕ → ℕ → ℕ → Noted
 testAs k x y = record { compare = numbers.comparison (k % 8); left = cellAs (k / 8 % 2) x; right = cellAs (k / 16) y }
+
+abbrev pub testAt : List ℕ → ℕ → Noted
+testAt m t = testAs (getD m (1208 + 12 * t) 0) (getD m (1209 + 12 * t) 0) (getD m (1210 + 12 * t) 0)
 
 -- the first n tests, the newest first
 unfoldable pub testsIn : List ℕ → ℕ → List Noted

@@ -13,14 +13,14 @@ use Rattle.semantics.specs.Int.{Cmp}
 use Rattle.semantics.specs.Search.{Value, made, narrowed, decided}
 use Rattle.simulation.specs.Path.{state, outcome, later, holding}
 use Rattle.simulation.specs.Nodes.{Node, Noted, meaning, ranges, rangeIn, testOf}
-use Rattle.windows.proofs.Undecided.{undecided-negated}
-use Rattle.machine.specs.Memory.{nodeAt, nodesIn, windowsIn, rangesIn, testsIn, outcomeAs, outcomesIn}
+use Rattle.intervals.proofs.Undecided.{undecided-negated}
+use Rattle.machine.specs.Memory.{nodeAt, nodesIn, windowsIn, rangesIn, testsIn, outcomeAs, outcomesIn, testAt}
 use Rattle.machine.specs.Contracts.{cellOf, meant, Other}
 use Rattle.machine.specs.declared.Value as code
 use Rattle.machine.proofs.Tables.{room-same}
 use Rattle.paths.specs.declared.Point.{Point}
 use Rattle.paths.specs.Table.{Windows}
-use Rattle.paths.specs.Choice.{Named, Tables, testAt, testBy, Noting, Taken, Undecided, Narrowed}
+use Rattle.paths.specs.Choice.{Named, Tables, testBy, Noting, Taken, Undecided, Narrowed}
 use Rattle.paths.specs.Point.{Tested, Standing, Chose}
 use Rattle.paths.proofs.Table.{windows-same, node-same, nodes-same, ranges-same}
 use Rattle.paths.proofs.Choice.{outcomes-same}

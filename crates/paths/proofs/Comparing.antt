@@ -12,9 +12,10 @@ use Rattle.semantics.specs.Search.{Value, range, decided, narrowed, byRanges}
 use Rattle.simulation.specs.Machine.{Machine}
 use Rattle.simulation.specs.Path.{State, Went, on, outcome, holding, chose, choosing, comparing}
 use Rattle.simulation.specs.Nodes.{rangeIn}
-use Rattle.windows.specs.declared.Window as win
-use Rattle.windows.specs.declared.Decided.{Decided}
-use Rattle.windows.specs.Meaning.{ofWindow, ofDecided}
+use Rattle.intervals.specs.declared.Window as win
+use Rattle.ranges.specs.declared.Decided.{Decided}
+use Rattle.intervals.specs.Meaning.{ofWindow}
+use Rattle.ranges.specs.Meaning.{ofDecided}
 use Rattle.machine.specs.Memory.{machineAt, windowsIn, rangesIn}
 use Rattle.machine.specs.Contracts.{cellOf, meant, Ready, flagged}
 use Rattle.machine.specs.declared.Value as code

@@ -15,10 +15,10 @@ use Rattle.simulation.specs.Lister.{Tally, Next, Start, path}
 use Rattle.simulation.specs.Odometer.{filled}
 use Rattle.simulation.proofs.Drive.{most-turns, kept-start, turns-le}
 use Rattle.simulation.proofs.Listing.{treeOf, Opens, OpensNext, leads-start, path-ok}
-use Rattle.simulation.proofs.Placed.{Placed}
+use Rattle.simulation.specs.Placed.{Placed}
 use Rattle.simulation.proofs.Spending.{Fewer, path-fewer}
 use Rattle.simulation.proofs.Windows.{filled-of}
-use Rattle.windows.proofs.Ranges.{ordered}
+use Rattle.ranges.proofs.Ranges.{ordered}
 use Rattle.machine.specs.Memory.{windowsIn}
 use Rattle.paths.specs.declared.Point.{Point}
 use Rattle.paths.specs.Point.{Standing}

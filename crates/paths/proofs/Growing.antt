@@ -12,14 +12,14 @@ use Rattle.semantics.specs.Search.{Test, to, all32, span, fitted}
 use Rattle.semantics.proofs.Order.{up, down}
 use Rattle.simulation.specs.Nodes.{Node, unknown, operation, node, Noted, testOf, ranges}
 use Rattle.simulation.proofs.Nodes.{Each, ranges-last, ranges-window}
-use Rattle.windows.specs.Meaning.{Filled}
-use Rattle.windows.proofs.Ranges.{filled}
-use Rattle.machine.specs.Memory.{nodeAt, nodesIn, windowsIn, rangesIn, testsIn, outcomesIn}
+use Rattle.intervals.specs.Meaning.{Filled}
+use Rattle.ranges.proofs.Ranges.{filled}
+use Rattle.machine.specs.Memory.{nodeAt, nodesIn, windowsIn, rangesIn, testsIn, outcomesIn, testAt}
 use Rattle.machine.specs.Contracts.{Room, Other, Formed}
 use Rattle.machine.proofs.Tables.{room-same, within-more, meaning-kept}
 use Rattle.machine.proofs.Stays.{kept-none}
 use Rattle.paths.specs.Table.{Ranging, Ranged, Windows}
-use Rattle.paths.specs.Choice.{Named, Tables, testAt, Reached}
+use Rattle.paths.specs.Choice.{Named, Tables, Reached}
 use Rattle.paths.specs.Point.{Tested, Machinery}
 use Rattle.paths.specs.Turn.{Growing, Grown}
 use Rattle.paths.proofs.Table.{windows-same, node-same, nodes-same, ranges-same, ranging}

@@ -14,7 +14,7 @@ use Rattle.simulation.specs.Nodes.{Cell, testOf, meaning, ranges}
 use Rattle.simulation.proofs.Bounds.{Framed, Sound}
 use Rattle.simulation.proofs.Drive as drive
 use Rattle.simulation.proofs.Drive.{turns-left, Nears, Nearer, turn-nears}
-use Rattle.machine.specs.Memory.{nodesIn, cells, callers, machineAt, windowsIn, testsIn, outcomesIn}
+use Rattle.machine.specs.Memory.{nodesIn, cells, callers, machineAt, windowsIn, testsIn, outcomesIn, testAt}
 use Rattle.ints.specs.Numbers.{comparison}
 use Rattle.machine.specs.Contracts.{meant, Room, Kept, Ready, Goes, Gave, Tested, flagged, Done}
 use Rattle.machine.specs.declared.Did.{Did}
@@ -28,7 +28,7 @@ use Rattle.paths.specs.declared.Point.{Point}
 use Rattle.paths.specs.declared.Turned.{Turned}
 use Rattle.paths.specs.declared.Turned.the-variants.{On, Returned, Failed, Cut}
 use Rattle.paths.specs.Table.{Windows}
-use Rattle.paths.specs.Choice.{Named, Tables, testAt}
+use Rattle.paths.specs.Choice.{Named, Tables}
 use Rattle.paths.specs.Point as point
 use Rattle.paths.specs.Point.{stateAt, Standing, Usable, Going, running}
 use Rattle.paths.specs.Turn.{Growing, Onward, Stops, Gives, Turning, Onwards}

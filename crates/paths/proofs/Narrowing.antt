@@ -20,14 +20,15 @@ use Rattle.semantics.specs.Search.{all32, range, mirrored, decided, clipped, na
 use Rattle.semantics.proofs.Filled.{never-empty}
 use Rattle.simulation.specs.Nodes.{ranges, rangeIn}
 use Rattle.simulation.proofs.Nodes.{range-ok}
-use Rattle.windows.specs.declared.Window as win
+use Rattle.intervals.specs.declared.Window as win
 use Rattle.windows.specs.declared.Side.{Side}
-use Rattle.windows.specs.Meaning.{ofWindow, ofPair, ofPairs, Placed, rangeOf, variableOf, narrowedBy, Stands}
-use Rattle.windows.specs.Memory.{pairsAt, putPairs}
-use Rattle.windows.proofs.Ranges.{filled, ordered}
+use Rattle.intervals.specs.Meaning.{ofWindow, ofPair, ofPairs}
+use Rattle.windows.specs.Meaning.{Placed, rangeOf, variableOf, narrowedBy, Stands}
+use Rattle.pairs.specs.Memory.{pairsAt, putPairs}
+use Rattle.ranges.proofs.Ranges.{filled, ordered}
 use Rattle.windows.proofs.Pairs.{pairs-more}
 use Rattle.windows.proofs.Sides.{stands-range, narrowed-by}
-use Rattle.windows.proofs.Stored.{Ends, put-below, put-above, put-load}
+use Rattle.pairs.proofs.Stored.{Ends, put-below, put-above, put-load}
 use Rattle.machine.specs.Memory.{nodeAt, nodesIn, windowsIn, rangesIn}
 use Rattle.machine.specs.Contracts.{cellOf, meant, Other}
 use Rattle.machine.specs.declared.Value as code

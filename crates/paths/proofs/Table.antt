@@ -17,9 +17,9 @@ use Rattle.semantics.proofs.Filled.{range-filled}
 use Rattle.simulation.specs.Nodes.{Cell, Known, Open, Node, cell, node, meaning, ranges, rangeIn}
 use Rattle.simulation.proofs.Nodes.{range-ok, ranges-last}
 use Rattle.ints.specs.Numbers as numbers
-use Rattle.windows.specs.Meaning.{ofPair, ofPairs, Filled}
-use Rattle.windows.specs.Memory.{pairAt, pairsAt}
-use Rattle.windows.proofs.Ranges.{filled, ordered}
+use Rattle.intervals.specs.Meaning.{ofPair, Filled, ofPairs}
+use Rattle.pairs.specs.Memory.{pairAt, pairsAt}
+use Rattle.ranges.proofs.Ranges.{filled, ordered}
 use Rattle.machine.specs.Memory.{cellAs, nodeBy, nodeAt, nodesIn, windowsIn, rangesIn}
 use Rattle.machine.specs.Contracts.{Room}
 use Rattle.paths.specs.Table.{rangeAt, Ranging, Ranged, Windows, Anew}

@@ -14,14 +14,14 @@ use Rattle.simulation.specs.Machine.{Machine, Doing}
 use Rattle.simulation.specs.Path.{State, state, Turn, cut, on, ended, still, fresh, comparing, turning}
 use Rattle.simulation.specs.Nodes as nodes
 use Rattle.simulation.specs.Nodes.{Noted, testOf}
-use Rattle.windows.specs.Meaning.{Filled}
-use Rattle.machine.specs.Memory.{nodeAt, nodesIn, machineAt, windowsIn, testsIn, outcomesIn}
+use Rattle.intervals.specs.Meaning.{Filled}
+use Rattle.machine.specs.Memory.{nodeAt, nodesIn, machineAt, windowsIn, testsIn, outcomesIn, testAt}
 use Rattle.machine.specs.Contracts.{meant, Room, Ready, flagged}
 use Rattle.machine.specs.declared.Run.{Run}
 use Rattle.machine.specs.declared.Value as code
 use Rattle.paths.specs.declared.Point.{Point}
 use Rattle.paths.specs.Table.{Ranged}
-use Rattle.paths.specs.Choice.{Tables, testAt, Reached}
+use Rattle.paths.specs.Choice.{Tables, Reached}
 use Rattle.paths.specs.Point.{stateAt, Tested, Standing, Machinery, Compared}
 use Rattle.paths.specs.Turn.{Growing, Grown, spending, declaring, Onward, Stops}
 use Rattle.paths.proofs.Choice.{windows-length}

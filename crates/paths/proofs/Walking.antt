@@ -16,8 +16,8 @@ use Rattle.simulation.specs.Nodes.{ranges, pass}
 use Rattle.simulation.specs.Lister.{Tally, tally, Next, go, over, then, closed, charge, charged, finish, Start, back, path}
 use Rattle.simulation.proofs.Bounds.{sound-start}
 use Rattle.simulation.proofs.Drive.{turns-left, kept-start, turns-le}
-use Rattle.windows.specs.Meaning.{Filled}
-use Rattle.windows.proofs.Ranges.{filled}
+use Rattle.intervals.specs.Meaning.{Filled}
+use Rattle.ranges.proofs.Ranges.{filled}
 use Rattle.machine.specs.Memory.{nodesIn, machineAt, rangesIn, testsIn, outcomesIn}
 use Rattle.machine.specs.Contracts.{Room, Started}
 use Rattle.machine.specs.declared.Run.{Run}

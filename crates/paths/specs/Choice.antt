@@ -11,7 +11,7 @@ use Rattle.semantics.specs.Search.{decided, narrowed}
 use Rattle.simulation.specs.Path.{outcome, later}
 use Rattle.simulation.specs.Nodes.{Node, unknown, operation, Within, Noted, ranges, rangeIn}
 use Rattle.ints.specs.Numbers.{comparison}
-use Rattle.machine.specs.Memory.{nodeAt, nodesIn, windowsIn, rangesIn, testAs, outcomeAs, outcomesIn}
+use Rattle.machine.specs.Memory.{nodeAt, nodesIn, windowsIn, rangesIn, testAt, outcomeAs, outcomesIn}
 use Rattle.machine.specs.Contracts.{cellOf, Sized, meant, Room, Other}
 use Rattle.machine.specs.declared.Value as code
 use Rattle.machine.specs.declared.Value.the-variants.{Known, Open}
@@ -43,9 +43,6 @@ pub record Reached (m m′ : List ℕ) (job : Window) (k : ℕ) : Type 0 where
 abbrev pub bit : code.Value → ℕ
 bit (Known z) = 0
 bit (Open j) = 1
-
-abbrev pub testAt : List ℕ → ℕ → Noted
-testAt m t = testAs (getD m (1208 + 12 * t) 0) (getD m (1209 + 12 * t) 0) (getD m (1210 + 12 * t) 0)
 
 abbrev pub testBy : Cmp → code.Value → code.Value → Noted
 testBy c v w = record { compare = c; left = cellOf v; right = cellOf w }

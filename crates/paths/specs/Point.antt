@@ -9,12 +9,12 @@ use Rattle.semantics.specs.Run.{Window}
 use Rattle.semantics.specs.Search.{narrowed, byRanges}
 use Rattle.simulation.specs.Path.{State, state, outcome, holding, chose, on, comparing}
 use Rattle.simulation.specs.Nodes.{Within, Noted, testOf}
-use Rattle.machine.specs.Memory.{nodesIn, machineAt, windowsIn, testsIn, outcomesIn}
+use Rattle.machine.specs.Memory.{nodesIn, machineAt, windowsIn, testsIn, outcomesIn, testAt}
 use Rattle.machine.specs.Contracts.{cellOf, Sized, meant, Room, Ready, flagged}
 use Rattle.machine.specs.declared.Value as code
 use Rattle.machine.specs.declared.Run.{Run}
 use Rattle.paths.specs.declared.Point.{Point}
-use Rattle.paths.specs.Choice.{testAt, Tables}
+use Rattle.paths.specs.Choice.{Tables}
 
 -- the state: a choice is noted with its test, so that there are as many tests as choices
 abbrev pub stateAt : List ℕ → Point → State

@@ -7,7 +7,7 @@ use lib.IntN.{pos}
 use Rattle.semantics.specs.Run.{Window}
 use Rattle.semantics.specs.Search.{to, all32, span, fitted}
 use Rattle.simulation.specs.Nodes.{node, ranges}
-use Rattle.windows.specs.Meaning.{Filled}
+use Rattle.intervals.specs.Meaning.{Filled}
 use Rattle.machine.specs.Memory.{nodeAt, nodesIn, windowsIn, rangesIn}
 use Rattle.machine.specs.Contracts.{Other}
 

@@ -13,7 +13,8 @@ ghost use Rattle.simulation.specs.Words.{codeIn};
 ghost use Rattle.simulation.specs.Nodes as nodes;
 ghost use Rattle.simulation.specs.Nodes.{rangeIn, Within};
 ghost use Rattle.ints.specs.Numbers.{comparison};
-ghost use Rattle.windows.specs.Meaning.{Filled, ofWindow, variableOf, Stands};
+ghost use Rattle.intervals.specs.Meaning.{Filled, ofWindow};
+ghost use Rattle.windows.specs.Meaning.{variableOf, Stands};
 ghost use Rattle.machine.specs.Memory.{Sym, cellAs, nodeAt, windowsIn, rangesIn, outcomesIn, machineAt};
 ghost use Rattle.machine.specs.Contracts.{cellOf, Sized, meant, Room, Ready, flagged};
 ghost use Rattle.paths.specs.Table.{rangeAt, Ranging, Ranged, Windows, Anew};
@@ -21,12 +22,12 @@ ghost use Rattle.paths.specs.Choice.{Tables, Reached, bit, testBy, Notin
 ghost use Rattle.paths.specs.Point.{stateAt, Standing, Chose, chosen, running, flagging, Usable, Compared, Going};
 ghost use Rattle.paths.specs.Turn.{Growing, Grown, spending, declaring, Turning, Onwards};
 ghost use Rattle.paths.specs.Walk.{Walking};
+use intervals::Window;
 use machine::Did;
 use machine::Run;
 use machine::Value;
-use windows::Decided;
+use ranges::Decided;
 use windows::Side;
-use windows::Window;
 
 // Where a path stands, beside the memory: the machine's run, the steps that may still be made, how many windows and choices there are, and how many forced outcomes are still to come.
 pub struct Point {
@@ -121,7 +122,7 @@ fn range_at(mem: &[u32], k: usize, j: usize) -> Window
     }
     let v = cell_range(mem, j, kind / 4 % 2, x);
     let w = cell_range(mem, j, kind / 8, y);
-    windows::range(op - 1, v, w)
+    ranges::range(op - 1, v, w)
 }
 
 // Node j gets its range.
@@ -151,8 +152,8 @@ fn reach(mem: &mut [u32], job: Window, k: usize)
     requires { ⌜ (k < 8) × (1200 ≤ length (now mem)) ⌝ }
     ensures { λ _. ⌜ Reached (now (mem .entry)) (now (mem .exit)) (ofWindow job) k ⌝ }
 {
-    let ws = windows::load(mem, 1120);
-    windows::put(mem, 1120, windows::with_pair(ws, k, [job.low, job.high]));
+    let ws = pairs::load(mem, 1120);
+    pairs::put(mem, 1120, windows::with_pair(ws, k, [job.low, job.high]));
 }
 
 // A side of a comparison, in k windows with n nodes.
@@ -235,8 +236,8 @@ fn narrow(mem: &mut [u32], k: usize, n: usize, c: u32, v: Value, w: Value)
             return;
         }
     }
-    let ws = windows::load(mem, 1120);
-    windows::put(mem, 1120, windows::narrowed(ws, c, a, b));
+    let ws = pairs::load(mem, 1120);
+    pairs::put(mem, 1120, windows::narrowed(ws, c, a, b));
     all_ranges(mem, k, n);
 }
 
@@ -245,7 +246,7 @@ fn holding(o: bool, c: u32) -> u32
     requires { ⌜ c < 6 ⌝ }
     ensures { λ r. ⌜ (comparison r ≡ holdingS o (comparison c)) × (r < 6) ⌝ }
 {
-    if o { c } else { windows::negated(c) }
+    if o { c } else { ranges::negated(c) }
 }
 
 // A choice: its outcome is taken, its test noted, and the windows narrow.
@@ -312,7 +313,7 @@ fn compare(mem: &mut [u32], p: Point, c: u32, v: Value, w: Value) -> Point
     let run = p.run;
     let a = range_of(mem, run.nodes, v);
     let b = range_of(mem, run.nodes, w);
-    match windows::decide(c, a, b) {
+    match ranges::decide(c, a, b) {
         Decided::True => flag(p, true),
         Decided::False => flag(p, false),
         Decided::Open => {

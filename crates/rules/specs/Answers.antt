@@ -1,5 +1,5 @@
 -- What the enums and the stored words of the code stand for.
-use Prim.Native.Nat.{ℕ, zero, suc, _+_, _*_, _≤_, _<_}
+use Prim.Native.Nat.{ℕ, zero, suc, _+_, _*_, _≤_}
 use mathlib.Core.Path.{_≡_}
 use mathlib.Core.List.{List, [], _∷_}
 use mathlib.Core.Option.{Option, none, some}
@@ -7,8 +7,7 @@ use lib.ListN.{getD}
 use Rattle.events.specs.Event.{Event, function, parameter, thing, opens, closes, declares, uses, calls, ends}
 use Rattle.events.specs.Stored.{stored}
 use Rattle.rules.specs.Scan.{lesser}
-use Rattle.rules.specs.Rules.{Head, heads, Tally, tally}
-use Rattle.rules.specs.declared.counts.Tally as C
+use Rattle.rules.specs.Rules.{Head, heads}
 use Rattle.rules.specs.declared.heads.Found.{Found}
 use Rattle.rules.specs.declared.heads.Found.the-variants.{Nothing, Number}
 use Rattle.rules.specs.declared.item.Item.{Item}
@@ -37,15 +36,6 @@ place (At i) = some i
 unfoldable pub leastWith : List ℕ → Option ℕ → Option ℕ
 leastWith [] p = p
 leastWith (i ∷ is) p = lesser i (leastWith is p)
-
--- the tally that the code keeps; each count leaves room for one more
-abbrev pub tallied : C.Tally → Tally
-tallied t = tally (t .functions) (t .parameters) (t .declarations)
-
-pub record Room (t : C.Tally) : Type 0 where
-  pub functions : t .functions < 9223372036854775808
-  pub parameters : t .parameters < 9223372036854775808
-  pub declarations : t .declarations < 9223372036854775808
 
 -- the number that was found, if one was
 abbrev pub found : Found → Option ℕ

@@ -1,9 +1,5 @@
-// The rules of a text.
+// The functions of a text, its events and its names as the rules need them.
 pub mod broken;
-pub mod calls;
-pub mod counts;
-pub mod depth;
-pub mod ends;
 pub mod heads;
 pub mod item;
 pub mod mains;

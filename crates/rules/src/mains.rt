@@ -1,15 +1,10 @@
-// Rule 8: the function main.
+// The function main.
 ghost use mathlib.Core.Path.{_≡_};
-ghost use mathlib.Core.List.{[], _∷_};
 ghost use Prim.Native.Nat.{_*_, _≤_};
 ghost use lib.ListN.{length};
-ghost use Rattle.rules.specs.Scan.{least};
 ghost use Rattle.rules.specs.Spelling.{isMain};
-ghost use Rattle.rules.specs.Rules.{mains, withParameters, badMain};
 ghost use Rattle.rules.specs.Resolve.{mainOf};
-ghost use Rattle.rules.specs.Answers.{place, leastWith, storedHeads, head};
-use crate::broken::Broken;
-use crate::broken::lesser;
+ghost use Rattle.rules.specs.Answers.{storedHeads};
 use crate::spelling::is_main;
 use crate::spelling::word;
 
@@ -27,57 +22,4 @@ pub fn main_number(text: &[u8], places: &[u32], values: &[u32], heads: &[u32], h
         k += 1;
     }
     h
-}
-
-// What breaks the rule at one function, with what was found before.
-fn main_with(
-    text: &[u8],
-    places: &[u32],
-    values: &[u32],
-    name: usize,
-    arity: usize,
-    best: Broken,
-) -> Broken
-    ensures { λ r. ⌜ place r ≡ leastWith (withParameters (isMain (now (text .entry)) (now (places .entry)) (now (values .entry))) (mains (isMain (now (text .entry)) (now (places .entry)) (now (values .entry))) (head name arity ∷ []))) (place best) ⌝ }
-{
-    if is_main(text, places, values, name) {
-        if 0 < arity {
-            return lesser(name, best);
-        }
-    }
-    best
-}
-
-// The least of the names of those of h functions that are main and have parameters.
-fn mains_with(text: &[u8], places: &[u32], values: &[u32], heads: &[u32], h: usize) -> Broken
-    requires { ⌜ 2 * h ≤ length (now heads) ⌝ }
-    ensures { λ r. ⌜ place r ≡ least (withParameters (isMain (now (text .entry)) (now (places .entry)) (now (values .entry))) (mains (isMain (now (text .entry)) (now (places .entry)) (now (values .entry))) (storedHeads (now (heads .entry)) h))) ⌝ }
-{
-    let mut best = Broken::Nowhere;
-    let mut k = 0;
-    while k < h {
-        let name = word(heads, 2 * k);
-        let arity = word(heads, 2 * k + 1);
-        best = main_with(text, places, values, name, arity, best);
-        k += 1;
-    }
-    best
-}
-
-// What is wrong with main: there is none among the h functions (at the end's token), or it has parameters.
-pub fn main_rule(
-    text: &[u8],
-    places: &[u32],
-    values: &[u32],
-    heads: &[u32],
-    h: usize,
-    end: usize,
-) -> Broken
-    requires { ⌜ 2 * h ≤ length (now heads) ⌝ }
-    ensures { λ r. ⌜ place r ≡ least (badMain (isMain (now (text .entry)) (now (places .entry)) (now (values .entry))) end (mains (isMain (now (text .entry)) (now (places .entry)) (now (values .entry))) (storedHeads (now (heads .entry)) h))) ⌝ }
-{
-    if main_number(text, places, values, heads, h) < h {
-        return mains_with(text, places, values, heads, h);
-    }
-    Broken::At(end)
 }

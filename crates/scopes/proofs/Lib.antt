@@ -1,7 +1,3 @@
 -- Laws that the proofs of several functions cite.
 pub mod Blocks
 pub mod Seeking
-pub mod Seeing
-pub mod Meanings
-pub mod Merging
-pub mod Walks

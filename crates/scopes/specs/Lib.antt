@@ -1,4 +1,3 @@
--- Scopes: the names of a text, as the code holds them.
+-- Scopes: the declarations that can be seen, as the code holds them.
 pub mod Memory
 pub mod Answers
-pub mod Steps

@@ -3,7 +3,7 @@ use Prim.Native.Nat.{ℕ, zero, suc, _+_, _-_, _*_, _^_, _≤_, _<_}
 use mathlib.Core.Path.{_≡_}
 use mathlib.Core.List.{List, [], _∷_}
 use lib.ListN.{length, getD}
-use Rattle.events.specs.Event.{Event}
+use Rattle.events.specs.Event.{Event, function, parameter, thing, opens, closes, declares, uses, calls, ends}
 use Rattle.rules.specs.Names as N
 use Rattle.rules.specs.Names.{Declared, entered}
 use Rattle.scopes.specs.declared.scope.Scope.{Scope}
@@ -46,6 +46,18 @@ pub record Room (l : List ℕ) (s : Scope) : Type 0 where
   pub seen : 3 * s .seen + 3 ≤ length l
   pub small : s .seen < 2 ^ 32
   pub next : s .next < 2 ^ 32
+
+-- the token of an event, 0 where it has none
+unfoldable pub tokenOf : Event → ℕ
+tokenOf (function i) = i
+tokenOf (parameter i) = i
+tokenOf (thing d i) = i
+tokenOf opens = 0
+tokenOf closes = 0
+tokenOf (declares i) = i
+tokenOf (uses i) = i
+tokenOf (calls i n) = i
+tokenOf (ends i b) = i
 
 -- an event has been entered
 pub record Moved (l : List ℕ) (s : Scope) (e : Event) (l′ : List ℕ) (s′ : Scope) : Type 0 where

@@ -1,4 +1,3 @@
-// Rule 6 of a text: names. And what each name means.
+// Scopes: the declarations that can be seen, and the lookup of a name.
 pub mod lookup;
-pub mod names;
 pub mod scope;

@@ -4,8 +4,7 @@ ghost use Prim.Native.Nat.{_+_, _*_, _^_, _≤_, _<_};
 ghost use lib.ListN.{length};
 ghost use Rattle.events.specs.Event.{function, opens, closes, declares};
 ghost use Rattle.rules.specs.Answers.{event};
-ghost use Rattle.scopes.specs.Memory.{Room, Moved};
-ghost use Rattle.scopes.specs.Steps.{tokenOf};
+ghost use Rattle.scopes.specs.Memory.{Room, Moved, tokenOf};
 use rules::item::Item;
 use rules::spelling::word;
 

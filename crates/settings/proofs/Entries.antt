@@ -16,7 +16,7 @@ use mir.Val.{toZ, ofZ, Fits, SFits}
 use mir.Facts.{toZ-ofZ, sfits-toZ}
 use Rattle.semantics.specs.Int as int
 use Rattle.semantics.proofs.Order.{ltZ→}
-use Rattle.windows.proofs.Narrow.{suc-fits}
+use Rattle.intervals.proofs.Narrow.{suc-fits}
 use Rattle.simulation.specs.Nodes.{Cell, Known, Open, cell, node, numberIn}
 use Rattle.ints.specs.Numbers as numbers
 use Rattle.machine.specs.Memory.{cellAs, nodeBy, nodeAt, nodesIn, settingIn, numbersIn}

@@ -9,9 +9,9 @@ use Rattle.semantics.specs.Search as search
 use Rattle.semantics.specs.Search.{under}
 use Rattle.simulation.specs.Nodes.{Cell, Node, Noted, meaning, testOf, numberIn, meetsIn}
 use Rattle.simulation.proofs.Nodes.{number-ok, meets-ok}
-use Rattle.machine.specs.Memory.{nodesIn, settingIn, numbersIn, testsIn, windowsIn}
+use Rattle.machine.specs.Memory.{nodesIn, settingIn, numbersIn, testsIn, windowsIn, testAt}
 use Rattle.machine.specs.Contracts.{Other}
-use Rattle.settings.specs.Table.{windowAt, testAt, Numbered, Renumbered, Steady, Holding}
+use Rattle.settings.specs.Table.{windowAt, Numbered, Renumbered, Steady, Holding}
 use Rattle.settings.specs.Tries.{tests}
 use Rattle.settings.proofs.Pass.{setting-same, nodes-same}
 use Rattle.settings.proofs.Turns.{tab-same, windows-tab}

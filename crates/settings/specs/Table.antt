@@ -11,9 +11,9 @@ use mir.Val.{toZ}
 use Rattle.semantics.specs.Int.{arith, holds}
 use Rattle.semantics.specs.Run.{Window}
 use Rattle.semantics.specs.Search.{to}
-use Rattle.simulation.specs.Nodes.{node, numbers, numberIn, Noted}
+use Rattle.simulation.specs.Nodes.{node, numbers, numberIn}
 use Rattle.simulation.specs.Odometer.{lowest, after}
-use Rattle.machine.specs.Memory.{nodeAt, nodesIn, windowsIn, settingIn, numbersIn, testAs}
+use Rattle.machine.specs.Memory.{nodeAt, nodesIn, windowsIn, settingIn, numbersIn, testAt}
 use Rattle.machine.specs.Contracts.{Room, Other}
 
 -- ---- single entries
@@ -28,9 +28,6 @@ valueAt m i = toZ w32 (getD m (1136 + i) 0)
 -- the number of node j under the setting of k free variables, from the numbers of those before it
 abbrev pub numberAt : List ℕ → ℕ → ℕ → ℤ
 numberAt m k j = node (λ z. z) (λ i. getD (settingIn m k) i (pos 0)) arith (numbersIn m j) (nodeAt m j)
-
-abbrev pub testAt : List ℕ → ℕ → Noted
-testAt m j = testAs (getD m (1208 + 12 * j) 0) (getD m (1209 + 12 * j) 0) (getD m (1210 + 12 * j) 0)
 
 -- whether test j holds, from the numbers of n nodes
 abbrev pub holdsAt : List ℕ → ℕ → ℕ → Bool

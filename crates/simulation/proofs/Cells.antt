@@ -25,7 +25,7 @@ use Rattle.simulation.proofs.Nodes.{meaning-grows, adding-ok, working-o
 use Rattle.simulation.proofs.Mapped as mapped
 use Rattle.simulation.proofs.Mapped.{Maps, Operates, map-advance, map-frame}
 use Rattle.simulation.proofs.Held.{AllWithin, CallersWithin, MachineWithin, TestsWithin, tests-more, DoingWithin, operands, advance-within, within-start, Adds, nothing, one, grown-adds}
-use Rattle.simulation.proofs.Placed.{Placed}
+use Rattle.simulation.specs.Placed.{Placed}
 use Rattle.simulation.proofs.Drive.{most-turns}
 use Rattle.simulation.proofs.Listing.{placed-lists}
 

@@ -18,7 +18,8 @@ use Rattle.simulation.specs.Machine.{Machine, Doing, advance, start}
 use Rattle.simulation.specs.Path.{holding, outcome, later, State, state, begins, End, returned, failed, cut, Went, on, ended, Turn, fresh, counted, still, siding, choosing, stepped, reached, comparing, turning, turn}
 use Rattle.simulation.proofs.Replay.{Has}
 use Rattle.simulation.proofs.Route.{Route, stepping, taking, ending, sided, route, of, route-of}
-use Rattle.simulation.proofs.Placed.{Placed, placed}
+use Rattle.simulation.specs.Placed.{Placed}
+use Rattle.simulation.proofs.Placed.{placed}
 use Rattle.simulation.proofs.Simulate as simulate
 use Rattle.simulation.proofs.Simulate.{Runs, Makes, does-runs}
 use Rattle.simulation.proofs.Bounds.{Sound, Sounds, sound-start, sound-advance, silents, Falls, silent-falls}

@@ -6,7 +6,7 @@ use native.Mathlib.Omega.{arith}
 use native.Mathlib.Nat.{le-refl, le-trans, lt-of-lt-of-le}
 use Rattle.semantics.specs.Program.{Expr, Exprs, Cond, Stmt, Stmts}
 use Rattle.simulation.specs.Code.{Entry, count}
-use Rattle.simulation.proofs.Placed.{at, InE, InEs, InC, InS, InSs, InB}
+use Rattle.simulation.specs.Placed.{at, InE, InEs, InC, InS, InSs, InB}
 
 -- ---- how far a part goes
 

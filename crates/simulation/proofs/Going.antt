@@ -20,7 +20,7 @@ use Rattle.simulation.specs.Odometer.{filled, lowest, after}
 use Rattle.simulation.specs.Lister.{Tally, tally, Next, go, over, then, closed, closing, charge, charged, following, next, Start, back, opening}
 use Rattle.simulation.specs.Cells.{Store, CellSolver, machineOf, stateOf, worked, End, returned, failed, cut, Went, on, ended, endOf, wentOf, turn, trial, probe, begins}
 use Rattle.simulation.proofs.Replay.{Has, onwards}
-use Rattle.simulation.proofs.Placed.{Placed}
+use Rattle.simulation.specs.Placed.{Placed}
 use Rattle.simulation.proofs.Inside.{Closed}
 use Rattle.simulation.proofs.Drive.{last}
 use Rattle.simulation.proofs.Odometer.{from, Lies, no-setting, from-lowest, from-next, lies-lowest, LiesNext, lies-after, onward}

@@ -18,7 +18,8 @@ use Rattle.simulation.specs.Path.{State, begins, End, returned, failed, 
 use Rattle.simulation.specs.Lister.{Tally, tally, Next, go, over, then, closed, closing, charge, charged, place, trial, trials, probe, probes, finish, next, Start, back, path, searching, opening}
 use Rattle.simulation.proofs.Replay.{Has, ahead, replayed, one-path, take-back, onwards, has-chosen, HasSome, has-next, chosen}
 use Rattle.simulation.proofs.Route.{Route, of, route-of}
-use Rattle.simulation.proofs.Placed.{Placed, placed}
+use Rattle.simulation.specs.Placed.{Placed}
+use Rattle.simulation.proofs.Placed.{placed}
 use Rattle.simulation.proofs.Spending.{Fewer, path-fewer}
 use Rattle.simulation.proofs.Drive.{last, moving, Goes, GoesOn, turn-keeps, goes-start, turns-left, Kept, Nears, turn-nears, kept-start, most-turns, turns-le}
 

@@ -14,7 +14,7 @@ use Rattle.semantics.specs.Program.{Expr, Exprs, Cond, Stmt, Stmts, Program}
 use Rattle.semantics.specs.Does.{Does, frame, expr, exprs, loop, stmt, stmts, enter, does, fetch, store}
 use Rattle.simulation.specs.Code.{Act, Entry, argument, act, Code, count}
 use Rattle.simulation.specs.Machine.{Caller, Machine, Doing, machine, entryAt, reading, taken, two, gather, entering, leaving, working, advance, start}
-use Rattle.simulation.proofs.Placed.{InE, InEs, InC, InS, InSs, InB, Placed}
+use Rattle.simulation.specs.Placed.{InE, InEs, InC, InS, InSs, InB, Placed}
 
 module _ {X : Type 0} (num : ℤ → X) (work : Op → X → X → X) (c : Code) where
   -- For n steps, the machine does what the tree does, and what it does next is what the tree does.

@@ -12,7 +12,8 @@ use Rattle.semantics.specs.Program.{slot, Expr, Exprs, Cond, Stmt, Stmts, Progr
 use Rattle.semantics.specs.Does.{frame}
 use Rattle.simulation.specs.Code.{number, name, operate, compare, call, constant, jump, skip, again, begin, clear, ask, store, return, fail, Entry, leaf, argument, act, Code, codeE, codeEs, codeC, codeS, codeSs, codeB, entriesOf, startsOf, codeOf}
 use Rattle.simulation.specs.Words.{entryOf, entriesIn, codeIn, kindOf, wordOf, wordsOf, wordsIn, Plain, FitsE, FitsEs, FitsC, FitsS, FitsSs, FitsBs, Fits}
-use Rattle.simulation.proofs.Placed.{Placed, InB, placed}
+use Rattle.simulation.specs.Placed.{Placed, InB}
+use Rattle.simulation.proofs.Placed.{placed}
 use Rattle.simulation.proofs.Inside.{Closed, closed}
 
 pub length-entries : (ws : List ℕ) (i n : ℕ) → length (entriesIn ws i n) ≡ n

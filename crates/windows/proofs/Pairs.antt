@@ -8,7 +8,7 @@ use lib.Seq.{take-suc-set}
 use lib.IntN.{ℤ}
 use Rattle.semantics.specs.Run.{Window}
 use Rattle.semantics.specs.Search.{all32}
-use Rattle.windows.specs.Meaning.{ofPair, ofPairs}
+use Rattle.intervals.specs.Meaning.{ofPair, ofPairs}
 
 pub pairs-at : (ps : List (List ℤ)) (i : ℕ) → i < length ps → getD (ofPairs ps) i all32 ≡ ofPair (getD ps i [])
 pairs-at [] i h = absurd (omega arith)

@@ -13,12 +13,12 @@ use Rattle.semantics.specs.Int.{Cmp, eqZ}
 use Rattle.semantics.specs.Run.{Window}
 use Rattle.semantics.specs.Search.{Value, known, unknown, open′, to, all32, range, mirrored, decided, clip, clipped, narrowed}
 use Rattle.semantics.proofs.Order.{_≺_, eqZ→}
-use Rattle.windows.specs.declared.Window as code
+use Rattle.intervals.specs.declared.Window as code
 use Rattle.windows.specs.declared.Side.{Side}
 use Rattle.windows.specs.declared.Side.the-variants.{Free, Other}
 use Rattle.windows.specs.Meaning.{rangeOf, variableOf, narrowedBy, Placed, Stands}
-use Rattle.windows.proofs.Undecided.{false-of, around, decided-mirrored}
-use Rattle.windows.proofs.Narrow.{same}
+use Rattle.intervals.proofs.Undecided.{false-of, around, decided-mirrored}
+use Rattle.intervals.proofs.Narrow.{same}
 
 pub placed : {i : ℕ} → Placed (Free i) → i < 8
 placed (Placed.free h) = h

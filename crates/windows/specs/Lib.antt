@@ -1,3 +1,2 @@
--- Ranges, deciding and narrowing are defined in `semantics` (Search); here stands what the code's types mean in its words.
+-- Narrowing is defined in `semantics` (Search); here stands what the code's types mean in its words.
 pub mod Meaning
-pub mod Memory

@@ -1,41 +1,16 @@
 -- What the code's types stand for, in the words of `semantics`.
 use Prim.Native.Nat.{ℕ, _<_}
 use mathlib.Core.Path.{_≡_}
-use mathlib.Core.Bool.{Bool, true, false}
-use mathlib.Core.Option.{Option, none, some}
-use mathlib.Core.List.{List, map}
+use mathlib.Core.List.{List}
 use lib.ListN.{getD, length}
 use lib.IntN.{ℤ, pos}
-use lib.Signed.{leZ}
 use Rattle.semantics.specs.Int.{Op, Cmp}
 use Rattle.semantics.specs.Run.{Window}
-use Rattle.semantics.specs.Search.{to, all32, range, mirrored, clipped, Value, known, unknown, open′}
-use Rattle.windows.specs.declared.Window as code
-use Rattle.windows.specs.declared.Decided.{Decided}
-use Rattle.windows.specs.declared.Decided.the-variants.{True, False, Open}
+use Rattle.semantics.specs.Search.{all32, range, mirrored, clipped, Value, known, unknown, open′}
+use Rattle.intervals.specs.Meaning.{ofWindow}
+use Rattle.intervals.specs.declared.Window as code
 use Rattle.windows.specs.declared.Side.{Side}
 use Rattle.windows.specs.declared.Side.the-variants.{Free, Other}
-
-abbrev pub ofWindow : code.Window → Window
-ofWindow w = to (w .low) (w .high)
-
--- there is a number from low to high
-abbrev pub Filled : Window → Type 0
-Filled w = leZ (w .low) (w .high) ≡ true
-
--- a pair is low and high
-abbrev pub ofPair : List ℤ → Window
-ofPair p = to (getD p 0 (pos 0)) (getD p 1 (pos 0))
-
--- "The windows of a path are eight pairs, low and high"
-abbrev pub ofPairs : List (List ℤ) → List Window
-ofPairs ps = map ofPair ps
-
--- "If the two ranges decide a comparison, it is decided."
-abbrev pub ofDecided : Decided → Option Bool
-ofDecided True = some true
-ofDecided False = some false
-ofDecided Open = none
 
 -- ---- the sides of a comparison: "where one side is just a free variable and the other's range is one number"
 

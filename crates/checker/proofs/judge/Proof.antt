@@ -3,7 +3,7 @@ use lib.ListN.{length}
 use mathlib.Core.Path.{_≡_, refl, sym, ap, _∙_}
 use Rattle.rules.specs.Spelling.{sameName, isMain}
 use Rattle.events.specs.Stored.{stored}
-use Rattle.scopes.proofs.Walks.{as-many}
+use Rattle.meanings.proofs.Walks.{as-many}
 use Rattle.checker.proofs.Faults.{judges}
 use borrow.Author.Needs.{needs}
 use Rattle.checker.proofs.judge.Statement.{statement}
@@ -12,7 +12,7 @@ use Rattle.checker.proofs.judge.Reads as reads
 use Rattle.checker.proofs.judge.Lts as lts
 use Rattle.checker.proofs.rule_all.Reads as rule-all-reads
 use Rattle.rules.proofs.heads.collect_heads.Reads as collect-heads-reads
-use Rattle.scopes.proofs.names.names.Reads as names-reads
+use Rattle.meanings.proofs.names.names.Reads as names-reads
 
 -- src/lib.rt:78:9
 collect-heads-requires : tie.Need-collect-heads-requires

@@ -22,7 +22,7 @@ use Rattle.compiler.proofs.expression.Reads as expression
 use Rattle.compiler.proofs.expression.Kinds as expression-kinds
 use Rattle.compiler.proofs.+expression.Lts-expression as expression-lts
 use Rattle.compiler.proofs.aim.Reads as aim-reads
-use Rattle.compiler.proofs.arity.Reads as arity-reads
+use Rattle.events.proofs.arity.Reads as arity-reads
 use Rattle.compiler.proofs.emit.Reads as emit-reads
 use Rattle.compiler.proofs.negated.Reads as negated-reads
 use Rattle.compiler.proofs.operation.Reads as operation-reads

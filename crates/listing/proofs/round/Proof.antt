@@ -1,7 +1,7 @@
 use lib.ListN.{length}
 use Rattle.simulation.specs.Path.{returned, failed, cut}
 use Rattle.simulation.specs.Words.{codeIn}
-use Rattle.windows.specs.Meaning.{ofWindow}
+use Rattle.intervals.specs.Meaning.{ofWindow}
 use Rattle.machine.specs.Memory.{outcomesIn}
 use Rattle.machine.specs.Contracts.{meant}
 use Rattle.paths.specs.declared.Walked.the-variants as Walked

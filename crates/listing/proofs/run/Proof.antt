@@ -4,7 +4,7 @@ use mathlib.Core.Path.{_∙_}
 use lib.ListN.{length}
 use borrow.Author.Needs.{needs}
 use Rattle.simulation.specs.Words.{codeIn}
-use Rattle.windows.specs.Meaning.{ofWindow}
+use Rattle.intervals.specs.Meaning.{ofWindow}
 use Rattle.listing.proofs.Rounds.{room-kept}
 use Rattle.listing.proofs.Searching.{Between, between-first, between-fair, between-less, between-next, between-over}
 use Rattle.listing.proofs.run.Statement.{statement}

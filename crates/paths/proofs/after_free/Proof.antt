@@ -1,6 +1,6 @@
 use mathlib.Core.Path.{subst}
 use native.Mathlib.Omega.{arith}
-use Rattle.windows.specs.Meaning.{ofWindow}
+use Rattle.intervals.specs.Meaning.{ofWindow}
 use Rattle.machine.specs.Contracts.{Room}
 use Rattle.machine.proofs.Tables.{room-same}
 use Rattle.paths.proofs.Growing.{reached-ranging}

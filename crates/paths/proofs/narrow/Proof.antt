@@ -6,7 +6,8 @@ use lib.IntN.{ℤ}
 use lib.ListN.{length}
 use Rattle.semantics.specs.Search.{decided}
 use Rattle.ints.specs.Numbers.{comparison}
-use Rattle.windows.specs.Meaning.{ofPairs, rangeOf}
+use Rattle.intervals.specs.Meaning.{ofPairs}
+use Rattle.windows.specs.Meaning.{rangeOf}
 use Rattle.machine.proofs.Tables.{room-same}
 use Rattle.paths.proofs.Narrowing.{ends, side-placed, sides-undecided, narrowed-none, put-some, narrowed-so}
 use borrow.Author.Needs.{needs}

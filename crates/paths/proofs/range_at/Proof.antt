@@ -5,7 +5,7 @@ use Rattle.semantics.specs.Run.{Window}
 use Rattle.semantics.specs.Search.{span, fitted}
 use Rattle.ints.specs.Numbers as numbers
 use Rattle.machine.specs.Memory.{rangesIn}
-use Rattle.windows.specs.Meaning.{Filled}
+use Rattle.intervals.specs.Meaning.{Filled}
 use Rattle.paths.proofs.Table.{kind, left, right, range-free, range-op, cell-filled}
 use borrow.Author.Needs.{needs}
 use Rattle.paths.proofs.range_at.Statement.{statement}

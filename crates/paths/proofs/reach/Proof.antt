@@ -6,7 +6,7 @@ use mir.Syntax.{w32}
 use mir.Val.{toZ, ofZ, SFits}
 use mir.Facts.{toZ-ofZ}
 use Rattle.semantics.specs.Search.{to}
-use Rattle.windows.specs.Meaning.{ofWindow}
+use Rattle.intervals.specs.Meaning.{ofWindow}
 use Rattle.paths.proofs.Narrowing.{ends, reached}
 use borrow.Author.Needs.{needs}
 use Rattle.paths.proofs.reach.Statement.{statement}

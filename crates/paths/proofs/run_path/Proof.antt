@@ -10,7 +10,7 @@ use Rattle.simulation.specs.Lister.{over, closed}
 use Rattle.simulation.specs.Path.{returned, failed, cut, turn}
 use Rattle.simulation.specs.Words.{codeIn}
 use Rattle.simulation.proofs.Drive.{turns-left}
-use Rattle.windows.specs.Meaning.{ofWindow}
+use Rattle.intervals.specs.Meaning.{ofWindow}
 use Rattle.machine.specs.Memory.{machineAt, outcomesIn}
 use Rattle.machine.specs.Contracts.{meant}
 use Rattle.paths.specs.declared.Turned.the-variants as Turned

@@ -2,7 +2,7 @@ use mathlib.Core.Path.{_∙_}
 use Rattle.semantics.specs.Search.{known, work}
 use Rattle.simulation.specs.Machine.{Doing, advance}
 use Rattle.simulation.specs.Words.{codeIn}
-use Rattle.windows.specs.Meaning.{ofWindow}
+use Rattle.intervals.specs.Meaning.{ofWindow}
 use Rattle.machine.specs.Memory.{machineAt}
 use Rattle.machine.specs.declared.Did.the-variants as Did
 use Rattle.paths.specs.declared.Turned.the-variants as Turned

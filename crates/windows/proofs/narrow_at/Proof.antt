@@ -4,7 +4,7 @@ use mir.Facts.{toZ-ofZ}
 use borrow.Author.Needs.{needs}
 use Rattle.semantics.specs.Search.{clip}
 use Rattle.ints.specs.Numbers.{comparison}
-use Rattle.windows.specs.Meaning.{ofPairs}
+use Rattle.intervals.specs.Meaning.{ofPairs}
 use Rattle.windows.proofs.Pairs.{pairs-set}
 use Rattle.windows.proofs.narrow_at.Statement.{statement}
 use Rattle.windows.proofs.narrow_at.Tie as tie

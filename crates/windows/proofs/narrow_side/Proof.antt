@@ -5,7 +5,8 @@ use borrow.Author.Needs.{needs}
 use Rattle.semantics.specs.Search.{to, decided, clipped}
 use Rattle.ints.specs.Numbers.{comparison}
 use Rattle.windows.specs.declared.Side.{Side}
-use Rattle.windows.specs.Meaning.{ofPairs, rangeOf, variableOf, Placed}
+use Rattle.intervals.specs.Meaning.{ofPairs}
+use Rattle.windows.specs.Meaning.{rangeOf, variableOf, Placed}
 use Rattle.windows.proofs.Sides.{placed, free-clipped, other-clipped}
 use Rattle.windows.proofs.narrow_side.Statement.{statement}
 use Rattle.windows.proofs.narrow_side.Tie as tie

@@ -11,7 +11,8 @@ use Rattle.semantics.specs.Search.{mirrored, decided, clipped}
 use Rattle.ints.specs.Numbers.{numberOf, comparison}
 use Rattle.ints.proofs.Chosen.{comparison-number}
 use Rattle.ints.proofs.Fits.{same-bits, other-bits}
-use Rattle.windows.specs.Meaning.{ofWindow, ofPairs, rangeOf, variableOf}
+use Rattle.intervals.specs.Meaning.{ofWindow, ofPairs}
+use Rattle.windows.specs.Meaning.{rangeOf, variableOf}
 use Rattle.windows.proofs.Sides.{left-narrows, right-narrows, none-narrows, asked-left, asked-right}
 use Rattle.windows.proofs.narrowed.Statement.{statement}
 use Rattle.windows.proofs.narrowed.Tie as tie

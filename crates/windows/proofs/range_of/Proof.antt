@@ -1,6 +1,7 @@
 use mathlib.Core.Path.{sym, ap, _∙_, subst}
 use borrow.Author.Needs.{needs}
-use Rattle.windows.specs.Meaning.{ofPairs, rangeOf, Placed}
+use Rattle.intervals.specs.Meaning.{ofPairs}
+use Rattle.windows.specs.Meaning.{rangeOf, Placed}
 use Rattle.windows.proofs.Sides.{placed}
 use Rattle.windows.proofs.range_of.Statement.{statement}
 use Rattle.windows.proofs.range_of.Tie as tie

@@ -7,7 +7,7 @@ use Rattle.rules.specs.declared.item.Item.{Item}
 use Rattle.rules.specs.declared.item.Item.the-variants.{Function, Parameter, Thing, Opens, Closes, Declares, Uses, Calls, Ends}
 use Rattle.rules.specs.Answers.{event}
 use Rattle.rules.specs.Names.{Scope, entered}
-use Rattle.scopes.specs.Steps.{tokenOf}
+use Rattle.scopes.specs.Memory.{tokenOf}
 use Rattle.scopes.proofs.Blocks.{as-parameter, stays}
 use Rattle.scopes.proofs.scope.enter.Statement.{statement}
 use Rattle.scopes.proofs.scope.enter.Tie as tie

@@ -1,0 +1,69 @@
+// Rule 7: how many arguments calls have.
+ghost use mathlib.Core.Path.{_≡_};
+ghost use Prim.Native.Nat.{_*_, _≤_};
+ghost use lib.ListN.{length};
+ghost use Rattle.events.specs.Stored.{stored};
+ghost use Rattle.rules.specs.Scan.{on, least};
+ghost use Rattle.rules.specs.Spelling.{sameName};
+ghost use Rattle.rules.specs.Rules.{miscounted};
+ghost use Rattle.rules.specs.Answers.{event, place, leastWith, storedHeads};
+use rules::broken::Broken;
+use rules::broken::lesser;
+use rules::heads::Found;
+use rules::heads::arity_of;
+use rules::item::Item;
+use rules::item::item_at;
+
+// What breaks the rule at one event, with what was found before.
+fn miscount(
+    text: &[u8],
+    places: &[u32],
+    values: &[u32],
+    heads: &[u32],
+    h: usize,
+    item: Item,
+    best: Broken,
+) -> Broken
+    requires { ⌜ 2 * h ≤ length (now heads) ⌝ }
+    ensures { λ r. ⌜ place r ≡ leastWith (miscounted (sameName (now (text .entry)) (now (places .entry)) (now (values .entry))) (storedHeads (now (heads .entry)) h) (event item)) (place best) ⌝ }
+{
+    match item {
+        Item::Calls { token, count } => {
+            let arity = arity_of(text, places, values, heads, h, token);
+            match arity {
+                Found::Nothing => best,
+                Found::Number(m) => {
+                    if m == count {
+                        best
+                    } else {
+                        lesser(token, best)
+                    }
+                }
+            }
+        }
+        _ => best,
+    }
+}
+
+// The least of the called names in n events whose call has a wrong count of arguments, by the h functions.
+pub fn miscalls(
+    text: &[u8],
+    places: &[u32],
+    values: &[u32],
+    events: &[u32],
+    n: usize,
+    heads: &[u32],
+    h: usize,
+) -> Broken
+    requires { ⌜ (3 * n ≤ length (now events)) × (2 * h ≤ length (now heads)) ⌝ }
+    ensures { λ r. ⌜ place r ≡ least (on (miscounted (sameName (now (text .entry)) (now (places .entry)) (now (values .entry))) (storedHeads (now (heads .entry)) h)) (stored (now (events .entry)) n)) ⌝ }
+{
+    let mut best = Broken::Nowhere;
+    let mut i = 0;
+    while i < n {
+        let item = item_at(events, i);
+        best = miscount(text, places, values, heads, h, item, best);
+        i += 1;
+    }
+    best
+}

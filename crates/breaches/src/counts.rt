@@ -1,0 +1,96 @@
+// Rule 10: how many functions, parameters and declarations.
+ghost use mathlib.Core.Path.{_≡_};
+ghost use Prim.Native.Nat.{_+_, _*_, _≤_};
+ghost use lib.ListN.{length};
+ghost use Rattle.events.specs.Stored.{stored};
+ghost use Rattle.rules.specs.Scan.{least};
+ghost use Rattle.rules.specs.Rules.{counted, over, tooMany};
+ghost use Rattle.rules.specs.Answers.{event, place, leastWith};
+ghost use Rattle.breaches.specs.Answers.{tallied, Room};
+use rules::broken::Broken;
+use rules::broken::lesser;
+use rules::item::Item;
+use rules::item::item_at;
+
+// How many functions so far, and of the present one how many parameters, and declarations with the parameters.
+pub struct Tally {
+    pub functions: usize,
+    pub parameters: usize,
+    pub declarations: usize,
+}
+
+// The tally after one event.
+fn count(tally: Tally, item: Item) -> Tally
+    requires { ⌜ Room tally ⌝ }
+    ensures { λ r. ⌜ tallied r ≡ counted (tallied tally) (event item) ⌝ }
+{
+    match item {
+        Item::Function(_) => Tally {
+            functions: tally.functions + 1,
+            parameters: 0,
+            declarations: 0,
+        },
+        Item::Parameter(_) => Tally {
+            functions: tally.functions,
+            parameters: tally.parameters + 1,
+            declarations: tally.declarations + 1,
+        },
+        Item::Declares(_) => Tally {
+            functions: tally.functions,
+            parameters: tally.parameters,
+            declarations: tally.declarations + 1,
+        },
+        _ => tally,
+    }
+}
+
+// What breaks the rule at one event, after those of the tally, with what was found before.
+fn exceeds(tally: Tally, item: Item, best: Broken) -> Broken
+    ensures { λ r. ⌜ place r ≡ leastWith (over (tallied tally) (event item)) (place best) ⌝ }
+{
+    match item {
+        Item::Function(token) => {
+            if 16 <= tally.functions {
+                return lesser(token, best);
+            }
+            best
+        }
+        Item::Parameter(token) => {
+            if 4 <= tally.parameters {
+                return lesser(token, best);
+            }
+            if 16 <= tally.declarations {
+                return lesser(token, best);
+            }
+            best
+        }
+        Item::Declares(token) => {
+            if 16 <= tally.declarations {
+                return lesser(token, best);
+            }
+            best
+        }
+        _ => best,
+    }
+}
+
+// The least of the names in n events that are one too many.
+pub fn too_many(events: &[u32], n: usize) -> Broken
+    requires { ⌜ 3 * n ≤ length (now events) ⌝ }
+    ensures { λ r. ⌜ place r ≡ least (tooMany (stored (now (events .entry)) n)) ⌝ }
+{
+    let mut tally = Tally {
+        functions: 0,
+        parameters: 0,
+        declarations: 0,
+    };
+    let mut best = Broken::Nowhere;
+    let mut i = 0;
+    while i < n {
+        let item = item_at(events, i);
+        best = exceeds(tally, item, best);
+        tally = count(tally, item);
+        i += 1;
+    }
+    best
+}

@@ -1,0 +1,2 @@
+pub mod Undecided
+pub mod Narrow

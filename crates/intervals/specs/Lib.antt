@@ -1,0 +1,2 @@
+-- Ranges, deciding and narrowing are defined in `semantics` (Search); here stands what the code's types mean in its words.
+pub mod Meaning

@@ -1,0 +1,2 @@
+-- Names: one event after the other, as the code takes them.
+pub mod Steps

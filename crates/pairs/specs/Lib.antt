@@ -1,0 +1,2 @@
+-- Pairs in memory.
+pub mod Memory
