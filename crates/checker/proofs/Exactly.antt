@@ -15,6 +15,8 @@ use Rattle.grammar.specs.Parse.{Res, parsed, ok, bad}
 use Rattle.events.specs.Event.{Event, events}
 use Rattle.rules.specs.Scan.{least, lesser}
 use Rattle.rules.specs.Spelling.{sameName, isMain}
+use Rattle.rules.specs.Rules.{tooDeep, miscalls, mainless, openEnds, tooMany}
+use Rattle.rules.specs.Names.{badNames}
 use Rattle.checker.specs.Check.{Verdict, accepted, refused, Fault, fault, Rule, rule, orElse, rules, firstBroken, verdict, rulesOf, checkedTokens, checked, kinds, places, values}
 use Rattle.checker.specs.Accepted.{Keeps}
 
@@ -35,24 +37,39 @@ passed n is later e = go (least is) refl e
     go none q f = (least-none is q, f)
     go (some i) q f = let z : _≡_ {A = ℕ} 0 1 = cc in absurd (omega arith)
 
+-- where no rule is broken, none of the rules 5 to 10 is
+pub record Unbroken (same : ℕ → ℕ → Bool) (isMain : ℕ → Bool) (end : ℕ) (es : List Event) : Type 0 where
+  pub depth : tooDeep es ≡ []
+  pub names : badNames same es ≡ []
+  pub calls : miscalls same es ≡ []
+  pub main : mainless isMain end es ≡ []
+  pub ends : openEnds es ≡ []
+  pub counts : tooMany es ≡ []
+
+pub unbroken : (same : ℕ → ℕ → Bool) (isMain : ℕ → Bool) (end : ℕ) (es : List Event) → firstBroken (rules same isMain end es) ≡ none → Unbroken same isMain end es
+unfolding rules firstBroken
+unbroken same isMain end es f =
+    let a = passed 5 _ _ f in
+    let b = passed 6 _ _ (a .1) in
+    let c = passed 7 _ _ (b .1) in
+    let d = passed 8 _ _ (c .1) in
+    let g = passed 9 _ _ (d .1) in
+    let h = passed 10 _ _ (g .1) in
+    record { depth = a .0; names = b .0; calls = c .0; main = d .0; ends = g .0; counts = h .0 }
+
 is-accepted : (ps : List ℕ) (o : Option Fault) → verdict ps o ≡ accepted → o ≡ none
 is-accepted ps none e = refl
 is-accepted ps (some f) e = let z : _≡_ {A = ℕ} 0 1 = cc in absurd (omega arith)
 
 module _ (text : List ℕ) where
   to : checked text ≡ accepted → Keeps text
-  unfolding checked checkedTokens rules firstBroken
+  unfolding checked checkedTokens
   to e = go (lexed text) refl e
     where
       kept : (ts : List Token) → lexed text ≡ L.tokens ts → (t : Tree prog) (m : ℕ) → parsed (kinds ts) ≡ ok t m → firstBroken (rulesOf text (places ts) (values ts) (length (kinds ts)) (events (ast t))) ≡ none → Keeps text
       kept ts l t m p f =
-          let a = passed 5 _ _ f in
-          let b = passed 6 _ _ (a .1) in
-          let c = passed 7 _ _ (b .1) in
-          let d = passed 8 _ _ (c .1) in
-          let g = passed 9 _ _ (d .1) in
-          let h = passed 10 _ _ (g .1) in
-          record { tokens = ts; tree = t; after = m; lexes = l; parses = p; depth = a .0; names = b .0; calls = c .0; main = d .0; ends = g .0; counts = h .0 }
+          let u = unbroken (sameName text (places ts) (values ts)) (isMain text (places ts) (values ts)) (length (kinds ts) - 1) (events (ast t)) f in
+          record { tokens = ts; tree = t; after = m; lexes = l; parses = p; depth = u .depth; names = u .names; calls = u .calls; main = u .main; ends = u .ends; counts = u .counts }
 
       read : (ts : List Token) → lexed text ≡ L.tokens ts → (r : Res prog) → parsed (kinds ts) ≡ r
           → elim r [ bad m ↦ refused 4 (getD (places ts) m 0) | ok t m ↦ verdict (places ts) (firstBroken (rulesOf text (places ts) (values ts) (length (kinds ts)) (events (ast t)))) ] ≡ accepted → Keeps text

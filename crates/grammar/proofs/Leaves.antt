@@ -9,7 +9,8 @@ use Rattle.syntax.specs.Tree.{Cat, Tree, cmpKind, onto, width, numbered}
 use Rattle.syntax.specs.Tree.{number, negative, name, call, bracket, noArgs, someArgs, firstArg, nextArg, factor, times, addend, plus, minus, cmpMark, always, never, compare, oneAtom, both, oneConj, either, empty, declare, declareFree, assign, eval, block, ifElse, while, return, fail, noStmts, moreStmts, braced, noParams, someParams, firstParam, nextParam, function, noFuns, moreFuns}
 use Rattle.syntax.specs.Abstract.{ast}
 use Rattle.grammar.specs.Text.{Leaves}
-use Rattle.grammar.proofs.Back.{Ahead, ahead, past, two, three}
+use Rattle.grammar.proofs.Readings.{Ahead, ahead, past}
+use Rattle.grammar.proofs.Back.{two, three}
 
 module _ (ks : List ℕ) where
   after-two : (p : ℕ) {j k : ℕ} {r : List ℕ} → drop p ks ≡ j ∷ k ∷ r → drop (p + 2) ks ≡ r

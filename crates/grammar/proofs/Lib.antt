@@ -3,7 +3,9 @@ pub mod Machine
 pub mod Accept
 pub mod Lengths
 pub mod Right
+pub mod Statements
 pub mod Place
+pub mod Readings
 pub mod Back
 pub mod Leaves
 pub mod Grammar

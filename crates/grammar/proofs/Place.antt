@@ -13,7 +13,8 @@ use Rattle.syntax.specs.Tree.{Tree, onto, prog, noFuns}
 use Rattle.grammar.proofs.Machine.{Stack, Out, fine, stuck, step, run, goOn, tok, sFuns}
 use Rattle.grammar.specs.Text.{First-bad}
 use Rattle.grammar.specs.Parse.{Res, ok, bad, andThen, peek, moreProg, readText}
-use Rattle.grammar.proofs.Right.{upto, Reads, good, wrong, Ok, head, prog-right}
+use Rattle.grammar.proofs.Right.{upto, Reads, good, wrong, Ok, head}
+use Rattle.grammar.proofs.Statements.{prog-right}
 use Rattle.grammar.proofs.Accept.{accept}
 
 rest-of : Out → ℕ

@@ -1,25 +1,24 @@
--- The parser is right. What a reader took are the tokens of its tree; where it stops, the machine is stuck, and what was read so far can be completed.
+-- The parser is right, for expressions and conditions. What a reader took are the tokens of its tree; where it stops, the machine is stuck, and what was read so far can be completed.
 use Prim.Native.Nat.{ℕ, zero, suc, _+_, _*_, _≤_, _<_}
-use mathlib.Core.Path.{_≡_, refl, sym, ap, _∙_, subst}
+use mathlib.Core.Path.{_≡_, refl, sym, ap, _∙_}
 use mathlib.Core.Bool.{Bool, true, false}
-use mathlib.Core.List.{List, [], _∷_, _++_, append-assoc}
+use mathlib.Core.List.{List, _∷_, _++_, append-assoc}
 use mathlib.Core.Option.{none}
 use native.Mathlib.Numerals.{add-one}
 use native.Mathlib.Nat.{le-trans, le-refl}
 use native.Mathlib.Omega.{arith}
 use native.Mathlib.Decide.{decLt}
-use lib.ListN.{length, getD, take, drop, length-append}
-use lib.Seq.{take-suc, drop-cons, length-take-le}
+use lib.ListN.{length, getD, take, drop}
+use lib.Seq.{take-suc, drop-cons}
 use lib.Dec.{eqb}
-use borrow.Author.Tests.{eqb-true, eqb-false, eq-eqb}
-use Rattle.syntax.specs.Token.{kName, kNumber, kOpen, kClose, kComma, kPlus, kMinus, kTimes, kTrue, kFalse, kAnd, kOr, kLess, kEqual, kLessEq, kGreater, kGreaterEq, kUnequal, kSemi, kAssign, kLbrace, kRbrace, kInt, kFree, kIf, kElse, kWhile, kReturn, kFail}
+use borrow.Author.Tests.{eqb-true, eqb-false}
+use Rattle.syntax.specs.Token.{kName, kNumber, kOpen, kClose, kComma, kPlus, kMinus, kTimes, kTrue, kFalse, kAnd, kOr, kLess, kEqual, kLessEq, kGreater, kGreaterEq, kUnequal}
 use Rattle.syntax.specs.Tree.{Cat, Tree, onto}
-use Rattle.syntax.specs.Tree.{term, sum, argList, conj, cond, less, stmt, stmts, paramList, prog}
-use Rattle.syntax.specs.Tree.{number, negative, name, call, bracket, someArgs, firstArg, nextArg, factor, times, addend, plus, minus, cmpMark, always, compare, oneAtom, both, oneConj, either, empty, declare, declareFree, assign, eval, block, ifElse, while, return, fail, noStmts, moreStmts, braced, noParams, someParams, firstParam, nextParam, function, moreFuns}
-use Rattle.grammar.proofs.Lengths.{stmt-longer}
-use Rattle.grammar.proofs.Machine.{Stack, stuck, step, run, goOn, on}
-use Rattle.grammar.proofs.Machine.{tok, sOperand, sTerm, sTerms, sSum, sSums, sCall, sArgs, sMore, sCmp, sAtom, sConj, sConjs, sCond, sConds, sStmt, sDecl, sNamed, sBody, sParams, sParamMore, sFuns}
-use Rattle.grammar.specs.Parse.{Res, ok, bad, andThen, peek, expect, readOperand, readBracket, readCall, readArgs, moreArgs, readTerm, moreTerm, readSum, moreSum, readCmp, readAtom, moreConj, readConj, moreCond, readCond, readGuard, readEnded, readNamed, readDecl, readFail, readStmt, readBlock, readIf, readWhile, moreBody, moreParams, readParams, readFun, moreProg}
+use Rattle.syntax.specs.Tree.{term, sum, argList, conj, cond, less}
+use Rattle.syntax.specs.Tree.{number, negative, call, bracket, someArgs, firstArg, nextArg, factor, times, addend, plus, minus, cmpMark, compare, oneAtom, both, oneConj, either}
+use Rattle.grammar.proofs.Machine.{Stack, stuck, step, run, goOn}
+use Rattle.grammar.proofs.Machine.{tok, sOperand, sTerm, sTerms, sSum, sSums, sCall, sArgs, sMore, sCmp, sAtom, sConj, sConjs, sCond, sConds}
+use Rattle.grammar.specs.Parse.{Res, ok, bad, andThen, peek, readOperand, readBracket, readCall, readArgs, moreArgs, readTerm, moreTerm, readSum, moreSum, readCmp, readAtom, moreConj, readConj, moreCond, readCond}
 
 module _ (ks : List ℕ) (ends : (a : ℕ) → suc a ≡ length ks → getD ks a 0 ≡ 0) where
   -- the first a tokens, then r
@@ -45,10 +44,10 @@ module _ (ks : List ℕ) (ends : (a : ℕ) → suc a ≡ length ks → getD ks a
     wrong : {m : ℕ} → Bad c b S at m → Reads b S at (bad m)
 
   -- the token k stands at a, and it is not the end
-  record Eat (a k : ℕ) : Type 0 where
-    inside : a + 1 < length ks
-    read : (r : List ℕ) → upto (a + 1) r ≡ upto a (k ∷ r)
-    ahead : drop a ks ≡ k ∷ drop (a + 1) ks
+  pub record Eat (a k : ℕ) : Type 0 where
+    pub inside : a + 1 < length ks
+    pub read : (r : List ℕ) → upto (a + 1) r ≡ upto a (k ∷ r)
+    pub ahead : drop a ks ≡ k ∷ drop (a + 1) ks
 
   pub head : (a : ℕ) → a < length ks → drop a ks ≡ peek ks a ∷ drop (a + 1) ks
   head a h = rw (add-one, drop-cons ks a 0)
@@ -60,7 +59,7 @@ module _ (ks : List ℕ) (ends : (a : ℕ) → suc a ≡ length ks → getD ks a
       go (yes p) = p
       go (no p) = absurd (f (ends a (omega (arith, p))))
 
-  eat : (a k : ℕ) → a < length ks → eqb (peek ks a) k ≡ true → eqb k 0 ≡ false → Eat a k
+  pub eat : (a k : ℕ) → a < length ks → eqb (peek ks a) k ≡ true → eqb k 0 ≡ false → Eat a k
   eat a k h e z =
       let q : peek ks a ≡ k = eqb-true _ _ e in
       record {
@@ -69,26 +68,26 @@ module _ (ks : List ℕ) (ends : (a : ℕ) → suc a ≡ length ks → getD ks a
         ahead = head a h ∙ ap (λ (x : ℕ). x ∷ drop (a + 1) ks) q;
       }
 
-  move : {c : Cat} {b at m : ℕ} {S S′ : Stack → Stack} {r : Res c} → at ≤ m → ((ss : Stack) → run (S ss) (drop at ks) ≡ run (S′ ss) (drop m ks)) → Reads b S′ m r → Reads b S at r
+  pub move : {c : Cat} {b at m : ℕ} {S S′ : Stack → Stack} {r : Res c} → at ≤ m → ((ss : Stack) → run (S ss) (drop at ks) ≡ run (S′ ss) (drop m ks)) → Reads b S′ m r → Reads b S at r
   move l e (good k) = good (record { past = le-trans l (k .past); inside = k .inside; read = k .read; ran = λ ss. e ss ∙ k .ran ss })
   move l e (wrong k) = wrong (record { inside = k .inside; whole = k .whole; rest = k .rest; read = k .read; ran = λ ss. e ss ∙ k .ran ss })
 
-  eatThen : {c : Cat} {b at k : ℕ} {S S′ : Stack → Stack} {r : Res c} → Eat at k → ((ss : Stack) (r : List ℕ) → run (S ss) (k ∷ r) ≡ run (S′ ss) r) → Reads b S′ (at + 1) r → Reads b S at r
+  pub eatThen : {c : Cat} {b at k : ℕ} {S S′ : Stack → Stack} {r : Res c} → Eat at k → ((ss : Stack) (r : List ℕ) → run (S ss) (k ∷ r) ≡ run (S′ ss) r) → Reads b S′ (at + 1) r → Reads b S at r
   eatThen {at = at} {S = S} x e k = move (omega arith) (λ ss. ap (run (S ss)) (x .ahead) ∙ e ss (drop (at + 1) ks)) k
 
-  done : {c : Cat} {b m : ℕ} {t : Tree c} → m < length ks → ((r : List ℕ) → upto m r ≡ upto b (onto t r)) → Reads b (λ ss. ss) m (ok t m)
+  pub done : {c : Cat} {b m : ℕ} {t : Tree c} → m < length ks → ((r : List ℕ) → upto m r ≡ upto b (onto t r)) → Reads b (λ ss. ss) m (ok t m)
   done i e = good (record { past = le-refl _; inside = i; read = e; ran = λ ss. refl })
 
   -- a symbol that the next token leaves out
-  skip : {c : Cat} {b m : ℕ} {S S′ : Stack → Stack} {r : Res c} → m < length ks → ((ss : Stack) → step (peek ks m) (S ss) ≡ step (peek ks m) (S′ ss)) → Reads b S′ m r → Reads b S m r
+  pub skip : {c : Cat} {b m : ℕ} {S S′ : Stack → Stack} {r : Res c} → m < length ks → ((ss : Stack) → step (peek ks m) (S ss) ≡ step (peek ks m) (S′ ss)) → Reads b S′ m r → Reads b S m r
   unfolding run
   skip {m = m} {S = S} {S′ = S′} i e k = move (le-refl _) (λ ss. ap (run (S ss)) (head m i) ∙ ap (λ o. goOn o (stuck (peek ks m ∷ drop (m + 1) ks)) (λ s. run s (drop (m + 1) ks))) (e ss) ∙ sym (ap (run (S′ ss)) (head m i))) k
 
-  stop : {c : Cat} {b m : ℕ} {S : Stack → Stack} → m < length ks → (t : Tree c) (w : List ℕ → List ℕ) → ((r : List ℕ) → upto m (w r) ≡ upto b (onto t r)) → ((ss : Stack) → step (peek ks m) (S ss) ≡ none) → Reads {c = c} b S m (bad m)
+  pub stop : {c : Cat} {b m : ℕ} {S : Stack → Stack} → m < length ks → (t : Tree c) (w : List ℕ → List ℕ) → ((r : List ℕ) → upto m (w r) ≡ upto b (onto t r)) → ((ss : Stack) → step (peek ks m) (S ss) ≡ none) → Reads {c = c} b S m (bad m)
   unfolding run
   stop {m = m} {S = S} i t w e n = wrong (record { inside = i; whole = t; rest = w; read = e; ran = λ ss. ap (run (S ss)) (head m i) ∙ ap (λ o. goOn o (stuck (peek ks m ∷ drop (m + 1) ks)) (λ s. run s (drop (m + 1) ks))) (n ss) ∙ sym (ap stuck (head m i)) })
 
-  split : {c : Cat} {b at : ℕ} {S : Stack → Stack} (t : Bool) {x y : Res c} → (t ≡ true → Reads b S at x) → (t ≡ false → Reads b S at y) → Reads {c = c} b S at (elim t [ true ↦ x | false ↦ y ])
+  pub split : {c : Cat} {b at : ℕ} {S : Stack → Stack} (t : Bool) {x y : Res c} → (t ≡ true → Reads b S at x) → (t ≡ false → Reads b S at y) → Reads {c = c} b S at (elim t [ true ↦ x | false ↦ y ])
   split true f g = f refl
   split false f g = g refl
 
@@ -97,7 +96,7 @@ module _ (ks : List ℕ) (ends : (a : ℕ) → suc a ≡ length ks → getD ks a
   join {S₂ = S₂} h (wrong k) = wrong (record { inside = k .inside; whole = k .whole; rest = k .rest; read = k .read; ran = λ ss. h .ran (S₂ ss) ∙ k .ran ss })
 
   -- one reader, and another after it. Where the first stops, its tree is wrapped, and `tail` is what is then missing
-  after : {c e : Cat} {b₁ b₂ at : ℕ} {S₁ S₂ : Stack → Stack} {r : Res c} {f : Tree c → ℕ → Res e}
+  pub after : {c e : Cat} {b₁ b₂ at : ℕ} {S₁ S₂ : Stack → Stack} {r : Res c} {f : Tree c → ℕ → Res e}
       → (wrap : Tree c → Tree e) (tail : List ℕ → List ℕ) → ((t : Tree c) (r : List ℕ) → upto b₁ (onto t (tail r)) ≡ upto b₂ (onto (wrap t) r))
       → Reads b₁ S₁ at r
       → ((t : Tree c) (m : ℕ) → Ok b₁ S₁ at t m → Reads b₂ S₂ m (f t m))
@@ -268,194 +267,3 @@ module _ (ks : List ℕ) (ends : (a : ℕ) → suc a ≡ length ks → getD ks a
   cond-right (suc d) at i f = skip {S′ = λ ss. sConj ∷ sConds ∷ ss} i (λ ss. refl)
       (after oneConj (λ r. r) (λ t r. refl) (conj-right d at i (omega arith))
       (λ t m h. more-cond d (oneConj t) at m (h .inside) (h .read) (omega (arith, h .past))))
-
-  -- a statement has at least one token
-  strict : {at m : ℕ} {S : Stack → Stack} {t : Tree stmt} → Ok at S at t m → at < m
-  strict {at} {m} {t = t} h =
-      let e : m + 0 ≡ at + length (onto t []) = lengths m (omega (arith, h .inside)) [] ∙ ap length (h .read []) ∙ sym (lengths at (omega (arith, h .inside, h .past)) (onto t [])) in
-      omega (arith, e, stmt-longer t)
-    where
-      lengths : (a : ℕ) → a ≤ length ks → (r : List ℕ) → a + length r ≡ length (upto a r)
-      lengths a i r = sym (length-append (take a ks) r ∙ ap (λ (k : ℕ). k + length r) (length-take-le a ks i))
-
-  -- a token that must come
-  expects : {c : Cat} {b at : ℕ} {S′ : Stack → Stack} {r : Res c} (k : ℕ) (t : Tree c) (w : List ℕ → List ℕ) → at < length ks → eqb k 0 ≡ false → ((q : List ℕ) → upto at (w q) ≡ upto b (onto t q))
-      → (Eat at k → Reads b S′ (at + 1) r) → Reads b (λ ss. tok k ∷ S′ ss) at (expect ks k at r)
-  unfolding run step
-  expects {at = at} k t w i z e f =
-      split (eqb (peek ks at) k)
-      (λ q. let x = eat at k i q z in eatThen x (λ ss r. rw (eq-eqb k k refl)) (f x))
-      (λ q. stop i t w e (λ ss. rw q))
-
-  abbrev someCond : Tree cond
-  someCond = oneConj (oneAtom always)
-
-  guard-is : {e : Cat} (d x : ℕ) (f : Tree cond → ℕ → Res e) → andThen (readGuard ks (suc d) x) f ≡ expect ks kOpen x (andThen (readCond ks d (x + 1)) (λ c m. expect ks kClose m (f c (m + 1))))
-  unfolding readGuard
-  guard-is {e} d x f = go (eqb (peek ks x) kOpen) (readCond ks d (x + 1))
-    where
-      close : (c : Tree cond) (m : ℕ) (b : Bool) → _≡_ {A = Res e} (andThen (elim b [ true ↦ ok c (m + 1) | false ↦ bad m ]) f) (elim b [ true ↦ f c (m + 1) | false ↦ bad m ])
-      close c m true = refl
-      close c m false = refl
-
-      go : (b : Bool) (r : Res cond) → _≡_ {A = Res e} (andThen (elim b [ true ↦ andThen r (λ c m. expect ks kClose m (ok c (m + 1))) | false ↦ bad x ]) f) (elim b [ true ↦ andThen r (λ c m. expect ks kClose m (f c (m + 1))) | false ↦ bad x ])
-      go true (ok c m) = close c m (eqb (peek ks m) kClose)
-      go true (bad m) = refl
-      go false r = refl
-
-  -- a condition in brackets at x, and what comes after it; `form` makes a tree of it, and `tail` what is then missing
-  guard-then : {e : Cat} {b : ℕ} {S₂ : Stack → Stack} (f : Tree cond → ℕ → Res e) (d x : ℕ) → x < length ks → Fuel 1 (suc d) x → (form : Tree cond → Tree e) (tail : List ℕ → List ℕ)
-      → ((c : Tree cond) (r : List ℕ) → upto x (kOpen ∷ onto c (kClose ∷ tail r)) ≡ upto b (onto (form c) r))
-      → ((c : Tree cond) (m : ℕ) → x < m → m < length ks → ((r : List ℕ) → upto m r ≡ upto x (kOpen ∷ onto c (kClose ∷ r))) → Reads b S₂ m (f c m))
-      → Reads b (λ ss. tok kOpen ∷ sCond ∷ tok kClose ∷ S₂ ss) x (andThen (readGuard ks (suc d) x) f)
-  unfolding onto
-  guard-then {e} {b} {S₂} f d x i g form tail w h =
-      subst (λ (v : Res e). Reads b (λ ss. tok kOpen ∷ sCond ∷ tok kClose ∷ S₂ ss) x v) (sym (guard-is d x f))
-      (expects kOpen (form someCond) (λ r. kOpen ∷ kTrue ∷ kClose ∷ tail r) i refl (λ r. w someCond r)
-      (λ y. after form (λ r. kClose ∷ tail r) (λ t r. y .read _ ∙ w t r) (cond-right d (x + 1) (y .inside) (omega arith))
-      (λ c m k. expects kClose (form c) (λ r. kClose ∷ tail r) (k .inside) refl (λ r. k .read _ ∙ y .read _ ∙ w c r)
-      (λ z. h c (m + 1) (omega (arith, k .past)) (z .inside) (λ r. z .read _ ∙ k .read _ ∙ y .read _)))))
-
-  ended-right : (w : Tree sum → Tree stmt) (d b at : ℕ) → at < length ks → Fuel 5 d at → ((t : Tree sum) (r : List ℕ) → upto at (onto t (kSemi ∷ r)) ≡ upto b (onto (w t) r))
-      → Reads b (λ ss. sSum ∷ tok kSemi ∷ ss) at (readEnded ks w d at)
-  unfolding readEnded
-  ended-right wrap zero b at i f w = absurd (omega arith)
-  ended-right wrap (suc d) b at i f w =
-      after wrap (λ r. kSemi ∷ r) w (sum-right d at i (omega arith))
-      (λ t m h. expects kSemi (wrap t) (λ r. kSemi ∷ r) (h .inside) refl (λ r. h .read _ ∙ w t r) (λ y. done (y .inside) (λ r. y .read r ∙ h .read _ ∙ w t r)))
-
-  decl-right : (at : ℕ) → Eat at kInt → Reads at (λ ss. tok kName ∷ sDecl ∷ ss) (at + 1) (readDecl ks at)
-  unfolding readDecl onto run step
-  decl-right at x =
-      expects kName (declare 0) (λ r. kName ∷ kSemi ∷ r) (x .inside) refl (λ r. x .read _)
-      (λ y. split (eqb (peek ks (at + 1 + 1)) kSemi)
-      (λ e. let z = eat (at + 1 + 1) kSemi (y .inside) e refl in eatThen z (λ ss r. refl) (done (z .inside) (λ r. z .read _ ∙ y .read _ ∙ x .read _)))
-      (λ e. skip {S′ = λ ss. tok kFree ∷ tok kSemi ∷ ss} (y .inside) (λ ss. rw e)
-      (expects kFree (declare 0) (λ r. kSemi ∷ r) (y .inside) refl (λ r. y .read _ ∙ x .read _)
-      (λ z. expects kSemi (declareFree 0) (λ r. kSemi ∷ r) (z .inside) refl (λ r. z .read _ ∙ y .read _ ∙ x .read _)
-      (λ u. done (u .inside) (λ r. u .read _ ∙ z .read _ ∙ y .read _ ∙ x .read _)))))
-      )
-
-  -- a statement that begins with a name which is not assigned to goes on as a sum
-  named-run : (k : ℕ) (ss : Stack) (r : List ℕ) → eqb k kAssign ≡ false → run (sStmt ∷ ss) (kName ∷ k ∷ r) ≡ run (sSum ∷ tok kSemi ∷ ss) (kName ∷ k ∷ r)
-  unfolding run step
-  named-run k ss r e = rw e
-
-  two-ahead : (at : ℕ) → (x : Eat at kName) → drop at ks ≡ kName ∷ peek ks (at + 1) ∷ drop (at + 1 + 1) ks
-  two-ahead at x = x .ahead ∙ ap (λ l. kName ∷ l) (head (at + 1) (x .inside))
-
-  named-right : (d at : ℕ) → at < length ks → Eat at kName → Fuel 6 d at → Reads at (λ ss. sStmt ∷ ss) at (readNamed ks d at)
-  unfolding readNamed onto run step
-  named-right zero at i x f = absurd (omega arith)
-  named-right (suc d) at i x f =
-      split (eqb (peek ks (at + 1)) kAssign)
-      (λ e. let y = eat (at + 1) kAssign (x .inside) e refl in eatThen {S′ = λ ss. sNamed ∷ ss} x (λ ss r. refl)
-      (eatThen {S′ = λ ss. sSum ∷ tok kSemi ∷ ss} y (λ ss r. refl) (ended-right (assign at) d at (at + 1 + 1) (y .inside) (omega arith) (λ t r. y .read _ ∙ x .read _))))
-      (λ e. let z = two-ahead at x in move (le-refl _) (λ ss. ap (run (sStmt ∷ ss)) z ∙ named-run (peek ks (at + 1)) ss (drop (at + 1 + 1) ks) e ∙ sym (ap (run (sSum ∷ tok kSemi ∷ ss)) z))
-      (ended-right eval d at at i (omega arith) (λ t r. refl)))
-
-  fail-right : (at : ℕ) → Eat at kFail → Reads at (λ ss. tok kSemi ∷ ss) (at + 1) (readFail ks at)
-  unfolding readFail onto
-  fail-right at x = expects kSemi (fail at) (λ r. kSemi ∷ r) (x .inside) refl (λ r. x .read _) (λ y. done (y .inside) (λ r. y .read r ∙ x .read _))
-
-  mutual
-    unfolding readStmt onto run step
-
-    pub stmt-right : (d at : ℕ) → at < length ks → Fuel 7 d at → Reads at (λ ss. sStmt ∷ ss) at (readStmt ks d at)
-    stmt-right zero at i f = absurd (omega arith)
-    stmt-right (suc d) at i f =
-        split (eqb (peek ks at) kSemi)
-        (λ e. let x = eat at kSemi i e refl in eatThen x (λ ss r. refl) (done (x .inside) (x .read)))
-        (λ e₁. split (eqb (peek ks at) kInt)
-        (λ e. let x = eat at kInt i e refl in eatThen {S′ = λ ss. tok kName ∷ sDecl ∷ ss} x (λ ss r. refl) (decl-right at x))
-        (λ e₂. split (eqb (peek ks at) kName)
-        (λ e. named-right d at i (eat at kName i e refl) (omega arith))
-        (λ e₃. split (eqb (peek ks at) kLbrace)
-        (λ e. let x = eat at kLbrace i e refl in eatThen {S′ = λ ss. sBody ∷ ss} x (λ ss r. refl) (block-right d at x (omega arith)))
-        (λ e₄. split (eqb (peek ks at) kIf)
-        (λ e. let x = eat at kIf i e refl in eatThen {S′ = λ ss. tok kOpen ∷ sCond ∷ tok kClose ∷ sStmt ∷ tok kElse ∷ sStmt ∷ ss} x (λ ss r. refl) (if-right d at x (omega arith)))
-        (λ e₅. split (eqb (peek ks at) kWhile)
-        (λ e. let x = eat at kWhile i e refl in eatThen {S′ = λ ss. tok kOpen ∷ sCond ∷ tok kClose ∷ sStmt ∷ ss} x (λ ss r. refl) (while-right d at x (omega arith)))
-        (λ e₆. split (eqb (peek ks at) kReturn)
-        (λ e. let x = eat at kReturn i e refl in eatThen {S′ = λ ss. sSum ∷ tok kSemi ∷ ss} x (λ ss r. refl) (ended-right (return at) d at (at + 1) (x .inside) (omega arith) (λ t r. x .read _)))
-        (λ e₇. split (eqb (peek ks at) kFail)
-        (λ e. let x = eat at kFail i e refl in eatThen {S′ = λ ss. tok kSemi ∷ ss} x (λ ss r. refl) (fail-right at x))
-        (λ e₈. skip {S′ = λ ss. sSum ∷ tok kSemi ∷ ss} i (λ ss. rw (e₁, e₂, e₃, e₄, e₅, e₆, e₇, e₈)) (ended-right eval d at at i (omega arith) (λ t r. refl))))))))))
-
-    block-right : (d at : ℕ) → Eat at kLbrace → Fuel 1 d at → Reads at (λ ss. sBody ∷ ss) (at + 1) (readBlock ks d at)
-    block-right zero at x f = absurd (omega (arith, x .inside))
-    block-right (suc d) at x f =
-        after (block at) (λ r. r) (λ t r. x .read _) (body-right d noStmts (at + 1) (at + 1) (x .inside) (λ r. refl) (omega arith))
-        (λ t m h. done (h .inside) (λ r. h .read r ∙ x .read _))
-
-    if-right : (d at : ℕ) → Eat at kIf → Fuel 1 d at → Reads at (λ ss. tok kOpen ∷ sCond ∷ tok kClose ∷ sStmt ∷ tok kElse ∷ sStmt ∷ ss) (at + 1) (readIf ks d at)
-    if-right zero at x f = absurd (omega (arith, x .inside))
-    if-right (suc zero) at x f = absurd (omega (arith, x .inside))
-    if-right (suc (suc d)) at x f =
-        guard-then {S₂ = λ ss. sStmt ∷ tok kElse ∷ sStmt ∷ ss} _ d (at + 1) (x .inside) (omega arith) (λ c. ifElse at c (empty 0) (empty 0)) (λ r. kSemi ∷ kElse ∷ kSemi ∷ r) (λ c r. x .read _)
-        (λ c m l h y. after (λ s. ifElse at c s (empty 0)) (λ r. kElse ∷ kSemi ∷ r) (λ t r. y _ ∙ x .read _) (stmt-right (suc d) m h (omega arith))
-        (λ s n g. expects kElse (ifElse at c s (empty 0)) (λ r. kElse ∷ kSemi ∷ r) (g .inside) refl (λ r. g .read _ ∙ y _ ∙ x .read _)
-        (λ u. after (λ t. ifElse at c s t) (λ r. r) (λ t r. u .read _ ∙ g .read _ ∙ y _ ∙ x .read _) (stmt-right (suc d) (n + 1) (u .inside) (omega (arith, g .past)))
-        (λ t p o. done (o .inside) (λ r. o .read r ∙ u .read _ ∙ g .read _ ∙ y _ ∙ x .read _)))))
-
-    while-right : (d at : ℕ) → Eat at kWhile → Fuel 1 d at → Reads at (λ ss. tok kOpen ∷ sCond ∷ tok kClose ∷ sStmt ∷ ss) (at + 1) (readWhile ks d at)
-    while-right zero at x f = absurd (omega (arith, x .inside))
-    while-right (suc zero) at x f = absurd (omega (arith, x .inside))
-    while-right (suc (suc d)) at x f =
-        guard-then {S₂ = λ ss. sStmt ∷ ss} _ d (at + 1) (x .inside) (omega arith) (λ c. while at c (empty 0)) (λ r. kSemi ∷ r) (λ c r. x .read _)
-        (λ c m l h y. after (λ s. while at c s) (λ r. r) (λ t r. y _ ∙ x .read _) (stmt-right (suc d) m h (omega arith))
-        (λ s n g. done (g .inside) (λ r. g .read r ∙ y _ ∙ x .read _)))
-
-    pub body-right : (d : ℕ) (l : Tree stmts) (b at : ℕ) → at < length ks → ((r : List ℕ) → upto at r ≡ upto b (onto l r)) → Fuel 8 d at → Reads b (λ ss. sBody ∷ ss) at (moreBody ks d l at)
-    body-right zero l b at i w f = absurd (omega arith)
-    body-right (suc d) l b at i w f =
-        split (eqb (peek ks at) kRbrace)
-        (λ e. let x = eat at kRbrace i e refl in eatThen x (λ ss r. refl) (done (x .inside) (λ r. x .read r ∙ w _)))
-        (λ e. skip {S′ = λ ss. sStmt ∷ sBody ∷ ss} i (λ ss. rw e)
-        (after (λ s. braced (moreStmts l s) 0) (λ r. kRbrace ∷ r) (λ t r. w _) (stmt-right d at i (omega arith))
-        (λ s m h. body-right d (moreStmts l s) b m (h .inside) (λ r. h .read r ∙ w _) (omega (arith, strict h)))))
-
-  more-params : (d : ℕ) (l : Tree paramList) (b at : ℕ) → at < length ks → ((r : List ℕ) → upto at r ≡ upto b (onto l r)) → Fuel 1 d at → Reads b (λ ss. sParamMore ∷ ss) at (moreParams ks d l at)
-  unfolding moreParams onto run step
-  more-params zero l b at i w f = absurd (omega arith)
-  more-params (suc d) l b at i w f =
-      split (eqb (peek ks at) kComma)
-      (λ e. let x = eat at kComma i e refl in eatThen {S′ = λ ss. tok kInt ∷ tok kName ∷ sParamMore ∷ ss} x (λ ss r. refl)
-      (expects kInt (someParams (nextParam l 0)) (λ r. kInt ∷ kName ∷ kClose ∷ r) (x .inside) refl (λ r. x .read _ ∙ w _)
-      (λ y. expects kName (someParams (nextParam l 0)) (λ r. kName ∷ kClose ∷ r) (y .inside) refl (λ r. y .read _ ∙ x .read _ ∙ w _)
-      (λ z. more-params d (nextParam l (at + 1 + 1)) b (at + 1 + 1 + 1) (z .inside) (λ r. z .read _ ∙ y .read _ ∙ x .read _ ∙ w _) (omega arith)))))
-      (λ e₁. split (eqb (peek ks at) kClose)
-      (λ e. let x = eat at kClose i e refl in eatThen x (λ ss r. refl) (done (x .inside) (λ r. x .read r ∙ w _)))
-      (λ e₂. stop i (someParams l) (λ r. kClose ∷ r) (λ r. w _) (λ ss. rw (e₁, e₂))))
-
-  params-right : (d at : ℕ) → at < length ks → Fuel 1 d at → Reads at (λ ss. sParams ∷ ss) at (readParams ks d at)
-  unfolding readParams onto run step
-  params-right zero at i f = absurd (omega arith)
-  params-right (suc d) at i f =
-      split (eqb (peek ks at) kClose)
-      (λ e. let x = eat at kClose i e refl in eatThen x (λ ss r. refl) (done (x .inside) (x .read)))
-      (λ e. skip {S′ = λ ss. tok kInt ∷ tok kName ∷ sParamMore ∷ ss} i (λ ss. rw e)
-      (expects kInt noParams (λ r. kClose ∷ r) i refl (λ r. refl)
-      (λ y. expects kName (someParams (firstParam 0)) (λ r. kName ∷ kClose ∷ r) (y .inside) refl (λ r. y .read _)
-      (λ z. more-params d (firstParam (at + 1)) at (at + 1 + 1) (z .inside) (λ r. z .read _ ∙ y .read _) (omega arith)))))
-
-  fun-right : (d at : ℕ) → Eat at kInt → Fuel 1 d at → Reads at (λ ss. tok kName ∷ tok kOpen ∷ sParams ∷ tok kLbrace ∷ sBody ∷ ss) (at + 1) (readFun ks d at)
-  unfolding readFun onto run step
-  fun-right zero at x f = absurd (omega (arith, x .inside))
-  fun-right (suc d) at x f =
-      expects kName (function 0 noParams (braced noStmts 0)) (λ r. kName ∷ kOpen ∷ kClose ∷ kLbrace ∷ kRbrace ∷ r) (x .inside) refl (λ r. x .read _)
-      (λ y. expects kOpen (function 0 noParams (braced noStmts 0)) (λ r. kOpen ∷ kClose ∷ kLbrace ∷ kRbrace ∷ r) (y .inside) refl (λ r. y .read _ ∙ x .read _)
-      (λ z. after (λ p. function 0 p (braced noStmts 0)) (λ r. kLbrace ∷ kRbrace ∷ r) (λ t r. z .read _ ∙ y .read _ ∙ x .read _) (params-right d (at + 1 + 1 + 1) (z .inside) (omega arith))
-      (λ p m h. expects kLbrace (function 0 p (braced noStmts 0)) (λ r. kLbrace ∷ kRbrace ∷ r) (h .inside) refl (λ r. h .read _ ∙ z .read _ ∙ y .read _ ∙ x .read _)
-      (λ u. after (λ b. function 0 p b) (λ r. r) (λ t r. u .read _ ∙ h .read _ ∙ z .read _ ∙ y .read _ ∙ x .read _) (body-right d noStmts (m + 1) (m + 1) (u .inside) (λ r. refl) (omega (arith, h .past)))
-      (λ b n g. done (g .inside) (λ r. g .read r ∙ u .read _ ∙ h .read _ ∙ z .read _ ∙ y .read _ ∙ x .read _))))))
-
-  pub prog-right : (d : ℕ) (l : Tree prog) (b at : ℕ) → at < length ks → ((r : List ℕ) → upto at r ≡ upto b (onto l r)) → Fuel 2 d at → Reads b (λ ss. sFuns ∷ ss) at (moreProg ks d l at)
-  unfolding moreProg onto run step
-  prog-right zero l b at i w f = absurd (omega arith)
-  prog-right (suc d) l b at i w f =
-      split (eqb (peek ks at) kInt)
-      (λ e. let x = eat at kInt i e refl in eatThen {S′ = λ ss. tok kName ∷ tok kOpen ∷ sParams ∷ tok kLbrace ∷ sBody ∷ sFuns ∷ ss} x (λ ss r. refl)
-      (after {S₁ = λ ss. tok kName ∷ tok kOpen ∷ sParams ∷ tok kLbrace ∷ sBody ∷ ss} (λ t. moreFuns l t) (λ r. r) (λ t r. w _) (fun-right d at x (omega arith))
-      (λ t m h. prog-right d (moreFuns l t) b m (h .inside) (λ r. h .read r ∙ w _) (omega (arith, h .past)))))
-      (λ e. skip i (λ ss. rw e) (done i w))

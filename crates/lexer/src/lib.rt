@@ -7,8 +7,7 @@ ghost use lib.ListN.{length, drop, getD};
 ghost use Rattle.syntax.specs.Token.{kEnd, kName};
 ghost use Rattle.lexer.specs.Lex.{isDigit, isLetter, all, same, words, marks, kindIn, decimal, front};
 ghost use Rattle.lexer.specs.Parts.{classOf, atLeast, span, limit, pieceOf, largeAs, firstLarge, Lexes};
-
-pub mod token;
+use syntax::token;
 
 // The first value that no number may have.
 const LIMIT: u32 = 2147483648;

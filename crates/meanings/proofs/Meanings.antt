@@ -26,7 +26,7 @@ length-noted l [] = refl
 length-noted l (m ∷ ms) = length-noted (set l (m .token) (m .means)) ms ∙ length-set l (m .token) (m .means)
 
 -- what token i means depends on what it meant before, and not on other tokens
-meant-at : (f g : ℕ → ℕ) (ms : List Meaning) (i : ℕ) → f i ≡ g i → meant f ms i ≡ meant g ms i
+pub meant-at : (f g : ℕ → ℕ) (ms : List Meaning) (i : ℕ) → f i ≡ g i → meant f ms i ≡ meant g ms i
 unfolding meant
 meant-at f g [] i e = e
 meant-at f g (m ∷ ms) i e =

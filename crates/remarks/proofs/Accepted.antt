@@ -14,13 +14,12 @@ use borrow.Author.Tests.{leb-false}
 use Rattle.events.specs.Event.{Event, function, parameter, thing, opens, closes, declares, uses, calls, ends}
 use Rattle.events.proofs.Tokens.{Within, Each}
 use Rattle.events.proofs.Tokens as W
-use Rattle.rules.specs.Scan.{scan, when, least, lesser, on}
-use Rattle.rules.specs.Rules.{Head, heads, functionOf, tooDeep, miscalls, openEnds, mains, badMain, mainless, Tally, tally, counted, over, tooMany}
+use Rattle.rules.specs.Scan.{scan, when, on}
+use Rattle.rules.specs.Rules.{Head, heads, functionOf, mains, badMain, Tally, tally, counted, over, tooMany}
 use Rattle.rules.specs.Names.{ifFound, repeated, badVariables, badFunctions, badNames, uncalled}
 use Rattle.rules.specs.Resolve.{mainOf}
 use Rattle.rules.specs.Answers.{headsFrom, storedHeads}
 use Rattle.rules.proofs.Functions.{bad-none}
-use Rattle.checker.specs.Check.{Fault, orElse, rules, firstBroken}
 
 nil-left : {A : Type 0} (a b : List A) → a ++ b ≡ [] → a ≡ []
 nil-left [] b e = refl
@@ -30,47 +29,10 @@ nil-right : {A : Type 0} (a b : List A) → a ++ b ≡ [] → b ≡ []
 nil-right [] b e = e
 nil-right (x ∷ a) b e = absurd (let z : _≡_ {A = ℕ} 0 1 = cc in omega arith)
 
--- ---- a rule that is not broken
+-- ---- no two functions have the same name, where rule 6 is kept
 
-whole : (n : ℕ) (x : Option ℕ) (later : Option Fault) → orElse n x later ≡ none → (x ≡ none) × (later ≡ none)
-whole n none later e = (refl, e)
-whole n (some i) later e = absurd (let z : _≡_ {A = ℕ} 0 1 = cc in omega arith)
-
-least-none : (l : List ℕ) → least l ≡ none → l ≡ []
-unfolding least lesser
-least-none [] e = refl
-least-none (i ∷ l) e = absurd (go (least l) e)
-  where
-    go : (x : Option ℕ) → lesser i x ≡ none → ⊥
-    go none e = let z : _≡_ {A = ℕ} 0 1 = cc in omega arith
-    go (some j) e = let z : _≡_ {A = ℕ} 0 1 = cc in omega arith
-
-pub record Unbroken (same : ℕ → ℕ → Bool) (isMain : ℕ → Bool) (end : ℕ) (es : List Event) : Type 0 where
-  pub repeats : repeated same [] (heads es) ≡ []
-  pub main : mainless isMain end es ≡ []
-  pub many : tooMany es ≡ []
-
-pub unbroken : (same : ℕ → ℕ → Bool) (isMain : ℕ → Bool) (end : ℕ) (es : List Event) → firstBroken (rules same isMain end es) ≡ none → Unbroken same isMain end es
-unfolding rules firstBroken
-unbroken same isMain end es e =
-    let after10 : Option Fault = none in
-    let after9 = orElse 10 (least (tooMany es)) after10 in
-    let after8 = orElse 9 (least (openEnds es)) after9 in
-    let after7 = orElse 8 (least (mainless isMain end es)) after8 in
-    let after6 = orElse 7 (least (miscalls same es)) after7 in
-    let after5 = orElse 6 (least (badNames same es)) after6 in
-    let r5 = whole 5 (least (tooDeep es)) after5 e in
-    let r6 = whole 6 (least (badNames same es)) after6 (r5 .1) in
-    let r7 = whole 7 (least (miscalls same es)) after7 (r6 .1) in
-    let r8 = whole 8 (least (mainless isMain end es)) after8 (r7 .1) in
-    let r9 = whole 9 (least (openEnds es)) after9 (r8 .1) in
-    let r10 = whole 10 (least (tooMany es)) after10 (r9 .1) in
-    let bad : badVariables same es ++ badFunctions same es ≡ [] = least-none (badNames same es) (r6 .0) in
-    record {
-      repeats = nil-right (on (uncalled same (heads es)) es) (repeated same [] (heads es)) (nil-right (badVariables same es) (badFunctions same es) bad);
-      main = least-none (mainless isMain end es) (r8 .0);
-      many = least-none (tooMany es) (r10 .0);
-    }
+pub unrepeated : (same : ℕ → ℕ → Bool) (es : List Event) → badNames same es ≡ [] → repeated same [] (heads es) ≡ []
+unrepeated same es e = nil-right (on (uncalled same (heads es)) es) (repeated same [] (heads es)) (nil-right (badVariables same es) (badFunctions same es) e)
 
 -- ---- rule 10: at most 16 functions
 

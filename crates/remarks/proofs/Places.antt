@@ -29,7 +29,8 @@ use Rattle.checker.specs.Analysis.{Known}
 use Rattle.checker.proofs.Analysing.{Into, as-long, token-list, few-listed}
 use Rattle.remarks.specs.Steps.{offsetIn, Apart, Fair}
 use Rattle.remarks.proofs.Marking.{clash}
-use Rattle.remarks.proofs.Accepted.{Unbroken, unbroken, few-functions, has-main, other-name, nameAt, names-below, name-stored}
+use Rattle.checker.proofs.Exactly.{Unbroken, unbroken}
+use Rattle.remarks.proofs.Accepted.{unrepeated, few-functions, has-main, other-name, nameAt, names-below, name-stored}
 
 -- ---- places ascend
 
@@ -109,12 +110,12 @@ module _ {text ks ps vs nodes items heads before slots : List ℕ} {n root e h :
   one-place : (f g : ℕ) → f < h → g < h → offsetIn (take n ps) heads f ≡ offsetIn (take n ps) heads g → f < g → ⊥
   one-place f g p q z lt =
       let s : getD heads (2 * f) 0 ≡ getD heads (2 * g) 0 = same-token x (getD heads (2 * f) 0) (getD heads (2 * g) 0) (token-below f p) (token-below g q) z in
-      let d = other-name (sameName text (take n ps) (take n vs)) (R.heads (events (ast (k .tree)))) (rules .repeats) f g lt (subst (λ (i : ℕ). g < i) as-many-functions q) in
+      let d = other-name (sameName text (take n ps) (take n vs)) (R.heads (events (ast (k .tree)))) (unrepeated (sameName text (take n ps) (take n vs)) (events (ast (k .tree))) (rules .names)) f g lt (subst (λ (i : ℕ). g < i) as-many-functions q) in
       clash (same-itself (spelled text (take n ps) (take n vs) (nameAt (R.heads (events (ast (k .tree)))) g)))
       (ap (λ (i : ℕ). sameName text (take n ps) (take n vs) i (nameAt (R.heads (events (ast (k .tree)))) g)) (sym (name-is g q) ∙ sym s ∙ name-is f p) ∙ d)
 
   apart : Apart (take n ps) heads h
-  apart = record { most = omega (arith, as-many-functions, few-functions (events (ast (k .tree))) (rules .many)); fits = λ g p. omega (arith, low-place x (getD heads (2 * g) 0) (token-below g p)); differ = λ f g p q z. go f g p q z (decLt f g) (decLt g f) }
+  apart = record { most = omega (arith, as-many-functions, few-functions (events (ast (k .tree))) (rules .counts)); fits = λ g p. omega (arith, low-place x (getD heads (2 * g) 0) (token-below g p)); differ = λ f g p q z. go f g p q z (decLt f g) (decLt g f) }
     where
       go : (f g : ℕ) → f < h → g < h → offsetIn (take n ps) heads f ≡ offsetIn (take n ps) heads g → Dec (f < g) → Dec (g < f) → f ≡ g
       go f g p q z (yes a) b = absurd (one-place f g p q z a)
@@ -123,7 +124,7 @@ module _ {text ks ps vs nodes items heads before slots : List ℕ} {n root e h :
 
   pub fair : 12288 ≤ length items → 8192 ≤ length heads → Fair text (take n ps) (take n vs) items e heads h
   fair i j =
-      let w : h ≤ 16 = omega (arith, as-many-functions, few-functions (events (ast (k .tree))) (rules .many)) in
+      let w : h ≤ 16 = omega (arith, as-many-functions, few-functions (events (ast (k .tree))) (rules .counts)) in
       record {
         listed = omega (arith, i, k .kept .total, program-fits (k .tree) (omega (arith, wide, few-listed x room)));
         stored = omega (arith, j, w);

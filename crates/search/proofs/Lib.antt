@@ -3,3 +3,7 @@ pub mod Promises
 pub mod Examples
 pub mod Grounds
 pub mod Cleared
+pub mod Values
+pub mod Building
+pub mod Searching
+pub mod Listing

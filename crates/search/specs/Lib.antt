@@ -2,3 +2,4 @@
 pub mod List
 pub mod Promise
 pub mod Parts
+pub mod Code

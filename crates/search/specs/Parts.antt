@@ -1,8 +1,10 @@
 -- What the answers of list and its parts stand for.
 use Prim.Native.Nat.{ℕ}
+use mathlib.Core.List.{List}
+use lib.IntN.{ℤ}
 use mathlib.Core.Option.{Option, none, some}
 use Rattle.semantics.specs.Search.{whole, cuts, full, spent}
-use Rattle.search.specs.List.{Answer, refused, listed}
+use Rattle.search.specs.List.{Answer, refused, listed, Left}
 use Rattle.search.specs.declared.Listed.{Listed}
 use Rattle.search.specs.declared.Listed.the-variants.{Refused, Whole, Cut, Full, Spent}
 use Rattle.search.specs.declared.Ground.{Ground}
@@ -15,6 +17,10 @@ answerOf (Whole r m) = listed r m whole
 answerOf (Cut r m) = listed r m cuts
 answerOf (Full r m) = listed r m full
 answerOf (Spent r m) = listed r m spent
+
+-- the answer, with the words of both slices at exit
+abbrev pub leaves : Listed → List ℤ → List ℕ → Left
+leaves r rows scratch = record { answer = answerOf r; rows = rows; scratch = scratch }
 
 -- a ground for a refusal, by its number
 abbrev pub groundOf : Ground → Option ℕ
