@@ -2,8 +2,9 @@
 //! slices with random words in them and around them, and looks at every word
 //! afterwards.
 
+use crate::plans::{Plans, Row};
 use crate::random::Random;
-use crate::search::{Ending, Listing};
+use crate::search::{Ending, Listing, ROW_WORDS};
 use crate::{linked, Job, Refusal};
 use std::collections::BTreeSet;
 use std::fmt::Debug;
@@ -123,7 +124,8 @@ pub fn list_answer(reference: &Result<Listing, Refusal>) -> [u32; 5] {
     [number, place, ending, listing.rows.len() as u32, listing.moves]
 }
 
-/// Compares list with what the reference answered for this text and job.
+/// Compares list with what the reference answered for this text and job, with
+/// an answer slice of mostly five words or some more.
 pub fn list(
     random: &mut Random,
     text: &[u8],
@@ -131,18 +133,27 @@ pub fn list(
     reference: &Result<Listing, Refusal>,
 ) -> Result<(), String> {
     let length = answer_length(random, 5);
-    let mut rows = Lent::new("rows", job.rows_len, || random.bits() as i32);
-    let mut scratch = Lent::new("scratch", job.scratch_len, || random.bits() as u32);
-    let mut answer = Lent::new("answer", length, || random.bits() as u32);
+    list_with(random, text, job, reference, length)
+}
+
+/// The same with an answer slice of this length: one of fewer than five words
+/// has nothing written anywhere.
+pub fn list_with(
+    random: &mut Random,
+    text: &[u8],
+    job: &Job,
+    reference: &Result<Listing, Refusal>,
+    length: usize,
+) -> Result<(), String> {
+    let mut lent = LentToList::new(random, job, length);
     if length >= 5 {
-        answer.expect(&list_answer(reference));
+        lent.answer.expect(&list_answer(reference));
         if let Ok(listing) = reference {
-            rows.expect(&listing.rows.concat());
-            scratch.expect(&vec![0; job.scratch_len]);
+            lent.rows.expect(&listing.rows.concat());
+            lent.scratch.expect(&vec![0; job.scratch_len]);
         }
     }
-    linked::list(text, job, rows.lend(), scratch.lend(), answer.lend());
-    let show = |what| {
+    lent.list(text, job).map_err(|what| {
         let short = match reference {
             Ok(listing) => {
                 format!("{:?} {} rows {} moves", listing.ending, listing.rows.len(), listing.moves)
@@ -150,8 +161,104 @@ pub fn list(
             Err(refusal) => format!("refusal {refusal:?}"),
         };
         format!("plans_list: {what}; the reference: {short}; {job:?}")
+    })
+}
+
+/// What is lent to list beside the text, with random words in it.
+struct LentToList {
+    rows: Lent<i32>,
+    scratch: Lent<u32>,
+    answer: Lent<u32>,
+}
+
+impl LentToList {
+    fn new(random: &mut Random, job: &Job, answer: usize) -> LentToList {
+        LentToList {
+            rows: Lent::new("rows", job.rows_len, || random.bits() as i32),
+            scratch: Lent::new("scratch", job.scratch_len, || random.bits() as u32),
+            answer: Lent::new("answer", answer, || random.bits() as u32),
+        }
+    }
+
+    fn call(&mut self, text: &[u8], job: &Job) {
+        linked::list(text, job, self.rows.lend(), self.scratch.lend(), self.answer.lend());
+    }
+
+    fn compare(&self) -> Result<(), String> {
+        self.answer.compare()?;
+        self.rows.compare()?;
+        self.scratch.compare()
+    }
+
+    fn list(&mut self, text: &[u8], job: &Job) -> Result<(), String> {
+        self.call(text, job);
+        self.compare()
+    }
+}
+
+/// What the linked list answers and writes; `None` where that has no meaning.
+pub fn listed(text: &[u8], job: &Job) -> Option<Result<Listing, Refusal>> {
+    let mut rows = vec![7; job.rows_len];
+    let mut scratch = vec![7; job.scratch_len];
+    let mut answer = [7; 5];
+    linked::list(text, job, &mut rows, &mut scratch, &mut answer);
+    let [number, place, ending, written, moves] = answer;
+    if number != 0 {
+        return Some(Err((number, place as usize)));
+    }
+    let ending = match ending {
+        0 => Ending::Whole,
+        1 => Ending::Cut,
+        2 => Ending::Full,
+        3 => Ending::Spent,
+        _ => return None,
     };
-    answer.compare().map_err(show)?;
-    rows.compare().map_err(show)?;
-    scratch.compare().map_err(show)
+    let words = rows.get(..written as usize * ROW_WORDS)?;
+    let row = |words: &[i32]| words.try_into().expect("ten words");
+    let rows: Vec<Row> = words.chunks_exact(ROW_WORDS).map(row).collect();
+    let counted = rows.iter().all(|row| (0..=8).contains(&row[1]));
+    counted.then_some(Ok(Listing { rows, moves, ending }))
+}
+
+/// Holds what list wrote to the plan list that was made from the runs alone,
+/// as demand 3 says; the reference's search has no part in it. The job is not
+/// refused.
+pub fn plans(random: &mut Random, text: &[u8], job: &Job, plans: &Plans) -> Result<(), String> {
+    let mut lent = LentToList::new(random, job, 5);
+    lent.call(text, job);
+    let answer = lent.answer.lend().to_vec();
+    let [number, place, ending, written, moves] = answer[..] else { unreachable!("five words") };
+    let show = |what: &str| {
+        let rows = plans.rows.len();
+        let cut = if plans.cut { "some" } else { "no" };
+        format!("plans_list: {what}; answer {answer:?}; {rows} rows from runs, {cut} cut; {job:?}")
+    };
+    if (number, place) != (0, 0) {
+        return Err(show("the job was refused"));
+    }
+    let room = job.rows_len / ROW_WORDS;
+    if written as usize > room {
+        return Err(show("there are more rows than have a place"));
+    }
+    let rest = &plans.rows[plans.rows.len().min(job.skip as usize)..];
+    let Some(front) = rest.get(..written as usize) else {
+        return Err(show("there are rows that no run gives"));
+    };
+    lent.answer.expect(&answer);
+    lent.rows.expect(&front.concat());
+    lent.scratch.expect(&vec![0; job.scratch_len]);
+    lent.compare().map_err(|what| show(&what))?;
+    let all = front.len() == rest.len();
+    let fits = match ending {
+        0 => all && !plans.cut && moves <= job.budget,
+        1 => all && plans.cut && moves <= job.budget,
+        2 => !all && front.len() == room && moves <= job.budget,
+        3 => moves == job.budget,
+        _ => false,
+    };
+    if fits {
+        Ok(())
+    } else {
+        Err(show("the ending does not fit the plan list"))
+    }
 }

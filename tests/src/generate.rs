@@ -823,6 +823,27 @@ pub fn job(random: &mut Random) -> Job {
     Job { low, high, steps, skip, budget, rows_len, scratch_len }
 }
 
+/// A job whose runs can all be tried, with a budget that mostly suffices.
+pub fn small_job(random: &mut Random) -> Job {
+    let low = random.between(-2, 2) as i32;
+    let (low, high) = match random.below(12) {
+        0 => (i32::MAX - 2, i32::MAX),
+        1 => (i32::MIN, i32::MIN + 2),
+        2 => (low, low + random.below(40) as i32),
+        _ => (low, low + random.below(5) as i32),
+    };
+    let most_steps = *random.pick(&[&30, &100, &1000]);
+    Job {
+        low,
+        high,
+        steps: 1 + random.below(most_steps) as u32,
+        skip: 0,
+        budget: 100_000,
+        rows_len: 100_000,
+        scratch_len: LEAST_SCRATCH,
+    }
+}
+
 fn window(random: &mut Random) -> (i32, i32) {
     let (low, values) = match random.below(20) {
         0..=10 => (random.between(-3, 2), random.between(1, 5)),

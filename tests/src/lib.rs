@@ -9,6 +9,7 @@
 //!   operation list.
 //! - `lister`: the program around list (job line and printing).
 //! - `random`, `generate`: random texts and jobs; `examples`: fixed ones.
+//! - `rule_files`: the rules of the folder `rules/`.
 //! - `linked`: the exported functions of the proved lister; `cases`: single
 //!   comparisons with them.
 
@@ -22,6 +23,7 @@ pub mod parser;
 pub mod plans;
 pub mod program;
 pub mod random;
+pub mod rule_files;
 pub mod rules;
 pub mod run;
 pub mod search;

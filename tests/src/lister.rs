@@ -1,18 +1,15 @@
 //! The program around list: the job line, then the text; what is printed.
 
-use crate::search::{list, Ending, Job, LEAST_SCRATCH, ROW_WORDS};
+use crate::search::{list, Ending, Job, Listing, LEAST_SCRATCH, ROW_WORDS};
 use crate::Refusal;
 use std::fmt::Write;
 
 /// What the program prints for this standard input.
 pub fn print(input: &[u8]) -> String {
-    match listed(input) {
-        Ok(lines) => lines,
-        Err((number, place)) => format!("refused {number} at {place}\n"),
-    }
+    shown(&listed(input))
 }
 
-fn listed(input: &[u8]) -> Result<String, Refusal> {
+fn listed(input: &[u8]) -> Result<Listing, Refusal> {
     let end = input.iter().position(|b| *b == b'\n').ok_or((16, 0))?;
     let (low, high, steps) = job_line(&input[..end]).ok_or((16, 0))?;
     let job = Job {
@@ -24,7 +21,15 @@ fn listed(input: &[u8]) -> Result<String, Refusal> {
         rows_len: 1_000 * ROW_WORDS,
         scratch_len: LEAST_SCRATCH,
     };
-    let listing = list(&input[end + 1..], &job)?;
+    list(&input[end + 1..], &job)
+}
+
+/// The lines for what list answered and wrote.
+pub fn shown(answer: &Result<Listing, Refusal>) -> String {
+    let listing = match answer {
+        Ok(listing) => listing,
+        Err((number, place)) => return format!("refused {number} at {place}\n"),
+    };
     let mut lines = String::new();
     for row in &listing.rows {
         write!(lines, "{} :", row[0]).expect("a string takes all");
@@ -41,7 +46,7 @@ fn listed(input: &[u8]) -> Result<String, Refusal> {
     };
     let rows = listing.rows.len();
     writeln!(lines, "{ending} {rows} rows {} moves", listing.moves).expect("a string takes all");
-    Ok(lines)
+    lines
 }
 
 /// `job LOW HIGH STEPS` without its line end.

@@ -1,7 +1,8 @@
 //! Every example of the paper, and every reading of it that has a number of
 //! moves or a place, tried on the reference.
 
-use reference::lister::print;
+use reference::examples::{by_hand, Example};
+use reference::lister::{print, shown};
 use reference::search::LEAST_SCRATCH;
 use reference::{check, list, remarks, with_room, Ending, Job, Listing, Refusal};
 
@@ -42,6 +43,14 @@ fn checked(text: &str) -> Result<(), Refusal> {
 }
 
 // ---- Rules tried by hand ----
+
+#[test]
+fn tried_by_hand() {
+    for (Example { name, text, job }, printed) in by_hand() {
+        let answer = shown(&list(&text, &job));
+        assert!(answer.starts_with(printed), "{name}: {answer}");
+    }
+}
 
 #[test]
 fn a_with_budgets() {

@@ -5,30 +5,10 @@ use reference::generate;
 use reference::plans::plans;
 use reference::program::Program;
 use reference::random::Random;
-use reference::search::{search, Ending, Job, LEAST_SCRATCH};
+use reference::search::{search, Ending, Job};
 use reference::with_room;
 
 const MOST_RUNS: usize = 2_000;
-
-fn random_job(random: &mut Random) -> Job {
-    let low = random.between(-2, 2) as i32;
-    let (low, high) = match random.below(12) {
-        0 => (i32::MAX - 2, i32::MAX),
-        1 => (i32::MIN, i32::MIN + 2),
-        2 => (low, low + random.below(40) as i32),
-        _ => (low, low + random.below(5) as i32),
-    };
-    let most_steps = *random.pick(&[&30, &100, &1000]);
-    Job {
-        low,
-        high,
-        steps: 1 + random.below(most_steps) as u32,
-        skip: 0,
-        budget: 100_000,
-        rows_len: 100_000,
-        scratch_len: LEAST_SCRATCH,
-    }
-}
 
 /// A number from the environment, for longer trials.
 fn number(name: &str, usual: usize) -> usize {
@@ -43,7 +23,7 @@ fn search_finds_the_plan_list() {
         let (mut compared, mut with_rows, mut cut, mut mixed) = (0, 0, 0, 0);
         for number in 0..jobs {
             let text = generate::small(&mut random);
-            let job = random_job(&mut random);
+            let job = generate::small_job(&mut random);
             let shown = || format!("job {number}: {job:?}\n{}", String::from_utf8_lossy(&text));
             let Ok(program) = Program::of(&text) else { continue };
             let Some(plans) = plans(&program, job.low, job.high, job.steps, MOST_RUNS) else {

@@ -73,7 +73,7 @@ fn rule_all(
 }
 
 // What the rules say of n events.
-pub fn judge(
+fn judge(
     text: &[u8],
     places: &[u32],
     values: &[u32],

@@ -1,2 +1,3 @@
 -- Laws for the exported functions.
 pub mod Places
+pub mod Lists

@@ -67,7 +67,7 @@ pub struct Both {
 }
 
 // The cell at a word.
-pub fn load(mem: &[u32], at: usize) -> Cell
+fn load(mem: &[u32], at: usize) -> Cell
     requires { ⌜ at + 1 < length (now mem) ⌝ }
     ensures { λ r. ⌜ (cellOf (r .value) ≡ cellAt (now (mem .entry)) at) × Sized (r .value) ⌝ }
 {
@@ -83,7 +83,7 @@ pub fn load(mem: &[u32], at: usize) -> Cell
 }
 
 // Writes a cell.
-pub fn put(mem: &mut [u32], at: usize, c: Cell)
+fn put(mem: &mut [u32], at: usize, c: Cell)
     requires { ⌜ (at + 1 < length (now mem)) × Sized (c .value) ⌝ }
     ensures { λ _. ⌜ Put (now (mem .entry)) (now (mem .exit)) at (cellOf (c .value)) ⌝ }
 {
@@ -206,7 +206,7 @@ fn less(a: usize, b: usize) -> usize
 }
 
 // The two operands of the next entry, the right one of which has d entries.
-pub fn pair(code: &[u32], size: usize, mem: &[u32], run: Run, d: usize) -> Both
+fn pair(code: &[u32], size: usize, mem: &[u32], run: Run, d: usize) -> Both
     requires { ⌜ (2 * size ≤ length (now code)) × Ready (now mem) run ⌝ }
     ensures { λ r. ⌜ Paired (codeIn (now (code .entry)) size) (now (mem .entry)) run d (r .left) (r .right) (r .top) ⌝ }
 {
@@ -230,7 +230,7 @@ pub fn pair(code: &[u32], size: usize, mem: &[u32], run: Run, d: usize) -> Both
 }
 
 // An operation.
-pub fn operate(code: &[u32], size: usize, mem: &mut [u32], run: Run, op: u32, d: usize) -> Run
+fn operate(code: &[u32], size: usize, mem: &mut [u32], run: Run, op: u32, d: usize) -> Run
     requires { ⌜ (2 * size ≤ length (now code)) × Ready (now mem) run × (op < 3) × (run .pc < size) × Room (now mem) (run .top + 1) × Room (now mem) (run .nodes + 1) ⌝ }
     ensures { λ r. ⌜ Goes Doing.step 1 (acts (codeIn (now (code .entry)) size) (now (mem .entry)) run (operateS (operation op) d)) (now (mem .entry)) (run .nodes) (now (mem .exit)) r ⌝ }
 {
@@ -251,7 +251,7 @@ pub fn operate(code: &[u32], size: usize, mem: &mut [u32], run: Run, op: u32, d:
 }
 
 // An assignment.
-pub fn store(code: &[u32], size: usize, mem: &mut [u32], run: Run, a: Address) -> Run
+fn store(code: &[u32], size: usize, mem: &mut [u32], run: Run, a: Address) -> Run
     requires { ⌜ (2 * size ≤ length (now code)) × Ready (now mem) run × (a .0 < 16) × (run .pc < size) ⌝ }
     ensures { λ r. ⌜ Goes Doing.silent 0 (acts (codeIn (now (code .entry)) size) (now (mem .entry)) run (storeS (slot (a .0)))) (now (mem .entry)) (run .nodes) (now (mem .exit)) r ⌝ }
 {
@@ -269,7 +269,7 @@ pub fn store(code: &[u32], size: usize, mem: &mut [u32], run: Run, a: Address) -
 }
 
 // A declaration: the variable is 0.
-pub fn clear(mem: &mut [u32], run: Run, a: Address) -> Run
+fn clear(mem: &mut [u32], run: Run, a: Address) -> Run
     requires { ⌜ Ready (now mem) run × (a .0 < 16) × (run .pc < 65536) ⌝ }
     ensures { λ r. ⌜ Goes (λ x. x) 0 (storing (now (mem .entry)) run (a .0) (known (pos 0))) (now (mem .entry)) (run .nodes) (now (mem .exit)) r ⌝ }
 {
@@ -291,7 +291,7 @@ pub fn clear(mem: &mut [u32], run: Run, a: Address) -> Run
 }
 
 // A free declaration: the variable is the unknown k.
-pub fn ask(mem: &mut [u32], run: Run, a: Address, k: u32) -> Run
+fn ask(mem: &mut [u32], run: Run, a: Address, k: u32) -> Run
     requires { ⌜ Ready (now mem) run × (a .0 < 16) × (run .pc < 65536) × Room (now mem) (run .nodes + 1) ⌝ }
     ensures { λ r. ⌜ Asked (storing (now (mem .entry)) run (a .0)) (now (mem .entry)) (run .nodes) (now (mem .exit)) k r ⌝ }
 {
@@ -314,7 +314,7 @@ pub fn ask(mem: &mut [u32], run: Run, a: Address, k: u32) -> Run
 }
 
 // A return to a caller.
-pub fn leave(code: &[u32], size: usize, mem: &mut [u32], run: Run) -> Run
+fn leave(code: &[u32], size: usize, mem: &mut [u32], run: Run) -> Run
     requires { ⌜ (2 * size ≤ length (now code)) × Ready (now mem) run × (1 ≤ run .depth) × Room (now mem) (run .base + 1) ⌝ }
     ensures { λ r. ⌜ Goes Doing.silent 0 (acts (codeIn (now (code .entry)) size) (now (mem .entry)) run returnS) (now (mem .entry)) (run .nodes) (now (mem .exit)) r ⌝ }
 {
@@ -399,7 +399,7 @@ fn gather(code: &[u32], size: usize, mem: &mut [u32], run: Run, n: usize) -> usi
 }
 
 // A call of function g with n arguments.
-pub fn enter(code: &[u32], size: usize, mem: &mut [u32], run: Run, g: usize, n: usize) -> Run
+fn enter(code: &[u32], size: usize, mem: &mut [u32], run: Run, g: usize, n: usize) -> Run
     requires { ⌜ (2 * size + 16 ≤ length (now code)) × Ready (now mem) run × (run .depth < 32) × (run .pc < size) × (size < 65536) × (g < 16) ⌝ }
     ensures { λ r. ⌜ Goes Doing.step 1 (acts (codeIn (now (code .entry)) size) (now (mem .entry)) run (callS g n)) (now (mem .entry)) (run .nodes) (now (mem .exit)) r ⌝ }
 {

@@ -416,7 +416,7 @@ fn proceed(p: Point, run: Run) -> Point
 }
 
 // One turn of the path: one entry of the code is worked, within the limits.
-pub fn turn(code: &[u32], size: usize, mem: &mut [u32], job: Window, p: Point) -> Turned
+fn turn(code: &[u32], size: usize, mem: &mut [u32], job: Window, p: Point) -> Turned
     requires { ⌜ (2 * size + 16 ≤ length (now code)) × (size < 65536) × Going (now mem) p × Filled (ofWindow job) ⌝ }
     ensures { λ r. ⌜ Turning (turnS byRanges (ofWindow job) (codeIn (now (code .entry)) size) (machineAt (now (mem .entry)) (p .run)) (stateAt (now (mem .entry)) p)) (now (mem .exit)) p r × Onwards (now (mem .exit)) r ⌝ }
 {

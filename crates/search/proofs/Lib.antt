@@ -7,3 +7,4 @@ pub mod Values
 pub mod Building
 pub mod Searching
 pub mod Listing
+pub mod Bounds

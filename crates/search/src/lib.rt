@@ -56,7 +56,7 @@ fn is_wide(low: i32, high: i32) -> bool
 }
 
 // The first of list's own grounds for a refusal, where scratch has this many words.
-pub fn refusal(low: i32, high: i32, steps: u32, words: usize) -> Ground
+fn refusal(low: i32, high: i32, steps: u32, words: usize) -> Ground
     ensures { λ r. ⌜ groundOf r ≡ ground words low high steps ⌝ }
 {
     if words < 16384 {
@@ -78,7 +78,7 @@ pub fn refusal(low: i32, high: i32, steps: u32, words: usize) -> Ground
 }
 
 // Leaves scratch all zero.
-pub fn clear(scratch: &mut [u32])
+fn clear(scratch: &mut [u32])
     ensures { λ _. ⌜ now (scratch .exit) ≡ replicate (length (now (scratch .entry))) 0 ⌝ }
 {
     let mut i: usize = 0;

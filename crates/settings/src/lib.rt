@@ -34,7 +34,7 @@ pub enum Tried {
 }
 
 // The number of free variable i, of k, under the present setting; 0, where there is none.
-pub fn value(mem: &[u32], k: usize, i: usize) -> i32
+fn value(mem: &[u32], k: usize, i: usize) -> i32
     requires { ⌜ (k ≤ 8) × (1200 ≤ length (now mem)) ⌝ }
     ensures { λ r. ⌜ r ≡ getD (settingIn (now (mem .entry)) k) i (pos 0) ⌝ }
 {
@@ -45,7 +45,7 @@ pub fn value(mem: &[u32], k: usize, i: usize) -> i32
 }
 
 // The number of a cell, by its two words, where n nodes have theirs; 0, where its node is not among them.
-pub fn number(mem: &[u32], n: usize, kind: u32, x: u32) -> i32
+fn number(mem: &[u32], n: usize, kind: u32, x: u32) -> i32
     requires { ⌜ Room (now mem) n ⌝ }
     ensures { λ r. ⌜ r ≡ numberIn (numbersIn (now (mem .entry)) n) (cellAs kind x) ⌝ }
 {
@@ -126,7 +126,7 @@ fn write_number(mem: &mut [u32], k: usize, j: usize)
 }
 
 // Every node gets its number under the present setting of k free variables, in one pass.
-pub fn numbers(mem: &mut [u32], n: usize, k: usize)
+fn numbers(mem: &mut [u32], n: usize, k: usize)
     requires { ⌜ (k ≤ 8) × Room (now mem) n ⌝ }
     ensures { λ _. ⌜ Numbered (now (mem .entry)) (now (mem .exit)) n k ⌝ }
 {
@@ -138,7 +138,7 @@ pub fn numbers(mem: &mut [u32], n: usize, k: usize)
 }
 
 // Whether the setting under which the nodes have their numbers meets the tests.
-pub fn meets(mem: &[u32], n: usize, tests: usize) -> bool
+fn meets(mem: &[u32], n: usize, tests: usize) -> bool
     requires { ⌜ Room (now mem) n × Room (now mem) tests ⌝ }
     ensures { λ r. ⌜ r ≡ meetsIn (numbersIn (now (mem .entry)) n) (testsIn (now (mem .entry)) tests) ⌝ }
 {
@@ -165,7 +165,7 @@ fn start_from(mem: &mut [u32], i: usize, k: usize)
 }
 
 // Whether there is a setting of k free variables: each window has a number.
-pub fn filled(mem: &[u32], k: usize) -> bool
+fn filled(mem: &[u32], k: usize) -> bool
     requires { ⌜ (k ≤ 8) × (1200 ≤ length (now mem)) ⌝ }
     ensures { λ r. ⌜ r ≡ filledS (windowsIn (now (mem .entry)) k) ⌝ }
 {
@@ -180,7 +180,7 @@ pub fn filled(mem: &[u32], k: usize) -> bool
 }
 
 // The first setting of k free variables.
-pub fn first_setting(mem: &mut [u32], k: usize)
+fn first_setting(mem: &mut [u32], k: usize)
     requires { ⌜ (k ≤ 8) × (1200 ≤ length (now mem)) ⌝ }
     ensures { λ _. ⌜ First (now (mem .entry)) (now (mem .exit)) k ⌝ }
 {
@@ -188,7 +188,7 @@ pub fn first_setting(mem: &mut [u32], k: usize)
 }
 
 // The next setting of k free variables, if there is one: the last variable that is below its window's high end goes up by one, and those behind it start anew.
-pub fn next_setting(mem: &mut [u32], k: usize) -> bool
+fn next_setting(mem: &mut [u32], k: usize) -> bool
     requires { ⌜ (k ≤ 8) × (1200 ≤ length (now mem)) ⌝ }
     ensures { λ r. ⌜ Follows (now (mem .entry)) (now (mem .exit)) k r ⌝ }
 {
@@ -205,7 +205,7 @@ pub fn next_setting(mem: &mut [u32], k: usize) -> bool
 }
 
 // What a value is, where n nodes have their numbers.
-pub fn result(mem: &[u32], n: usize, v: Value) -> i32
+fn result(mem: &[u32], n: usize, v: Value) -> i32
     requires { ⌜ Room (now mem) n ⌝ }
     ensures { λ r. ⌜ r ≡ numberIn (numbersIn (now (mem .entry)) n) (cellOf v) ⌝ }
 {
@@ -235,7 +235,7 @@ fn row_word(result: i32, mem: &[u32], k: usize, j: usize) -> i32
 }
 
 // Writes a row after n others: the result, and the present setting of k free variables.
-pub fn write_row(rows: &mut [i32], n: usize, result: i32, mem: &[u32], k: usize)
+fn write_row(rows: &mut [i32], n: usize, result: i32, mem: &[u32], k: usize)
     requires { ⌜ (k ≤ 8) × (1200 ≤ length (now mem)) × (10 * n + 10 ≤ length (now rows)) ⌝ }
     ensures { λ _. ⌜ Written (now (rows .entry)) (now (rows .exit)) n (rowOf result (settingIn (now (mem .entry)) k)) ⌝ }
 {
@@ -273,7 +273,7 @@ pub fn charge(t: Tally) -> Tried
 }
 
 // A row found: it is skipped, or written, or has no place.
-pub fn place(rows: &mut [i32], t: Tally, result: i32, mem: &[u32], k: usize) -> Tried
+fn place(rows: &mut [i32], t: Tally, result: i32, mem: &[u32], k: usize) -> Tried
     requires { ⌜ (k ≤ 8) × (1200 ≤ length (now mem)) × (10 * (t .written + t .room) ≤ length (now rows)) ⌝ }
     ensures { λ r. ⌜ Placed (now (rows .entry)) (now (rows .exit)) t (placeS (rowOf result (settingIn (now (mem .entry)) k)) (tallyOf (now (rows .entry)) t)) r ⌝ }
 {

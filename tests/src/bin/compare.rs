@@ -1,11 +1,16 @@
-//! Compares the linked lister with the reference on random cases.
+//! Compares the linked lister with the reference.
 //!
-//! `compare CASES SEED`: each case is a text for check and remarks and, with
-//! the feature `list`, a text with a job for list. The paper's examples go
-//! before them. The first difference is
-//! printed with its text, and the exit code is then 1.
+//! `compare CASES SEED`: first the paper's examples and, with the feature
+//! `list`, the grid of jobs; then random cases. Each is a text for check and
+//! remarks and, with the feature `list`, a text with a job for list; in one of
+//! four, what list wrote for a small job is held to the plan list from runs
+//! alone. The first difference is printed with its text, and the exit code is
+//! then 1.
 
 use reference::examples::{self, Example};
+use reference::lister::shown;
+use reference::plans::plans;
+use reference::program::Program;
 use reference::random::Random;
 use reference::search::Ending;
 use reference::{cases, generate, linked, list, with_room, Job, Listing, Refusal};
@@ -15,6 +20,8 @@ use std::collections::BTreeMap;
 const MOST_MOVES: u32 = 30_000;
 /// The same for one case in a hundred.
 const MOST_MOVES_SELDOM: u32 = 1_000_000;
+/// Jobs that would take more runs than this are not tried by runs alone.
+const MOST_RUNS: usize = 1_000;
 
 fn main() {
     let numbers: Vec<u64> =
@@ -34,7 +41,7 @@ fn main() {
 }
 
 fn compare(count: u64, seed: u64) -> bool {
-    if !compare_examples() {
+    if !compare_examples() || (linked::LISTS && !(compare_by_hand() && compare_grid())) {
         return false;
     }
     let mut answers: BTreeMap<String, u64> = BTreeMap::new();
@@ -67,6 +74,14 @@ fn compare(count: u64, seed: u64) -> bool {
             if let Err(what) = cases::list(&mut random, &text, &job, &reference) {
                 return differs(case, &text, &what);
             }
+            if random.chance(250) {
+                let text = generate::small(&mut random);
+                match compare_with_runs(&mut random, &text) {
+                    Some(Ok(())) => *answers.entry("lists from runs".into()).or_default() += 1,
+                    Some(Err(what)) => return differs(case, &text, &what),
+                    None => {}
+                }
+            }
         }
     }
     let kinds: Vec<String> = answers.iter().map(|(kind, n)| format!("{kind}: {n}")).collect();
@@ -92,6 +107,56 @@ fn compare_examples() -> bool {
     }
     println!("{} examples agreed", examples.len());
     true
+}
+
+/// The paper's examples against the paper's own words.
+fn compare_by_hand() -> bool {
+    let known = examples::by_hand();
+    for (number, (Example { name, text, job }, printed)) in known.iter().enumerate() {
+        let answer = cases::listed(text, job).map(|answer| shown(&answer));
+        if !answer.as_ref().is_some_and(|answer| answer.starts_with(printed)) {
+            let what = format!("by hand, {name}: {answer:?}, expected {printed:?}");
+            return differs(number as u64, text, &what);
+        }
+    }
+    println!("{} examples of the paper answered as it says", known.len());
+    true
+}
+
+/// The grid, and answer slices of every small length.
+fn compare_grid() -> bool {
+    let mut random = Random::new(8);
+    let grid = examples::grid();
+    for (number, Example { name, text, job }) in grid.iter().enumerate() {
+        if let Err(what) = cases::list_with(&mut random, text, job, &list(text, job), 5) {
+            return differs(number as u64, text, &format!("grid, {name}: {what}"));
+        }
+    }
+    let endings = examples::endings();
+    for (number, Example { name, text, job }) in endings.iter().enumerate() {
+        for length in 0..=7 {
+            if let Err(what) = cases::list_with(&mut random, text, job, &list(text, job), length) {
+                return differs(number as u64, text, &format!("answer slices, {name}: {what}"));
+            }
+        }
+    }
+    println!("{} jobs of the grid agreed", grid.len() + 8 * endings.len());
+    true
+}
+
+/// A small job with a random skip, budget and room, against the runs alone.
+fn compare_with_runs(random: &mut Random, text: &[u8]) -> Option<Result<(), String>> {
+    let job = generate::small_job(random);
+    let program = Program::of(text).ok()?;
+    let plans = plans(&program, job.low, job.high, job.steps, MOST_RUNS)?;
+    let rows = plans.rows.len();
+    let stopped = Job {
+        skip: if random.chance(500) { 0 } else { random.below(rows + 2) as u32 },
+        budget: if random.chance(700) { job.budget } else { random.below(2_000) as u32 },
+        rows_len: if random.chance(500) { job.rows_len } else { random.below(10 * rows + 12) },
+        ..job
+    };
+    Some(cases::plans(random, text, &stopped, &plans))
 }
 
 fn differs(case: u64, text: &[u8], what: &str) -> bool {
@@ -121,10 +186,12 @@ fn list_job(random: &mut Random, text: &[u8]) -> (Job, Result<Listing, Refusal>)
             let moves = i64::from(listing.moves);
             let rows = listing.rows.len() as i64;
             let near = random.between(-1, 1);
-            match random.below(4) {
+            match random.below(6) {
                 0 => job.budget = (moves + near).max(0) as u32,
                 1 => job.budget = random.between(0, moves) as u32,
                 2 => job.skip = (rows + near).max(0) as u32,
+                // So few steps that some runs are cut and others return.
+                3 | 4 => job.steps = 8 + random.below(40) as u32,
                 _ => job.rows_len = (10 * (rows + near) + random.between(-1, 1)).max(0) as usize,
             }
             reference = held_down(text, &mut job, most);

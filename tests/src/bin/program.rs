@@ -1,11 +1,16 @@
 //! Compares a program that reads a job line and a text, and prints the list,
-//! with the reference: `program PATH CASES SEED`.
+//! with the reference: `program PATH CASES SEED`. First the rules of the
+//! folder `rules/`, whose lists stand there, and inputs at the limits; then
+//! random inputs.
 
 use reference::lister::print;
 use reference::random::Random;
-use reference::{generate, with_room};
+use reference::{generate, rule_files, with_room};
 use std::io::{Read, Write};
 use std::process::{Command, Stdio};
+use std::time::Duration;
+
+const A: &str = "int main() { int y free; if (y < 2) return y; else fail; }";
 
 fn main() {
     let arguments: Vec<String> = std::env::args().skip(1).collect();
@@ -15,23 +20,49 @@ fn main() {
     };
     let count: u64 = count.parse().expect("a number of cases");
     let seed: u64 = seed.parse().expect("a seed");
+    let rules = rule_files::jobs();
+    for job in &rules {
+        compare(path, &job.line, &job.input, &job.list, None);
+    }
+    println!("{} lists of rules agreed", rules.len());
+    let limits = limits();
+    for (name, input, last) in &limits {
+        let expected = with_room(|| print(input));
+        assert_eq!(expected.lines().last(), Some(&last[..]), "the reference, {name}");
+        compare(path, name, input, expected.as_bytes(), None);
+    }
+    // Some of them in pieces, as a slow pipe would hand them over.
+    for (name, input, _) in limits.iter().step_by(5) {
+        let expected = with_room(|| print(input));
+        compare(path, name, input, expected.as_bytes(), Some(input.len() / 6 + 1));
+    }
+    println!("{} inputs at the limits agreed", limits.len());
     for case in 0..count {
         let mut random = Random::new(seed.wrapping_mul(1_000_003).wrapping_add(case));
         let input = input(&mut random);
         let expected = with_room(|| print(&input));
-        let printed = printed_by(path, &input);
-        if printed != expected.as_bytes() {
-            println!("case {case}, input: {:?}", String::from_utf8_lossy(&input));
-            println!("printed:\n{}", String::from_utf8_lossy(&printed));
-            println!("expected:\n{expected}");
-            println!("{case} cases agreed before it");
-            std::process::exit(1);
-        }
+        compare(path, &format!("case {case}"), &input, expected.as_bytes(), None);
     }
     println!("{count} inputs of the program agreed, seed {seed}");
 }
 
-fn printed_by(path: &str, input: &[u8]) -> Vec<u8> {
+/// Ends with exit code 1 where the program prints something else.
+fn compare(path: &str, name: &str, input: &[u8], expected: &[u8], piece: Option<usize>) {
+    let printed = printed_by(path, input, piece);
+    if printed.as_ref().is_ok_and(|printed| printed == expected) {
+        return;
+    }
+    println!("{name}, input of {} bytes: {:?}", input.len(), String::from_utf8_lossy(input));
+    match printed {
+        Ok(printed) => println!("printed:\n{}", String::from_utf8_lossy(&printed)),
+        Err(end) => println!("the program did not end well: {end}"),
+    }
+    println!("expected:\n{}", String::from_utf8_lossy(expected));
+    std::process::exit(1);
+}
+
+/// What the program prints, or how it ended if not with exit status 0.
+fn printed_by(path: &str, input: &[u8], piece: Option<usize>) -> Result<Vec<u8>, String> {
     let mut child = Command::new(path)
         .stdin(Stdio::piped())
         .stdout(Stdio::piped())
@@ -42,13 +73,115 @@ fn printed_by(path: &str, input: &[u8]) -> Vec<u8> {
     let mut printed = Vec::new();
     std::thread::scope(|scope| {
         // A program that has read enough may end before all is written.
-        scope.spawn(move || {
-            let _ = stdin.write_all(input);
+        scope.spawn(move || match piece {
+            None => {
+                let _ = stdin.write_all(input);
+            }
+            Some(piece) => {
+                for bytes in input.chunks(piece) {
+                    let _ = stdin.write_all(bytes);
+                    std::thread::sleep(Duration::from_millis(20));
+                }
+            }
         });
         stdout.read_to_end(&mut printed).expect("the output can be read");
     });
-    child.wait().expect("the program ends");
-    printed
+    let status = child.wait().expect("the program ends");
+    if status.success() {
+        Ok(printed)
+    } else {
+        Err(status.to_string())
+    }
+}
+
+/// Inputs at the limits of line, text, rows and moves, each with its last line.
+fn limits() -> Vec<(String, Vec<u8>, String)> {
+    let mut limits = Vec::new();
+    let mut add = |name: &str, line: &str, text: &[u8], last: &str| {
+        limits.push((name.to_string(), [line.as_bytes(), b"\n", text].concat(), last.to_string()));
+    };
+    let padded = |length: usize| {
+        let mut text = A.as_bytes().to_vec();
+        text.resize(length, b' ');
+        text
+    };
+    let all = "int main() { int a free; return a; }".as_bytes();
+    let whole = "whole 2 rows 9 moves";
+    add("the paper's", "job 0 3 100", A.as_bytes(), whole);
+    add("no values", "job 0 3 100", b"int main() { return 7; }", "whole 1 rows 3 moves");
+    add("no text", "job 0 3 100", b"", "refused 8 at 0");
+    // The shortest line and the longest, with texts of the greatest length and more.
+    for (line, last) in
+        [("job 0 3 5", whole), ("job -0000000004 -0000000001 0000001000", "whole 4 rows 9 moves")]
+    {
+        add("2,048 bytes", line, &padded(2_048), last);
+        for length in [2_049, 2_050, 4_096, 70_000, 300_000] {
+            add("too many bytes", line, &padded(length), "refused 1 at 2048");
+        }
+    }
+    let line = "job -2147483648 -2147483648 0000000100";
+    add("the least value", line, all, "whole 1 rows 4 moves");
+    add("the greatest value", "job 2147483647 2147483647 0000000100", all, "whole 1 rows 4 moves");
+    let line = "job -2147483648 -2147483648 -000000000";
+    for length in [2_047, 2_048, 2_049] {
+        add("a line of forty bytes", line, &padded(length), "refused 14 at 0");
+    }
+    add("4,096 values", "job -2147483648 -2147479553 4", all, "full 1000 rows 1004 moves");
+    for (name, line, last) in [
+        ("1,000 rows", "job 0 999 100", "whole 1000 rows 1003 moves"),
+        ("1,001 rows", "job 0 1000 100", "full 1000 rows 1004 moves"),
+        ("4,097 values", "job 0 4096 100", "refused 13 at 0"),
+        ("high below low", "job 3 0 100", "refused 12 at 0"),
+        ("12 before 14", "job 3 0 0", "refused 12 at 0"),
+        ("12 before 13", "job 2147483647 -2147483648 100", "refused 12 at 0"),
+        ("13 before 14", "job 0 4096 0", "refused 13 at 0"),
+        ("no steps", "job 0 3 0", "refused 14 at 0"),
+        ("1,001 steps", "job 0 3 1001", "refused 14 at 0"),
+        ("many steps", "job 0 3 2147483647", "refused 14 at 0"),
+        ("too many steps", "job 0 3 2147483648", "refused 16 at 0"),
+        ("steps below 0", "job 0 3 -1", "refused 16 at 0"),
+        ("too small", "job -2147483649 3 100", "refused 16 at 0"),
+        ("too large", "job 0 2147483648 100", "refused 16 at 0"),
+        ("eleven digits", "job 0 3 00000000100", "refused 16 at 0"),
+        ("eleven digits after a minus", "job -00000000001 3 100", "refused 16 at 0"),
+        ("three numbers short", "job", "refused 16 at 0"),
+        ("one number short", "job 0 3", "refused 16 at 0"),
+        ("one number more", "job 0 3 100 1", "refused 16 at 0"),
+        ("a blank at the end", "job 0 3 100 ", "refused 16 at 0"),
+        ("a blank before", " job 0 3 100", "refused 16 at 0"),
+        ("two blanks", "job 0  3 100", "refused 16 at 0"),
+        ("a tab", "job 0\t3 100", "refused 16 at 0"),
+        ("a return", "job 0 3 100\r", "refused 16 at 0"),
+        ("a capital", "Job 0 3 100", "refused 16 at 0"),
+        ("another word", "jobs 0 3 100", "refused 16 at 0"),
+        ("a plus", "job 0 +3 100", "refused 16 at 0"),
+        ("a lone minus", "job - 3 100", "refused 16 at 0"),
+        ("an empty line", "", "refused 16 at 0"),
+    ] {
+        add(name, line, all, last);
+    }
+    add("a long line", &"9".repeat(100_000), all, "refused 16 at 0");
+    add("a line of blanks", &" ".repeat(5_000), all, "refused 16 at 0");
+    // Just the budget's moves, and one more: 999,000 settings and the steps.
+    for (fill, ending) in [(986, "whole"), (987, "spent")] {
+        let text = format!(
+            "int main() {{ int a free; int b free; if (a < 999) {{ {} \
+             if (a - b == 500) return a; else fail; }} else fail; }}",
+            ";".repeat(fill),
+        );
+        let last = format!("{ending} 499 rows 1000000 moves");
+        add("1,000,000 moves", "job 0 999 1000", text.as_bytes(), &last);
+    }
+    let deep = format!("int main() {{ return {}1{}; }}", "(".repeat(980), ")".repeat(980));
+    add("many brackets", "job 0 3 100", deep.as_bytes(), "refused 5 at 44");
+    // No line end: not even of an empty line.
+    let mut open: Vec<(String, Vec<u8>, String)> = Vec::new();
+    for input in [&b""[..], b"job 0 3 100", &[b'j'; 5_000], &[0; 3_000]] {
+        let name = format!("no line end, {} bytes", input.len());
+        open.push((name, input.to_vec(), "refused 16 at 0".to_string()));
+    }
+    limits.extend(open);
+    limits
 }
 
 fn input(random: &mut Random) -> Vec<u8> {

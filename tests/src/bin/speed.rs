@@ -1,5 +1,8 @@
 //! Times: 1,000 checks of each of several texts of 2,048 bytes and, with the
-//! feature `list`, moves per second on five jobs, beside the reference.
+//! feature `list`, moves per second on five jobs, beside the reference. The
+//! same on chains `x = x + x` of growing length: a shared expression must not
+//! cost what it would cost unfolded. The lent buffers are made once and not
+//! cleared between calls; that list zeroes its scratch is in its time.
 
 use reference::search::LEAST_SCRATCH;
 use reference::{cases, check, linked, list, with_room, Job};
@@ -11,7 +14,14 @@ const LENGTH: usize = 2_048;
 fn main() {
     with_room(|| {
         checks();
-        lists();
+        println!("millions of moves per second:");
+        for job in jobs() {
+            lists(&job);
+        }
+        println!("the same, as a chain grows:");
+        for job in chains() {
+            lists(&job);
+        }
     });
 }
 
@@ -77,8 +87,8 @@ fn texts() -> Vec<(&'static str, Vec<u8>)> {
     ]
 }
 
-fn jobs() -> Vec<(&'static str, String, Job)> {
-    let job = |low, high, steps| Job {
+fn job(low: i32, high: i32, steps: u32) -> Job {
+    Job {
         low,
         high,
         steps,
@@ -86,8 +96,32 @@ fn jobs() -> Vec<(&'static str, String, Job)> {
         budget: 3_000_000,
         rows_len: 10_000,
         scratch_len: LEAST_SCRATCH,
+    }
+}
+
+fn main_with(body: &str) -> String {
+    format!("int main() {{ {body} }}")
+}
+
+/// One free number, doubled again and again, then a test that few settings
+/// meet. Unfolded, ten more doublings are a thousand times as much.
+fn chains() -> Vec<(&'static str, String, Job)> {
+    let chain = |name, count: usize| {
+        let doubled = "x = x + x; ".repeat(count);
+        let body =
+            format!("int a free; int x; x = a; {doubled} if (x == 1 - a) return x; else fail;");
+        (name, main_with(&body), job(0, 4_095, 1_000))
     };
-    let main_with = |body: &str| format!("int main() {{ {body} }}");
+    vec![
+        chain("10 doublings", 10),
+        chain("20 doublings", 20),
+        chain("40 doublings", 40),
+        chain("80 doublings", 80),
+        chain("160 doublings", 160),
+    ]
+}
+
+fn jobs() -> Vec<(&'static str, String, Job)> {
     let frees: String = (0..8).map(|n| format!("int v{n} free; ")).collect();
     let tree: String =
         (0..8).map(|n| format!("if (v{n} > 0) s = s + 1; else s = s - v{n}; ")).collect();
@@ -95,7 +129,7 @@ fn jobs() -> Vec<(&'static str, String, Job)> {
         (0..8).map(|n| format!("{}x = x + v{n}; ", "x = x + x; ".repeat(6))).collect();
     vec![
         (
-            "two free numbers and one test",
+            "two free numbers 0 to 999 and one test",
             main_with("int a free; int b free; if (a + b == 999) return a; else fail;"),
             job(0, 999, 100),
         ),
@@ -110,7 +144,7 @@ fn jobs() -> Vec<(&'static str, String, Job)> {
             job(0, 0, 1_000),
         ),
         (
-            "a loop with a free bound",
+            "a loop with a free bound of up to 1,000 turns",
             main_with("int n free; int i; while (i < n) i = i + 1; return i;"),
             job(0, 999, 1_000),
         ),
@@ -122,36 +156,33 @@ fn jobs() -> Vec<(&'static str, String, Job)> {
     ]
 }
 
-fn lists() {
-    println!("millions of moves per second:");
-    for (name, text, job) in jobs() {
-        let text = text.as_bytes();
-        let reference = list(text, &job);
-        let listing = reference.as_ref().expect("the job is not refused");
-        let moves = listing.moves;
-        // Small jobs again and again, about two million moves in all.
-        let times = (2_000_000 / moves).max(1);
-        let speed =
-            |time: Duration| f64::from(moves) * f64::from(times) / time.as_secs_f64() / 1_000_000.0;
-        let start = Instant::now();
-        for _ in 0..times {
-            let _ = std::hint::black_box(list(std::hint::black_box(text), &job));
-        }
-        let plain = speed(start.elapsed());
-        let end = format!("{:?}, {moves} moves, {times} times", listing.ending);
-        if !linked::LISTS {
-            println!("  {name}: reference {plain:.1} ({end})");
-            continue;
-        }
-        let mut rows = vec![0; job.rows_len];
-        let mut scratch = vec![0; job.scratch_len];
-        let mut answer = [0; 5];
-        let start = Instant::now();
-        for _ in 0..times {
-            linked::list(std::hint::black_box(text), &job, &mut rows, &mut scratch, &mut answer);
-        }
-        let proved = speed(start.elapsed());
-        assert_eq!(answer, cases::list_answer(&reference), "{name}");
-        println!("  {name}: lister {proved:.1}, reference {plain:.1} ({end})");
+fn lists((name, text, job): &(&str, String, Job)) {
+    let text = text.as_bytes();
+    let reference = list(text, job);
+    let listing = reference.as_ref().expect("the job is not refused");
+    let moves = listing.moves;
+    // Small jobs again and again, about two million moves in all.
+    let times = (2_000_000 / moves).max(1);
+    let speed =
+        |time: Duration| f64::from(moves) * f64::from(times) / time.as_secs_f64() / 1_000_000.0;
+    let start = Instant::now();
+    for _ in 0..times {
+        let _ = std::hint::black_box(list(std::hint::black_box(text), job));
     }
+    let plain = speed(start.elapsed());
+    let end = format!("{:?}, {moves} moves, {times} times", listing.ending);
+    if !linked::LISTS {
+        println!("  {name}: reference {plain:.1} ({end})");
+        return;
+    }
+    let mut rows = vec![0; job.rows_len];
+    let mut scratch = vec![0; job.scratch_len];
+    let mut answer = [0; 5];
+    let start = Instant::now();
+    for _ in 0..times {
+        linked::list(std::hint::black_box(text), job, &mut rows, &mut scratch, &mut answer);
+    }
+    let proved = speed(start.elapsed());
+    assert_eq!(answer, cases::list_answer(&reference), "{name}");
+    println!("  {name}: lister {proved:.1}, reference {plain:.1} ({end})");
 }

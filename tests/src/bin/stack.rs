@@ -60,6 +60,11 @@ fn lists(name: &str, text: &[u8]) {
     let mut answer = [u32::MAX; 5];
     with_stack(STACK, || linked::list(text, &job, &mut rows, &mut scratch, &mut answer));
     assert_eq!(answer, cases::list_answer(&reference), "list, {name}");
+    let left = if reference.is_ok() { 0 } else { 7 };
+    assert!(scratch.iter().all(|word| *word == left), "scratch, {name}");
+    let mut expected = reference.map_or(Vec::new(), |listing| listing.rows.concat());
+    expected.resize(job.rows_len, 0);
+    assert_eq!(rows, expected, "rows, {name}");
 }
 
 /// The unit again and again, up to the greatest length.
