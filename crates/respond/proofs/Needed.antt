@@ -14,14 +14,14 @@ use Rattle.lexer.specs.Lex as L
 use Rattle.lexer.specs.Lex.{lexed}
 use Rattle.checker.specs.Check as C
 use Rattle.checker.specs.Check.{checked}
-use Rattle.search.specs.List.{Left, ground, list, answering}
+use Rattle.search.specs.List.{ground, list, answering}
 use Rattle.lines.specs.declared.Job.{Job}
 use Rattle.lines.specs.declared.JobLine.{JobLine}
 use Rattle.lines.specs.declared.JobLine.the-variants.{Bad, Good}
 use Rattle.lines.specs.JobLine.{jobOf}
 use Rattle.lines.proofs.Reach.{settled}
 use Rattle.lines.proofs.Good.{good-holds}
-use Rattle.respond.specs.Output.{textOf, rowWords, scratchWords, listing, shown, output}
+use Rattle.respond.specs.Output.{textOf, rowWords, scratchWords, listing, linesOf, output}
 use Rattle.respond.proofs.Printed.{bad-line, good-line}
 
 -- ---- a text of over 2,048 bytes is refused, whatever they are
@@ -54,7 +54,7 @@ module _ (l r : List ℕ) (h : 2089 ≤ length l) where
   same-line : jobOf (l ++ r) ≡ jobOf l
   same-line = settled l r (omega arith)
 
-  same-listing : (j : Job) → jobOf l ≡ Good j → listing (l ++ r) j ≡ listing l j
+  same-listing : (j : Job) → jobOf l ≡ Good j → listing (textOf (l ++ r) j) (j .low) (j .high) (j .steps) ≡ listing (textOf l j) (j .low) (j .high) (j .steps)
   unfolding listing
   same-listing j e =
       let k = good-holds l j e .near in
@@ -68,7 +68,7 @@ module _ (l r : List ℕ) (h : 2089 ≤ length l) where
     where
       go : (a : JobLine) → jobOf l ≡ a → output (l ++ r) ≡ output l
       go Bad e = bad-line (l ++ r) (same-line ∙ e) ∙ sym (bad-line l e)
-      go (Good j) e = good-line (l ++ r) j (same-line ∙ e) ∙ ap (λ (x : Left). shown (x .answer) (x .rows)) (same-listing j e) ∙ sym (good-line l j e)
+      go (Good j) e = good-line (l ++ r) j (same-line ∙ e) ∙ ap linesOf (same-listing j e) ∙ sym (good-line l j e)
 
 -- so the program need not read more
 pub enough : (input : List ℕ) → output (take 2089 input) ≡ output input

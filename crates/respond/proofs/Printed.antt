@@ -24,7 +24,7 @@ use Rattle.lines.specs.JobLine.{jobOf}
 use Rattle.lines.specs.Print.{refusal, rowLines, lastLine}
 use Rattle.lines.specs.Written.{rowsOf}
 use Rattle.lines.proofs.Good.{good-holds}
-use Rattle.respond.specs.Output.{textOf, rowWords, scratchWords, listing, shown, outputFor, output}
+use Rattle.respond.specs.Output.{textOf, rowWords, scratchWords, listing, shown, linesOf, outputFor, output}
 use Rattle.respond.specs.Parts.{countIn, placeIn, Small}
 use Rattle.respond.specs.Shows.{Shows}
 use Rattle.respond.proofs.Rows.{few-rows, few-written, rows-back}
@@ -48,9 +48,9 @@ tens = ap (λ (n : ℕ). n / 10) (length-replicate 10000 (pos 0))
 words : length scratchWords ≡ 16384
 words = length-replicate {A = ℕ} 16384 0
 
-pub listing-small : (input : List ℕ) (j : Job) → Small (listing input j .answer)
+pub listing-small : (text : List ℕ) (low high : ℤ) (steps : ℕ) → Small (listing text low high steps .answer)
 unfolding listing
-listing-small input j = small (textOf input j) (j .low) (j .high) (j .steps) 0 1000000 rowWords scratchWords (omega (arith, tens))
+listing-small text low high steps = small text low high steps 0 1000000 rowWords scratchWords (omega (arith, tens))
 
 -- ---- each refusal is one line
 
@@ -58,13 +58,13 @@ pub bad-line : (input : List ℕ) → jobOf input ≡ Bad → output input ≡ r
 unfolding output
 bad-line input e = ap (outputFor input) e
 
-pub good-line : (input : List ℕ) (j : Job) → jobOf input ≡ Good j → output input ≡ shown (listing input j .answer) (listing input j .rows)
+pub good-line : (input : List ℕ) (j : Job) → jobOf input ≡ Good j → output input ≡ linesOf (listing (textOf input j) (j .low) (j .high) (j .steps))
 unfolding output
 good-line input j e = ap (outputFor input) e
 
 module _ (input : List ℕ) (j : Job) (good : jobOf input ≡ Good j) where
   answered : (g : Option ℕ) (v : Verdict) → ground 16384 (j .low) (j .high) (j .steps) ≡ g → checked (textOf input j) ≡ v
-      → listing input j ≡ answering (textOf input j) (j .low) (j .high) (j .steps) 0 1000000 rowWords scratchWords g v
+      → listing (textOf input j) (j .low) (j .high) (j .steps) ≡ answering (textOf input j) (j .low) (j .high) (j .steps) 0 1000000 rowWords scratchWords g v
   unfolding listing list
   answered g v e f =
       ap₂ (answering (textOf input j) (j .low) (j .high) (j .steps) 0 1000000 rowWords scratchWords)
@@ -73,16 +73,16 @@ module _ (input : List ℕ) (j : Job) (good : jobOf input ≡ Good j) where
   -- by one of list's own grounds, or as check
   pub ground-line : (n : ℕ) → ground 16384 (j .low) (j .high) (j .steps) ≡ some n → output input ≡ refusal n 0
   unfolding shown
-  ground-line n e = good-line input j good ∙ ap (λ (l : Left). shown (l .answer) (l .rows)) (answered (some n) (checked (textOf input j)) e refl)
+  ground-line n e = good-line input j good ∙ ap linesOf (answered (some n) (checked (textOf input j)) e refl)
 
   pub check-line : (n p : ℕ) → ground 16384 (j .low) (j .high) (j .steps) ≡ none → checked (textOf input j) ≡ C.refused n p → output input ≡ refusal n p
   unfolding shown
-  check-line n p e f = good-line input j good ∙ ap (λ (l : Left). shown (l .answer) (l .rows)) (answered none (C.refused n p) e f)
+  check-line n p e f = good-line input j good ∙ ap linesOf (answered none (C.refused n p) e f)
 
   -- ---- else the rows of the plan list, or of its front part, and the last line
 
   module _ (allowed : ground 16384 (j .low) (j .high) (j .steps) ≡ none) (accepted : checked (textOf input j) ≡ C.accepted) where
-    kept : Keeps (textOf input j) (j .low) (j .high) (j .steps) 0 1000000 rowWords scratchWords (listing input j)
+    kept : Keeps (textOf input j) (j .low) (j .high) (j .steps) 0 1000000 rowWords scratchWords (listing (textOf input j) (j .low) (j .high) (j .steps))
     unfolding listing
     kept =
         let h = good-holds input j good in
@@ -107,3 +107,24 @@ module _ (input : List ℕ) (j : Job) (good : jobOf input ≡ Good j) where
       lines = printed;
       closes = subst (λ (n : ℕ). Closes (S.jobOf (textOf input j) (j .low) (j .high) (j .steps)) 0 n 1000000 (kept .plans) (kept .written) (kept .moves) (kept .ending)) tens (kept .closes);
     }
+
+-- ---- what the code learns of list
+
+module _ (text : List ℕ) (low low′ high high′ : ℤ) (steps : ℕ) (e : low′ ≡ low) (f : high′ ≡ high) where
+  module _ {a : Answer} {rows : List ℤ} {scratch : List ℕ} (left : record { answer = a; rows = rows; scratch = scratch } ≡ list text low′ high′ steps 0 1000000 rowWords scratchWords) where
+    left-by : record { answer = a; rows = rows; scratch = scratch } ≡ listing text low high steps
+    unfolding listing
+    left-by = left ∙ ap₂ (λ (x y : ℤ). list text x y steps 0 1000000 rowWords scratchWords) e f
+
+    pub small-answer : Small a
+    small-answer = subst (λ (l : Left). Small (l .answer)) (sym left-by) (listing-small text low high steps)
+
+    pub same-lines : shown a rows ≡ linesOf (listing text low high steps)
+    same-lines = ap linesOf left-by
+
+-- the lines of a good job are the output
+pub job-lines : (input : List ℕ) (j : Job) (text : List ℕ) (low high : ℤ) → jobOf input ≡ Good j → text ≡ textOf input j → low ≡ j .low → high ≡ j .high → linesOf (listing text low high (j .steps)) ≡ output input
+job-lines input j text low high good t e f =
+    ap (λ (l : List ℕ). linesOf (listing l low high (j .steps))) t
+    ∙ ap₂ (λ (x y : ℤ). linesOf (listing (textOf input j) x y (j .steps))) e f
+    ∙ sym (good-line input j good)

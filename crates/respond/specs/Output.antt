@@ -22,18 +22,21 @@ rowWords = replicate 10000 (pos 0)
 abbrev pub scratchWords : List ℕ
 scratchWords = replicate 16384 0
 
-unfoldable pub listing : List ℕ → Job → Left
-listing input j = list (textOf input j) (j .low) (j .high) (j .steps) 0 1000000 rowWords scratchWords
+unfoldable pub listing : (text : List ℕ) (low high : ℤ) (steps : ℕ) → Left
+listing text low high steps = list text low high steps 0 1000000 rowWords scratchWords
 
 -- "a refusal prints `refused N at P`", and "after a refusal its line is the only one"; else a line for each row that was written, and the last line
 unfoldable pub shown : Answer → List ℤ → List ℕ
 shown (refused n p) rows = refusal n p
 shown (listed k m c) rows = rowLines (rowsOf k rows) ++ lastLine c k m
 
+abbrev pub linesOf : Left → List ℕ
+linesOf l = shown (l .answer) (l .rows)
+
 -- "A bad job line is refusal 16 at 0"
 abbrev pub outputFor : List ℕ → JobLine → List ℕ
 outputFor input Bad = refusal 16 0
-outputFor input (Good j) = shown (listing input j .answer) (listing input j .rows)
+outputFor input (Good j) = linesOf (listing (textOf input j) (j .low) (j .high) (j .steps))
 
 unfoldable pub output : List ℕ → List ℕ
 output input = outputFor input (jobOf input)
