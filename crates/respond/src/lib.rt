@@ -50,7 +50,7 @@ fn print_job(out: &mut [u8], text: &[u8], low: i32, high: i32, steps: u32) -> us
 
 // All that the program prints for this input, at the front of out; the answer is how many bytes that is.
 pub fn respond(input: &[u8], out: &mut [u8; OUTPUT]) -> usize
-    ensures { λ r. ⌜ Put (now (out .entry)) 0 (output (now (input .entry))) (now (out .exit)) r × (r ≤ 110039) ⌝ }
+    ensures { λ r. ⌜ Put (now (out .entry)) 0 (output (now (input .entry))) (now (out .exit)) r × (r ≤ length (now (out .exit))) ⌝ }
 {
     match lines::job_line(input) {
         JobLine::Bad => lines::put_refusal(out, 0, 16, 0),

@@ -1,8 +1,10 @@
+use Prim.Native.Nat.{_≤_}
+use lib.ListN.{length}
 use mathlib.Core.Path.{sym, _∙_}
 use native.Mathlib.Omega.{arith}
 use mir.Facts.{toZ-ofZ}
 use Rattle.lines.proofs.Good.{good-holds}
-use Rattle.lines.proofs.Puts.{put-as}
+use Rattle.lines.proofs.Puts.{put-as, put-length}
 use Rattle.lines.proofs.Words.{whole-rest}
 use Rattle.respond.proofs.Puts.{put-refused}
 use Rattle.respond.proofs.Printed.{bad-line, job-lines}
@@ -53,14 +55,16 @@ print-job-requires c κs = search needs
 returns : tie.Need-returns
 returns c =
     let x = put-refused 16 0 (omega arith) (omega arith) (c .put-refusal .ensures) in
-    (put-as (sym (bad-line _ (sym (c .before .before .before .before .job-line .ensures) ∙ c .before .before .enum-told .given .1))) (x .0), x .1)
+    let h : 110039 ≤ length (c .before .before .before .before .before .before .args .out .now) = search needs in
+    (put-as (sym (bad-line _ (sym (c .before .before .before .before .job-line .ensures) ∙ c .before .before .enum-told .given .1))) (x .0), omega (arith, x .1, put-length (x .0)))
 
 -- src/lib.rt:52:1
 returns-2 : tie.Need-returns-2
 returns-2 c =
     let good = sym (c .before .before .before .before .before .before .before .before .job-line .ensures) ∙ c .before .before .before .before .before .before .job .given .1 in
-    let h = good-holds _ _ good in
-    (put-as (job-lines _ _ _ _ _ good (whole-rest (c .before .before .before .before .before .before .before .before .before .before .args .input .now) (c .before .before .before .before .before .before .job .given .0 .0 .text)) (toZ-ofZ (h .low)) (toZ-ofZ (h .high))) (c .print-job .ensures .0), c .print-job .ensures .1)
+    let g = good-holds _ _ good in
+    let h : 110039 ≤ length (c .before .before .before .before .before .before .before .before .before .before .args .out .now) = search needs in
+    (put-as (job-lines _ _ _ _ _ good (whole-rest (c .before .before .before .before .before .before .before .before .before .before .args .input .now) (c .before .before .before .before .before .before .job .given .0 .0 .text)) (toZ-ofZ (g .low)) (toZ-ofZ (g .high))) (c .print-job .ensures .0), omega (arith, c .print-job .ensures .1, put-length (c .print-job .ensures .0)))
 
 pub respond-spec : {M : Type 1} → statement M
 respond-spec =
