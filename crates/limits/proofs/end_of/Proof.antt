@@ -5,8 +5,6 @@ use Rattle.limits.proofs.end_of.Tie as tie
 use Rattle.limits.proofs.end_of.Reads as reads
 use Rattle.limits.proofs.end_of.Lts as lts
 
-
-
 abbrev Inv-loop : tie.InvT-loop
 Inv-loop inputs at n end₀ end = (at ≤ end) × (end ≤ n)
 

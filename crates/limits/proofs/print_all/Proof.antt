@@ -8,8 +8,6 @@ use Rattle.limits.proofs.print_all.Lts as lts
 use Rattle.limits.proofs.end_of.Reads as end-of-reads
 use Rattle.limits.proofs.print_output.Reads as print-output-reads
 
-
-
 abbrev Inv-loop : tie.InvT-loop
 Inv-loop inputs n at₀ at = at ≤ n + 1
 

@@ -8,8 +8,6 @@ use Rattle.limits.proofs.print_output.Lts as lts
 use Rattle.io.proofs.write_all.Reads as write-all-reads
 use Rattle.respond.proofs.respond.Reads as respond-reads
 
-
-
 -- src/main.rt:24:9
 respond-requires : tie.Need-respond-requires
 respond-requires c κs = search needs
