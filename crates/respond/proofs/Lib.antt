@@ -3,3 +3,4 @@ pub mod Rows
 pub mod Printed
 pub mod Needed
 pub mod Puts
+pub mod Examples

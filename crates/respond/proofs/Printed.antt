@@ -8,24 +8,21 @@ use lib.ListN.{length, drop, length-replicate}
 use lib.IntN.{ℤ, pos}
 use Rattle.checker.specs.Check as C
 use Rattle.checker.specs.Check.{Verdict, checked}
-use Rattle.checker.proofs.Small.{Within, fine, low as at-most, checked-low}
-use Rattle.semantics.specs.Run.{Row, each}
+use Rattle.checker.proofs.Small.{Within, low as at-most, checked-low}
+use Rattle.semantics.specs.Run.{Row}
 use Rattle.semantics.specs.Search as Z
 use Rattle.semantics.specs.Search.{byRanges}
-use Rattle.settings.specs.Rows.{wordsOf, sheet}
 use Rattle.search.specs.List as S
-use Rattle.search.specs.List.{Answer, refused, listed, Left, ground, list, answering}
+use Rattle.search.specs.List.{Answer, Left, ground, list, answering}
 use Rattle.search.specs.Promise.{Closes, Keeps}
 use Rattle.search.proofs.Promises.{keeps}
 use Rattle.lines.specs.declared.Job.{Job}
-use Rattle.lines.specs.declared.JobLine.{JobLine}
 use Rattle.lines.specs.declared.JobLine.the-variants.{Bad, Good}
 use Rattle.lines.specs.JobLine.{jobOf}
 use Rattle.lines.specs.Print.{refusal, rowLines, lastLine}
-use Rattle.lines.specs.Written.{rowsOf}
 use Rattle.lines.proofs.Good.{good-holds}
 use Rattle.respond.specs.Output.{textOf, rowWords, scratchWords, listing, shown, linesOf, outputFor, output}
-use Rattle.respond.specs.Parts.{countIn, placeIn, Small}
+use Rattle.respond.specs.Parts.{Small}
 use Rattle.respond.specs.Shows.{Shows}
 use Rattle.respond.proofs.Rows.{few-rows, few-written, rows-back}
 
