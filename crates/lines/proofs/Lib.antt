@@ -6,3 +6,5 @@ pub mod Lines
 pub mod Examples
 pub mod Kept
 pub mod Reach
+pub mod Good
+pub mod Sizes

@@ -16,7 +16,7 @@ use Rattle.lines.specs.declared.JobLine.the-variants.{Bad, Good}
 use Rattle.lines.specs.JobLine.{plain, minus, numberOf, place, before, after, blank, jobWith, jobIn, jobOf}
 use Rattle.lines.proofs.Words.{no-job, a-job, no-high, no-line, a-line}
 
-place-le : (b : ℕ) (l : List ℕ) → place b l ≤ length l
+pub place-le : (b : ℕ) (l : List ℕ) → place b l ≤ length l
 unfolding place
 place-le b [] = omega arith
 place-le b (x ∷ l) = go (eqb x b) (place-le b l)
@@ -90,7 +90,7 @@ place-out b (x ∷ l) r h = go (eqb x b) h (place-out b l r)
     go true k f = absurd (omega arith)
     go false k f = omega (arith, f (omega arith))
 
-no-early-end : (l : List ℕ) → 40 ≤ place 10 l → jobOf l ≡ Bad
+pub no-early-end : (l : List ℕ) → 40 ≤ place 10 l → jobOf l ≡ Bad
 no-early-end l h = go (ltb (place 10 l) (length l)) refl
   where
     go : (b : Bool) → ltb (place 10 l) (length l) ≡ b → jobOf l ≡ Bad

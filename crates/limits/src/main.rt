@@ -1,0 +1,45 @@
+// Reads inputs of the lister, which a byte 1 separates, and prints what the lister prints for each.
+ghost use Prim.Native.Nat.{_≤_, _<_};
+ghost use lib.ListN.{length};
+use libc::STDIN_FILENO;
+use libc::STDOUT_FILENO;
+
+// The place of the next byte 1 from `at` on, or n.
+fn end_of(inputs: &[u8], at: usize, n: usize) -> usize
+    requires { ⌜ (at ≤ n) × (n ≤ length (now inputs)) ⌝ }
+    ensures { λ r. ⌜ (at ≤ r) × (r ≤ n) ⌝ }
+{
+    let mut end = at;
+    while end < n {
+        if inputs[end] == 1 {
+            return end;
+        }
+        end += 1;
+    }
+    end
+}
+
+fn print_output(input: &[u8]) {
+    let mut out = [0u8; respond::OUTPUT];
+    let n = respond::respond(input, &mut out);
+    io::write_all(STDOUT_FILENO, &out[..n]);
+}
+
+// Each input of the first n bytes.
+fn print_all(inputs: &[u8], n: usize)
+    requires { ⌜ n ≤ length (now inputs) ⌝ }
+{
+    let mut at = 0;
+    while at < n {
+        let end = end_of(inputs, at, n);
+        print_output(&inputs[at..end]);
+        at = end + 1;
+    }
+}
+
+fn main() {
+    let mut space = io::large_buffer();
+    let inputs: &mut [u8] = &mut space;
+    let n = io::read_full(STDIN_FILENO, inputs);
+    print_all(inputs, n);
+}

@@ -1,0 +1,30 @@
+-- Document 01's sample, from the input's bytes to the bytes printed, by computation.
+use mathlib.Core.Path.{_≡_, refl}
+use mathlib.Core.List.{List, [], _∷_, _++_}
+use Prim.Native.Nat.{ℕ}
+use Rattle.lexer.specs.Lex.{bytes, lexed, noneLarge, scan, front, valueOf, decimal, longestWithin, kindOf, kindIn, same, all}
+use Rattle.syntax.specs.Abstract.{ast}
+use Rattle.grammar.specs.Parse.{readText, moreProg, readFun, readParams, moreParams, readStmt, readDecl, readBlock, readEnded, readFail, readGuard, readNamed, readIf, readWhile, moreBody, readCond, moreCond, readConj, moreConj, readAtom, readCmp, readSum, moreSum, readTerm, moreTerm, readOperand, readBracket, readCall, readArgs, moreArgs}
+use Rattle.events.specs.Event.{events, eventsAt, stops, count, first}
+use Rattle.rules.specs.Scan as R
+use Rattle.rules.specs.Scan.{on, least, lesser}
+use Rattle.rules.specs.Rules.{deep, parameters, heads, functionOf, arityOf, wrong, miscounted, mains, withParameters, badMain, unended, counted, over}
+use Rattle.rules.specs.Names.{declared, outer, entered, inBlock, sought, misnamed, uncalled, repeated, named, meant}
+use Rattle.rules.specs.Resolve.{part, mainOf}
+use Rattle.checker.specs.Check.{rules, firstBroken, checkedTokens, checked, programOf}
+use Rattle.semantics.specs.Int.{arith, exact, wrap, low32, holds, eqZ}
+use Rattle.semantics.specs.Does.{within, does, enter, stmt, loop, cond, expr, frame}
+use Rattle.semantics.specs.Run.{each, numbers, clamp, counting}
+use Rattle.semantics.specs.Search as S
+use Rattle.semantics.specs.Search.{answer, search, openly, settled, moves, paths, probed, tried, settings, meets, narrowed, clipped, clip, decided, always, range, fitted, span, maxZ, minZ, all32, under, work}
+use Rattle.search.specs.List.{program, ground, list}
+use Rattle.lines.specs.JobLine.{plain, minus, numberOf, place, jobIn, jobOf}
+use Rattle.lines.specs.Print.{digits, natural, integer, refusal, spaced, rowLine, rowLines, ending, lastLine}
+use Rattle.lines.specs.Written.{rowOf, rowsOf}
+use Rattle.respond.specs.Output.{listing, shown, output}
+
+-- "Input `job 0 3 100`, then A below, prints in full:"
+pub sample : output (bytes "job 0 3 100" ++ 10 ∷ bytes "int main() { int y free; if (y < 2) return y; else fail; }")
+    ≡ bytes "0 : 0" ++ 10 ∷ bytes "1 : 1" ++ 10 ∷ bytes "whole 2 rows 9 moves" ++ 10 ∷ []
+unfolding output listing shown list ground program checked lexed noneLarge scan front valueOf decimal longestWithin kindOf kindIn same all ast readText moreProg readFun readParams moreParams readStmt readDecl readBlock readEnded readFail readGuard readNamed readIf readWhile moreBody readCond moreCond readConj moreConj readAtom readCmp readSum moreSum readTerm moreTerm readOperand readBracket readCall readArgs moreArgs events eventsAt stops count first on R.scan least lesser deep parameters heads functionOf arityOf wrong miscounted mains withParameters badMain unended counted over declared outer entered inBlock sought misnamed uncalled repeated named meant part mainOf rules firstBroken checkedTokens programOf S.listed answer search openly settled moves paths probed tried settings meets narrowed clipped clip decided always range fitted span maxZ minZ all32 under work each numbers clamp counting within does enter stmt loop cond expr frame holds eqZ arith exact wrap low32 plain minus numberOf place jobIn jobOf digits natural integer refusal spaced rowLine rowLines ending lastLine rowOf rowsOf
+sample = refl

@@ -1,0 +1,33 @@
+//! The stored inputs and outputs of the lister's programs, against the
+//! reference.
+
+use reference::{lister, with_room};
+use std::fs;
+
+fn stored(program: &str, file: &str) -> Vec<u8> {
+    let folder = env!("CARGO_MANIFEST_DIR");
+    fs::read(format!("{folder}/../crates/{program}/{file}")).expect("the file can be read")
+}
+
+fn printed(input: &[u8]) -> String {
+    with_room(|| lister::print(input))
+}
+
+fn text(bytes: Vec<u8>) -> String {
+    String::from_utf8(bytes).expect("the output is text")
+}
+
+#[test]
+fn the_sample() {
+    assert_eq!(printed(&stored("lister", "stdin")), text(stored("lister", "stdout")));
+}
+
+/// A byte 1 stands after each input.
+#[test]
+fn the_limits() {
+    let inputs = stored("limits", "stdin");
+    let (last, inputs) = inputs.split_last().expect("there are inputs");
+    assert_eq!(*last, 1);
+    let outputs: String = inputs.split(|byte| *byte == 1).map(printed).collect();
+    assert_eq!(outputs, text(stored("limits", "stdout")));
+}
