@@ -2,18 +2,18 @@
 use Prim.Native.Nat.{ℕ, zero, suc, _+_, _-_, _≤_, _<_}
 use native.Mathlib.Omega.{arith}
 use mathlib.Core.Path.{_≡_, refl, sym, _∙_, ap}
-use mathlib.Core.Bool.{Bool, true, false, _&&_}
+use mathlib.Core.Bool.{Bool, true, false, _&&_, _||_}
 use mathlib.Core.Option.{Option, none, some}
 use mathlib.Core.List.{List, [], _∷_, _++_}
 use lib.ListN.{length, take, drop, length-drop, length-append}
 use lib.Seq.{length-take-le, take-append-le}
 use lib.Dec.{eqb, leb, ltb}
 use lib.IntN.{ℤ}
-use borrow.Author.Tests.{lt-leb, ltb-true, ltb-false}
+use borrow.Author.Tests.{lt-leb, leb-true, ltb-true, ltb-false}
 use Rattle.lexer.specs.Lex.{isDigit, all, same, bytes}
 use Rattle.lexer.proofs.Bytes.{and-false, same-eq}
 use Rattle.lines.specs.declared.JobLine.the-variants.{Bad, Good}
-use Rattle.lines.specs.JobLine.{plain, minus, numberOf, place, before, after, blank, jobWith, jobIn, jobOf}
+use Rattle.lines.specs.JobLine.{plain, minus, numberOf, place, before, after, blank, jobWith, jobIn, jobOf, lineSettled}
 use Rattle.lines.proofs.Words.{no-job, a-job, no-high, no-line, a-line}
 
 pub place-le : (b : ℕ) (l : List ℕ) → place b l ≤ length l
@@ -97,18 +97,29 @@ no-early-end l h = go (ltb (place 10 l) (length l)) refl
     go true q = a-line l (ltb-true (place 10 l) (length l) q) ∙ long-line (place 10 l + 1) (before 10 l) (omega (arith, length-take-le (place 10 l) l (place-le 10 l)))
     go false q = no-line l (omega (arith, place-le 10 l, ltb-false (place 10 l) (length l) q))
 
+-- a line that has ended is settled, whatever stands after it
+ended-line : (l r : List ℕ) → place 10 l < length l → jobOf (l ++ r) ≡ jobOf l
+ended-line l r k =
+    let e : place 10 (l ++ r) ≡ place 10 l = place-in 10 l r k in
+    a-line (l ++ r) (omega (arith, length-append l r))
+    ∙ ap (λ (n : ℕ). jobIn (n + 1) (take n (l ++ r))) e
+    ∙ ap (λ (m : List ℕ). jobIn (place 10 l + 1) m) (take-append-le (place 10 l) l r (omega arith))
+    ∙ sym (a-line l k)
+
 -- "Input that never ends": 40 bytes settle the job line, whatever stands after them
 pub settled : (l r : List ℕ) → 40 ≤ length l → jobOf (l ++ r) ≡ jobOf l
 settled l r h = go (ltb (place 10 l) (length l)) refl
   where
     go : (b : Bool) → ltb (place 10 l) (length l) ≡ b → jobOf (l ++ r) ≡ jobOf l
-    go true q =
-        let k : place 10 l < length l = ltb-true (place 10 l) (length l) q in
-        let e : place 10 (l ++ r) ≡ place 10 l = place-in 10 l r k in
-        a-line (l ++ r) (omega (arith, length-append l r))
-        ∙ ap (λ (n : ℕ). jobIn (n + 1) (take n (l ++ r))) e
-        ∙ ap (λ (m : List ℕ). jobIn (place 10 l + 1) m) (take-append-le (place 10 l) l r (omega arith))
-        ∙ sym (a-line l k)
+    go true q = ended-line l r (ltb-true (place 10 l) (length l) q)
     go false q =
         let k : length l ≤ place 10 l = ltb-false (place 10 l) (length l) q in
         no-early-end (l ++ r) (omega (arith, place-out 10 l r k)) ∙ sym (no-early-end l (omega arith))
+
+pub line-settled : (l r : List ℕ) → lineSettled l ≡ true → jobOf (l ++ r) ≡ jobOf l
+line-settled l r h = go (leb 40 (length l)) (ltb (place 10 l) (length l)) refl refl h
+  where
+    go : (a b : Bool) → leb 40 (length l) ≡ a → ltb (place 10 l) (length l) ≡ b → a || b ≡ true → jobOf (l ++ r) ≡ jobOf l
+    go true b p q e = settled l r (leb-true 40 (length l) p)
+    go false true p q e = ended-line l r (ltb-true (place 10 l) (length l) q)
+    go false false p q e = absurd (let z : _≡_ {A = ℕ} 0 1 = cc in omega arith)

@@ -1,6 +1,6 @@
 -- The job line: document 01, "The program". The input is the list of its bytes.
 use Prim.Native.Nat.{ℕ, zero, suc, _+_}
-use mathlib.Core.Bool.{Bool, true, false, _&&_}
+use mathlib.Core.Bool.{Bool, true, false, _&&_, _||_}
 use mathlib.Core.Option.{Option, none, some}
 use mathlib.Core.List.{List, [], _∷_}
 use lib.ListN.{length, take, drop}
@@ -71,3 +71,7 @@ jobOf input = elim (ltb (place lineFeed input) (length input)) [
   | true ↦ jobIn (place lineFeed input + 1) (before lineFeed input)
   | false ↦ Bad
 ]
+
+-- what follows this input does not change its job line: the line has ended, or it is longer than any good one
+abbrev pub lineSettled : List ℕ → Bool
+lineSettled input = leb 40 (length input) || ltb (place lineFeed input) (length input)

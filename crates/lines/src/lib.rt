@@ -6,7 +6,7 @@ ghost use mir.Val.{toZ};
 ghost use Rattle.lexer.specs.Lex.{bytes};
 ghost use Prim.Native.Nat.{_+_, _*_, _≤_, _<_};
 ghost use lib.ListN.{length, take, drop};
-ghost use Rattle.lines.specs.JobLine.{numberOf, place as placeOf, before, after, jobWith, jobIn, jobOf};
+ghost use Rattle.lines.specs.JobLine.{numberOf, place as placeOf, before, after, jobWith, jobIn, jobOf, lineSettled};
 ghost use Rattle.lines.specs.Parts.{read, valued, magnitudeOf};
 ghost use Rattle.lines.specs.Written.{Put, countOf, endingAt, rowOf, rowsOf};
 ghost use Rattle.lines.specs.Print.{natural, integer, spaced, rowLine, rowLines, ending, lastLine, refusal};
@@ -173,6 +173,16 @@ pub fn job_line(input: &[u8]) -> JobLine
         return JobLine::Bad;
     }
     job_in(&input[0..end], end + 1)
+}
+
+// Whether no further input changes the job line: it has ended, or it is longer than any good one.
+pub fn line_settled(input: &[u8]) -> bool
+    ensures { λ r. ⌜ r ≡ lineSettled (now (input .entry)) ⌝ }
+{
+    if 40 <= input.len() {
+        return true;
+    }
+    place(input, b'\n') < input.len()
 }
 
 // Bytes written from `at` on; the answer is the place past them.

@@ -12,12 +12,15 @@ enum Input {
     Failed,
 }
 
-// Reads until the buffer is full or the input ends.
+// Reads until no further input changes what is printed, or the input ends.
 fn read_input(buffer: &mut [u8]) -> Input
     ensures { λ r. ⌜ bytesIn r ≤ length (now (buffer .exit)) ⌝ }
 {
     let mut n = 0;
     while n < buffer.len() {
+        if respond::is_enough(&buffer[..n]) {
+            return Input::Bytes(n);
+        }
         let got = libc::read(STDIN_FILENO, &mut buffer[n..]);
         if got < 0 {
             return Input::Failed;

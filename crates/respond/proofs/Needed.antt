@@ -2,14 +2,14 @@
 use Prim.Native.Nat.{ℕ, _+_, _-_, _≤_, _<_}
 use native.Mathlib.Omega.{arith}
 use mathlib.Core.Path.{_≡_, refl, sym, ap, _∙_}
-use mathlib.Core.Bool.{Bool, true, false}
+use mathlib.Core.Bool.{Bool, true, false, _&&_, _||_}
 use mathlib.Core.List.{List, _++_}
 use mathlib.Core.Option.{Option, none, some}
 use lib.ListN.{length, take, drop, length-drop, length-append, take-append-drop}
 use lib.Seq.{take-all, length-take-le}
 use lib.IntN.{ℤ}
-use lib.Dec.{ltb}
-use borrow.Author.Tests.{lt-ltb, ltb-true, ltb-false}
+use lib.Dec.{leb, ltb}
+use borrow.Author.Tests.{lt-ltb, le-leb, lt-leb, leb-true, ltb-true, ltb-false}
 use Rattle.lexer.specs.Lex as L
 use Rattle.lexer.specs.Lex.{lexed}
 use Rattle.checker.specs.Check as C
@@ -18,11 +18,11 @@ use Rattle.search.specs.List.{ground, list, answering}
 use Rattle.lines.specs.declared.Job.{Job}
 use Rattle.lines.specs.declared.JobLine.{JobLine}
 use Rattle.lines.specs.declared.JobLine.the-variants.{Bad, Good}
-use Rattle.lines.specs.JobLine.{jobOf}
-use Rattle.lines.proofs.Reach.{settled}
+use Rattle.lines.specs.JobLine.{jobOf, lineSettled}
+use Rattle.lines.proofs.Reach.{settled, line-settled}
 use Rattle.lines.proofs.Good.{good-holds}
-use Rattle.respond.specs.Output.{textOf, rowWords, scratchWords, listing, linesOf, output}
-use Rattle.respond.proofs.Printed.{bad-line, good-line}
+use Rattle.respond.specs.Output.{textOf, rowWords, scratchWords, listing, linesOf, output, isSome, lineRefused, enoughInput}
+use Rattle.respond.proofs.Printed.{bad-line, good-line, ground-line}
 
 -- ---- a text of over 2,048 bytes is refused, whatever they are
 
@@ -69,6 +69,48 @@ module _ (l r : List ℕ) (h : 2089 ≤ length l) where
       go : (a : JobLine) → jobOf l ≡ a → output (l ++ r) ≡ output l
       go Bad e = bad-line (l ++ r) (same-line ∙ e) ∙ sym (bad-line l e)
       go (Good j) e = good-line (l ++ r) j (same-line ∙ e) ∙ ap linesOf (same-listing j e) ∙ sym (good-line l j e)
+
+-- ---- a line that says all
+
+module _ (l r : List ℕ) (h : lineSettled l ≡ true) where
+  by-line : lineRefused (jobOf l) ≡ true → output (l ++ r) ≡ output l
+  by-line = go (jobOf l) refl
+    where
+      go : (a : JobLine) → jobOf l ≡ a → lineRefused a ≡ true → output (l ++ r) ≡ output l
+      go Bad e k = bad-line (l ++ r) (line-settled l r h ∙ e) ∙ sym (bad-line l e)
+      go (Good j) e k = grounds (ground 16384 (j .low) (j .high) (j .steps)) refl k
+        where
+          grounds : (g : Option ℕ) → ground 16384 (j .low) (j .high) (j .steps) ≡ g → isSome g ≡ true → output (l ++ r) ≡ output l
+          grounds none q k = absurd (let z : _≡_ {A = ℕ} 0 1 = cc in omega arith)
+          grounds (some n) q k = ground-line (l ++ r) j (line-settled l r h ∙ e) n q ∙ sym (ground-line l j e n q)
+
+-- THEOREM. Where the program stops to read, nothing that follows changes what it prints.
+pub enough-input : (l r : List ℕ) → enoughInput l ≡ true → output (l ++ r) ≡ output l
+unfolding enoughInput
+enough-input l r e = go (leb 2089 (length l)) (lineSettled l) (lineRefused (jobOf l)) refl refl refl e
+  where
+    go : (a b c : Bool) → leb 2089 (length l) ≡ a → lineSettled l ≡ b → lineRefused (jobOf l) ≡ c → a || (b && c) ≡ true → output (l ++ r) ≡ output l
+    go true b c p q s e = beyond l r (leb-true 2089 (length l) p)
+    go false true true p q s e = by-line l r q s
+    go false true false p q s e = absurd (let z : _≡_ {A = ℕ} 0 1 = cc in omega arith)
+    go false false c p q s e = absurd (let z : _≡_ {A = ℕ} 0 1 = cc in omega arith)
+
+-- as the code finds it
+module _ (l : List ℕ) where
+  pub enough-long : 2089 ≤ length l → true ≡ enoughInput l
+  unfolding enoughInput
+  enough-long h = sym (ap (λ (b : Bool). b || (lineSettled l && lineRefused (jobOf l))) (le-leb 2089 (length l) h))
+
+  module _ (h : length l < 2089) where
+    enough-short : enoughInput l ≡ lineSettled l && lineRefused (jobOf l)
+    unfolding enoughInput
+    enough-short = ap (λ (b : Bool). b || (lineSettled l && lineRefused (jobOf l))) (lt-leb 2089 (length l) h)
+
+    pub enough-not : lineSettled l ≡ false → false ≡ enoughInput l
+    enough-not e = sym (enough-short ∙ ap (λ (b : Bool). b && lineRefused (jobOf l)) e)
+
+    pub enough-line : (a : JobLine) → lineSettled l ≡ true → jobOf l ≡ a → lineRefused a ≡ enoughInput l
+    enough-line a e f = sym (enough-short ∙ ap (λ (b : Bool). b && lineRefused (jobOf l)) e ∙ ap lineRefused f)
 
 -- so the program need not read more
 pub enough : (input : List ℕ) → output (take 2089 input) ≡ output input

@@ -1,15 +1,18 @@
 -- The program (document 01, "The program"): all that it prints, for every input. The input is the list of its bytes.
 use Prim.Native.Nat.{ℕ}
+use mathlib.Core.Bool.{Bool, true, false, _&&_, _||_}
 use mathlib.Core.List.{List, _++_}
-use lib.ListN.{drop, replicate}
+use mathlib.Core.Option.{Option, none, some}
+use lib.Dec.{leb}
+use lib.ListN.{length, drop, replicate}
 use lib.IntN.{ℤ, pos}
 use Rattle.lines.specs.declared.Job.{Job}
 use Rattle.lines.specs.declared.JobLine.{JobLine}
 use Rattle.lines.specs.declared.JobLine.the-variants.{Bad, Good}
-use Rattle.lines.specs.JobLine.{jobOf}
+use Rattle.lines.specs.JobLine.{jobOf, lineSettled}
 use Rattle.lines.specs.Print.{refusal, rowLines, lastLine}
 use Rattle.lines.specs.Written.{rowsOf}
-use Rattle.search.specs.List.{Answer, refused, listed, Left, list}
+use Rattle.search.specs.List.{Answer, refused, listed, Left, ground, list}
 
 -- "a line `job LOW HIGH STEPS` ended by LF .., then the text"
 abbrev pub textOf : List ℕ → Job → List ℕ
@@ -40,3 +43,18 @@ outputFor input (Good j) = linesOf (listing (textOf input j) (j .low) (j .high) 
 
 unfoldable pub output : List ℕ → List ℕ
 output input = outputFor input (jobOf input)
+
+-- ---- how much input the program needs: "Input that never ends is read no further than the answer needs."
+
+abbrev pub isSome : Option ℕ → Bool
+isSome none = false
+isSome (some n) = true
+
+-- a job line that is refused whatever text follows
+abbrev pub lineRefused : JobLine → Bool
+lineRefused Bad = true
+lineRefused (Good j) = isSome (ground 16384 (j .low) (j .high) (j .steps))
+
+-- the line says all, or there are 40 bytes of a line and 2,049 of a text, which is too long
+unfoldable pub enoughInput : List ℕ → Bool
+enoughInput input = leb 2089 (length input) || (lineSettled input && lineRefused (jobOf input))

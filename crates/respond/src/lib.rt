@@ -6,9 +6,11 @@ ghost use lib.ListN.{length};
 ghost use Rattle.lines.specs.Print.{rowLines, lastLine};
 ghost use Rattle.lines.specs.Written.{Put, endingAt, rowsOf};
 ghost use Rattle.search.specs.Parts.{answerOf};
-ghost use Rattle.respond.specs.Output.{listing, shown, linesOf, output};
+ghost use Rattle.search.specs.List.{ground};
+ghost use Rattle.respond.specs.Output.{listing, shown, linesOf, output, isSome, enoughInput};
 ghost use Rattle.respond.specs.Parts.{Small};
 use lines::JobLine;
+use search::Ground;
 use search::Listed;
 
 // 1,000 rows of at most 110 bytes each, and a last line of at most 39.
@@ -58,5 +60,31 @@ pub fn respond(input: &[u8], out: &mut [u8; OUTPUT]) -> usize
             let text = job.text;
             print_job(out, &input[text..], job.low, job.high, job.steps)
         }
+    }
+}
+
+// Whether list refuses a job whatever its text.
+fn is_refused(low: i32, high: i32, steps: u32) -> bool
+    ensures { λ r. ⌜ r ≡ isSome (ground 16384 low high steps) ⌝ }
+{
+    match search::refusal(low, high, steps, 16384) {
+        Ground::Nothing => false,
+        Ground::Number(_) => true,
+    }
+}
+
+// Whether no further input changes what is printed.
+pub fn is_enough(input: &[u8]) -> bool
+    ensures { λ r. ⌜ r ≡ enoughInput (now (input .entry)) ⌝ }
+{
+    if 2089 <= input.len() {
+        return true;
+    }
+    if !lines::line_settled(input) {
+        return false;
+    }
+    match lines::job_line(input) {
+        JobLine::Bad => true,
+        JobLine::Good(job) => is_refused(job.low, job.high, job.steps),
     }
 }

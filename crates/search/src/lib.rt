@@ -56,7 +56,7 @@ fn is_wide(low: i32, high: i32) -> bool
 }
 
 // The first of list's own grounds for a refusal, where scratch has this many words.
-fn refusal(low: i32, high: i32, steps: u32, words: usize) -> Ground
+pub fn refusal(low: i32, high: i32, steps: u32, words: usize) -> Ground
     ensures { λ r. ⌜ groundOf r ≡ ground words low high steps ⌝ }
 {
     if words < 16384 {

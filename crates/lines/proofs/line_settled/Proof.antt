@@ -1,0 +1,30 @@
+use Prim.Native.Nat.{ℕ}
+use mathlib.Core.Path.{_≡_, refl, sym, ap, _∙_}
+use mathlib.Core.Bool.{Bool, _||_}
+use lib.ListN.{length}
+use lib.Dec.{ltb, leb}
+use borrow.Author.Tests.{le-leb, lt-leb}
+use Rattle.lines.specs.JobLine.{place}
+use borrow.Author.Needs.{needs}
+use Rattle.lines.proofs.line_settled.Statement.{statement}
+use Rattle.lines.proofs.line_settled.Tie as tie
+use Rattle.lines.proofs.line_settled.Reads as reads
+use Rattle.lines.proofs.line_settled.Lts as lts
+use Rattle.lines.proofs.place.Reads as place-reads
+
+
+
+-- src/lib.rt:183:9
+returns : tie.Need-returns
+returns c = rw (le-leb _ _ (c .if1 .taken))
+
+-- src/lib.rt:185:5
+place-requires : tie.Need-place-requires
+place-requires c κs = search needs
+
+-- src/lib.rt:179:1
+returns-2 : tie.Need-returns-2
+returns-2 c = rw (lt-leb _ _ (c .before .if1 .left), c .place .ensures .0)
+
+pub line-settled-spec : {M : Type 1} → statement M
+line-settled-spec = tie.close (tie.spec returns place-requires returns-2)
