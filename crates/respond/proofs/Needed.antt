@@ -8,8 +8,8 @@ use mathlib.Core.Option.{Option, none, some}
 use lib.ListN.{length, take, drop, length-drop, length-append, take-append-drop}
 use lib.Seq.{take-all, length-take-le}
 use lib.IntN.{ℤ}
-use lib.Dec.{leb, ltb}
-use borrow.Author.Tests.{lt-ltb, le-leb, lt-leb, leb-true, ltb-true, ltb-false}
+use lib.Dec.{ltb}
+use borrow.Author.Tests.{lt-ltb, le-leb, ltb-true, ltb-false}
 use Rattle.lexer.specs.Lex as L
 use Rattle.lexer.specs.Lex.{lexed}
 use Rattle.checker.specs.Check as C
@@ -18,10 +18,10 @@ use Rattle.search.specs.List.{ground, list, answering}
 use Rattle.lines.specs.declared.Job.{Job}
 use Rattle.lines.specs.declared.JobLine.{JobLine}
 use Rattle.lines.specs.declared.JobLine.the-variants.{Bad, Good}
-use Rattle.lines.specs.JobLine.{jobOf, lineSettled}
-use Rattle.lines.proofs.Reach.{settled, line-settled}
+use Rattle.lines.specs.JobLine.{place, jobOf, lineSettled}
+use Rattle.lines.proofs.Reach.{line-settled}
 use Rattle.lines.proofs.Good.{good-holds}
-use Rattle.respond.specs.Output.{textOf, rowWords, scratchWords, listing, linesOf, output, isSome, lineRefused, enoughInput}
+use Rattle.respond.specs.Output.{textOf, rowWords, scratchWords, listing, linesOf, output, isSome, jobEnough, enoughInput}
 use Rattle.respond.proofs.Printed.{bad-line, good-line, ground-line}
 
 -- ---- a text of over 2,048 bytes is refused, whatever they are
@@ -48,69 +48,63 @@ module _ (t u : List ℕ) (low high : ℤ) (steps skip budget : ℕ) (rows : Lis
       ∙ same-refusal g
       ∙ sym (ap (answering u low high steps skip budget rows scratch g) f)
 
--- ---- 40 bytes for the job line, and 2,049 of a text
+-- ---- what follows does not matter
 
-module _ (l r : List ℕ) (h : 2089 ≤ length l) where
-  same-line : jobOf (l ++ r) ≡ jobOf l
-  same-line = settled l r (omega arith)
-
-  same-listing : (j : Job) → jobOf l ≡ Good j → listing (textOf (l ++ r) j) (j .low) (j .high) (j .steps) ≡ listing (textOf l j) (j .low) (j .high) (j .steps)
+module _ (l r : List ℕ) where
+  -- a text that is too long already
+  same-listing : (j : Job) → j .text + 2048 < length l → listing (textOf (l ++ r) j) (j .low) (j .high) (j .steps) ≡ listing (textOf l j) (j .low) (j .high) (j .steps)
   unfolding listing
-  same-listing j e =
-      let k = good-holds l j e .near in
+  same-listing j k =
       same-list (textOf (l ++ r) j) (textOf l j) (j .low) (j .high) (j .steps) 0 1000000 rowWords scratchWords 1 2048
       (long-text (textOf (l ++ r) j) (omega (arith, k, length-drop (j .text) (l ++ r), length-append l r)))
       (long-text (textOf l j) (omega (arith, k, length-drop (j .text) l)))
 
-  -- what stands after 2,089 bytes changes nothing
-  pub beyond : output (l ++ r) ≡ output l
-  beyond = go (jobOf l) refl
-    where
-      go : (a : JobLine) → jobOf l ≡ a → output (l ++ r) ≡ output l
-      go Bad e = bad-line (l ++ r) (same-line ∙ e) ∙ sym (bad-line l e)
-      go (Good j) e = good-line (l ++ r) j (same-line ∙ e) ∙ ap linesOf (same-listing j e) ∙ sym (good-line l j e)
+  module _ (h : lineSettled l ≡ true) where
+    by-job : (j : Job) → jobOf l ≡ Good j → (g : Option ℕ) → ground 16384 (j .low) (j .high) (j .steps) ≡ g → (b : Bool) → ltb (j .text + 2048) (length l) ≡ b → isSome g || b ≡ true → output (l ++ r) ≡ output l
+    by-job j e (some n) q b p k = ground-line (l ++ r) j (line-settled l r h ∙ e) n q ∙ sym (ground-line l j e n q)
+    by-job j e none q true p k = good-line (l ++ r) j (line-settled l r h ∙ e) ∙ ap linesOf (same-listing j (ltb-true (j .text + 2048) (length l) p)) ∙ sym (good-line l j e)
+    by-job j e none q false p k = absurd (let z : _≡_ {A = ℕ} 0 1 = cc in omega arith)
 
--- ---- a line that says all
-
-module _ (l r : List ℕ) (h : lineSettled l ≡ true) where
-  by-line : lineRefused (jobOf l) ≡ true → output (l ++ r) ≡ output l
-  by-line = go (jobOf l) refl
-    where
-      go : (a : JobLine) → jobOf l ≡ a → lineRefused a ≡ true → output (l ++ r) ≡ output l
-      go Bad e k = bad-line (l ++ r) (line-settled l r h ∙ e) ∙ sym (bad-line l e)
-      go (Good j) e k = grounds (ground 16384 (j .low) (j .high) (j .steps)) refl k
-        where
-          grounds : (g : Option ℕ) → ground 16384 (j .low) (j .high) (j .steps) ≡ g → isSome g ≡ true → output (l ++ r) ≡ output l
-          grounds none q k = absurd (let z : _≡_ {A = ℕ} 0 1 = cc in omega arith)
-          grounds (some n) q k = ground-line (l ++ r) j (line-settled l r h ∙ e) n q ∙ sym (ground-line l j e n q)
+    by-line : (a : JobLine) → jobOf l ≡ a → jobEnough (length l) a ≡ true → output (l ++ r) ≡ output l
+    by-line Bad e k = bad-line (l ++ r) (line-settled l r h ∙ e) ∙ sym (bad-line l e)
+    by-line (Good j) e k = by-job j e (ground 16384 (j .low) (j .high) (j .steps)) refl (ltb (j .text + 2048) (length l)) refl k
 
 -- THEOREM. Where the program stops to read, nothing that follows changes what it prints.
 pub enough-input : (l r : List ℕ) → enoughInput l ≡ true → output (l ++ r) ≡ output l
 unfolding enoughInput
-enough-input l r e = go (leb 2089 (length l)) (lineSettled l) (lineRefused (jobOf l)) refl refl refl e
+enough-input l r e = go (lineSettled l) refl e
   where
-    go : (a b c : Bool) → leb 2089 (length l) ≡ a → lineSettled l ≡ b → lineRefused (jobOf l) ≡ c → a || (b && c) ≡ true → output (l ++ r) ≡ output l
-    go true b c p q s e = beyond l r (leb-true 2089 (length l) p)
-    go false true true p q s e = by-line l r q s
-    go false true false p q s e = absurd (let z : _≡_ {A = ℕ} 0 1 = cc in omega arith)
-    go false false c p q s e = absurd (let z : _≡_ {A = ℕ} 0 1 = cc in omega arith)
+    go : (b : Bool) → lineSettled l ≡ b → b && jobEnough (length l) (jobOf l) ≡ true → output (l ++ r) ≡ output l
+    go true q e = by-line l r q (jobOf l) refl e
+    go false q e = absurd (let z : _≡_ {A = ℕ} 0 1 = cc in omega arith)
 
 -- as the code finds it
 module _ (l : List ℕ) where
-  pub enough-long : 2089 ≤ length l → true ≡ enoughInput l
+  pub enough-not : lineSettled l ≡ false → false ≡ enoughInput l
   unfolding enoughInput
-  enough-long h = sym (ap (λ (b : Bool). b || (lineSettled l && lineRefused (jobOf l))) (le-leb 2089 (length l) h))
+  enough-not e = sym (ap (λ (b : Bool). b && jobEnough (length l) (jobOf l)) e)
 
-  module _ (h : length l < 2089) where
-    enough-short : enoughInput l ≡ lineSettled l && lineRefused (jobOf l)
-    unfolding enoughInput
-    enough-short = ap (λ (b : Bool). b || (lineSettled l && lineRefused (jobOf l))) (lt-leb 2089 (length l) h)
+  pub enough-line : (a : JobLine) → lineSettled l ≡ true → jobOf l ≡ a → jobEnough (length l) a ≡ enoughInput l
+  unfolding enoughInput
+  enough-line a e f = sym (ap (λ (b : Bool). b && jobEnough (length l) (jobOf l)) e ∙ ap (jobEnough (length l)) f)
 
-    pub enough-not : lineSettled l ≡ false → false ≡ enoughInput l
-    enough-not e = sym (enough-short ∙ ap (λ (b : Bool). b && lineRefused (jobOf l)) e)
+-- ---- 2,089 bytes are always enough: 40 for the job line, and 2,049 of a text
 
-    pub enough-line : (a : JobLine) → lineSettled l ≡ true → jobOf l ≡ a → lineRefused a ≡ enoughInput l
-    enough-line a e f = sym (enough-short ∙ ap (λ (b : Bool). b && lineRefused (jobOf l)) e ∙ ap lineRefused f)
+long-enough : (l : List ℕ) → 2089 ≤ length l → enoughInput l ≡ true
+long-enough l h = sym (enough-line l (jobOf l) (ap (λ (b : Bool). b || ltb (place 10 l) (length l)) (le-leb 40 (length l) (omega (arith, h)))) refl) ∙ go (jobOf l) refl
+  where
+    or-true : (b : Bool) → b || true ≡ true
+    or-true true = refl
+    or-true false = refl
+
+    go : (a : JobLine) → jobOf l ≡ a → jobEnough (length l) a ≡ true
+    go Bad e = refl
+    go (Good j) e =
+        ap (λ (b : Bool). isSome (ground 16384 (j .low) (j .high) (j .steps)) || b) (lt-ltb (j .text + 2048) (length l) (omega (arith, h, good-holds l j e .near)))
+        ∙ or-true (isSome (ground 16384 (j .low) (j .high) (j .steps)))
+
+pub beyond : (l r : List ℕ) → 2089 ≤ length l → output (l ++ r) ≡ output l
+beyond l r h = enough-input l r (long-enough l h)
 
 -- so the program need not read more
 pub enough : (input : List ℕ) → output (take 2089 input) ≡ output input

@@ -1,9 +1,9 @@
 -- The program (document 01, "The program"): all that it prints, for every input. The input is the list of its bytes.
-use Prim.Native.Nat.{ℕ}
+use Prim.Native.Nat.{ℕ, _+_}
 use mathlib.Core.Bool.{Bool, true, false, _&&_, _||_}
 use mathlib.Core.List.{List, _++_}
 use mathlib.Core.Option.{Option, none, some}
-use lib.Dec.{leb}
+use lib.Dec.{ltb}
 use lib.ListN.{length, drop, replicate}
 use lib.IntN.{ℤ, pos}
 use Rattle.lines.specs.declared.Job.{Job}
@@ -50,11 +50,10 @@ abbrev pub isSome : Option ℕ → Bool
 isSome none = false
 isSome (some n) = true
 
--- a job line that is refused whatever text follows
-abbrev pub lineRefused : JobLine → Bool
-lineRefused Bad = true
-lineRefused (Good j) = isSome (ground 16384 (j .low) (j .high) (j .steps))
+-- a bad job line, a job that is refused whatever its text, or a text that is too long already, of these many bytes of input
+abbrev pub jobEnough : ℕ → JobLine → Bool
+jobEnough n Bad = true
+jobEnough n (Good j) = isSome (ground 16384 (j .low) (j .high) (j .steps)) || ltb (j .text + 2048) n
 
--- the line says all, or there are 40 bytes of a line and 2,049 of a text, which is too long
 unfoldable pub enoughInput : List ℕ → Bool
-enoughInput input = leb 2089 (length input) || (lineSettled input && lineRefused (jobOf input))
+enoughInput input = lineSettled input && jobEnough (length input) (jobOf input)

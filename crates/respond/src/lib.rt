@@ -1,7 +1,9 @@
 // The program but for its reading and writing: what it prints, as a function of the input.
 ghost use mathlib.Core.Path.{_≡_};
 ghost use mathlib.Core.List.{_++_};
-ghost use Prim.Native.Nat.{_*_, _≤_};
+ghost use Prim.Native.Nat.{_+_, _*_, _≤_, _<_};
+ghost use mathlib.Core.Bool.{_||_};
+ghost use lib.Dec.{ltb};
 ghost use lib.ListN.{length};
 ghost use Rattle.lines.specs.Print.{rowLines, lastLine};
 ghost use Rattle.lines.specs.Written.{Put, endingAt, rowsOf};
@@ -63,12 +65,13 @@ pub fn respond(input: &[u8], out: &mut [u8; OUTPUT]) -> usize
     }
 }
 
-// Whether list refuses a job whatever its text.
-fn is_refused(low: i32, high: i32, steps: u32) -> bool
-    ensures { λ r. ⌜ r ≡ isSome (ground 16384 low high steps) ⌝ }
+// Whether a job is refused whatever its text, or its text, from the place `text` on, is too long already where so much was read.
+fn is_job_enough(low: i32, high: i32, steps: u32, text: usize, read: usize) -> bool
+    requires { ⌜ text < 65536 ⌝ }
+    ensures { λ r. ⌜ r ≡ (isSome (ground 16384 low high steps) || ltb (text + 2048) read) ⌝ }
 {
     match search::refusal(low, high, steps, 16384) {
-        Ground::Nothing => false,
+        Ground::Nothing => text + 2048 < read,
         Ground::Number(_) => true,
     }
 }
@@ -77,14 +80,11 @@ fn is_refused(low: i32, high: i32, steps: u32) -> bool
 pub fn is_enough(input: &[u8]) -> bool
     ensures { λ r. ⌜ r ≡ enoughInput (now (input .entry)) ⌝ }
 {
-    if 2089 <= input.len() {
-        return true;
-    }
     if !lines::line_settled(input) {
         return false;
     }
     match lines::job_line(input) {
         JobLine::Bad => true,
-        JobLine::Good(job) => is_refused(job.low, job.high, job.steps),
+        JobLine::Good(job) => is_job_enough(job.low, job.high, job.steps, job.text, input.len()),
     }
 }

@@ -12,8 +12,6 @@ use Rattle.lines.proofs.line_settled.Reads as reads
 use Rattle.lines.proofs.line_settled.Lts as lts
 use Rattle.lines.proofs.place.Reads as place-reads
 
-
-
 -- src/lib.rt:183:9
 returns : tie.Need-returns
 returns c = rw (le-leb _ _ (c .if1 .taken))

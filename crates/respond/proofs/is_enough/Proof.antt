@@ -1,32 +1,25 @@
 use mathlib.Core.Path.{_≡_, refl, sym, ap, _∙_}
 use native.Mathlib.Omega.{arith}
 use borrow.Author.Tests.{not-true, not-false}
-use Rattle.lines.proofs.Good.{good-holds}
-use mir.Facts.{toZ-ofZ}
-use Rattle.respond.specs.Output.{isSome, lineRefused}
-use Rattle.respond.proofs.Needed.{enough-long, enough-not, enough-line}
 use borrow.Author.Needs.{needs}
+use mir.Facts.{toZ-ofZ}
+use Rattle.lines.proofs.Good.{good-holds}
+use Rattle.respond.proofs.Needed.{enough-not, enough-line}
 use Rattle.respond.proofs.is_enough.Statement.{statement}
 use Rattle.respond.proofs.is_enough.Tie as tie
 use Rattle.respond.proofs.is_enough.Reads as reads
 use Rattle.respond.proofs.is_enough.Lts as lts
 use Rattle.lines.proofs.job_line.Reads as job-line-reads
 use Rattle.lines.proofs.line_settled.Reads as line-settled-reads
-use Rattle.respond.proofs.is_refused.Reads as is-refused-reads
-
-
-
--- src/lib.rt:81:9
-returns : tie.Need-returns
-returns c = enough-long _ (c .if1 .taken)
+use Rattle.respond.proofs.is_job_enough.Reads as is-job-enough-reads
 
 -- src/lib.rt:83:9
 line-settled-requires : tie.Need-line-settled-requires
 line-settled-requires c κs = search needs
 
 -- src/lib.rt:84:9
-returns-2 : tie.Need-returns-2
-returns-2 c = enough-not _ (omega (arith, c .before .before .if1 .left)) (sym (c .before .line-settled .ensures) ∙ not-true _ (c .if2 .taken))
+returns : tie.Need-returns
+returns c = enough-not _ (sym (c .before .line-settled .ensures) ∙ not-true _ (c .if1 .taken))
 
 -- src/lib.rt:86:11
 job-line-requires : tie.Need-job-line-requires
@@ -41,30 +34,29 @@ enum-known-job : tie.Need-enum-known-job
 enum-known-job c = search needs
 
 -- src/lib.rt:88:31
-is-refused-requires : tie.Need-is-refused-requires
-is-refused-requires c κs = search needs
+is-job-enough-requires : tie.Need-is-job-enough-requires
+is-job-enough-requires c κs = omega (arith, good-holds _ _ (sym (c .before .before .before .before .before .job-line .ensures) ∙ c .before .before .before .job .given .1) .near)
 
--- src/lib.rt:77:1
+-- src/lib.rt:80:1
+returns-2 : tie.Need-returns-2
+returns-2 c = enough-line _ _ (sym (c .before .before .before .before .line-settled .ensures) ∙ not-false _ (c .before .before .before .if1 .left)) (sym (c .before .before .job-line .ensures) ∙ c .enum-told .given .1)
+
+-- src/lib.rt:80:1
 returns-3 : tie.Need-returns-3
-returns-3 c = enough-line _ (omega (arith, c .before .before .before .before .before .if1 .left)) _ (sym (c .before .before .before .before .line-settled .ensures) ∙ not-false _ (c .before .before .before .if2 .left)) (sym (c .before .before .job-line .ensures) ∙ c .enum-told .given .1)
-
--- src/lib.rt:77:1
-returns-4 : tie.Need-returns-4
-returns-4 c =
+returns-3 c =
     let good = sym (c .before .before .before .before .before .before .job-line .ensures) ∙ c .before .before .before .before .job .given .1 in
-        let g = good-holds _ _ good in
-        (rw (toZ-ofZ (g .low), toZ-ofZ (g .high)) at (c .is-refused .ensures)) ∙ enough-line _ (omega (arith, c .before .before .before .before .before .before .before .before .before .if1 .left)) _ (sym (c .before .before .before .before .before .before .before .before .line-settled .ensures) ∙ not-false _ (c .before .before .before .before .before .before .before .if2 .left)) good
+    let g = good-holds _ _ good in
+    (rw (toZ-ofZ (g .low), toZ-ofZ (g .high)) at (c .is-job-enough .ensures)) ∙ enough-line _ _ (sym (c .before .before .before .before .before .before .before .before .line-settled .ensures) ∙ not-false _ (c .before .before .before .before .before .before .before .if1 .left)) good
 
 pub is-enough-spec : {M : Type 1} → statement M
 is-enough-spec =
     tie.close
     (tie.spec
-    returns
     line-settled-requires
-    returns-2
+    returns
     job-line-requires
     enum-told
     enum-known-job
-    is-refused-requires
-    returns-3
-    returns-4)
+    is-job-enough-requires
+    returns-2
+    returns-3)
