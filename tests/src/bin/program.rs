@@ -37,6 +37,22 @@ fn main() {
         compare(path, name, input, expected.as_bytes(), Some(input.len() / 6 + 1));
     }
     println!("{} inputs at the limits agreed", limits.len());
+    // Inputs that never end, as soon as they settle the answer.
+    let open = unended();
+    for (name, input) in &open {
+        let expected = with_room(|| print(input));
+        assert_eq!(
+            answered_while_open(path, input),
+            Some(expected.into_bytes()),
+            "{name}, left open"
+        );
+    }
+    assert_eq!(
+        answered_while_open(path, b"job 0 3 100\nint main() { return 0; }"),
+        None,
+        "a text may go on"
+    );
+    println!("{} inputs left open agreed", open.len());
     for case in 0..count {
         let mut random = Random::new(seed.wrapping_mul(1_000_003).wrapping_add(case));
         let input = input(&mut random);
@@ -92,6 +108,59 @@ fn printed_by(path: &str, input: &[u8], piece: Option<usize>) -> Result<Vec<u8>,
     } else {
         Err(status.to_string())
     }
+}
+
+/// What the program prints while its input is left open; none if it goes on to read for half a second.
+fn answered_while_open(path: &str, input: &[u8]) -> Option<Vec<u8>> {
+    let mut child = Command::new(path)
+        .stdin(Stdio::piped())
+        .stdout(Stdio::piped())
+        .spawn()
+        .expect("the program can be started");
+    let mut stdin = child.stdin.take().expect("a pipe");
+    let mut stdout = child.stdout.take().expect("a pipe");
+    stdin.write_all(input).expect("the input can be written");
+    let (sender, receiver) = std::sync::mpsc::channel();
+    let reader = std::thread::spawn(move || {
+        let mut printed = Vec::new();
+        stdout.read_to_end(&mut printed).expect("the output can be read");
+        let _ = sender.send(printed);
+    });
+    // A program that answers is waited for as long as it takes; one that reads on is told from it by a text that may go on.
+    let wait = if enough(input) { 60_000 } else { 500 };
+    let printed = receiver.recv_timeout(Duration::from_millis(wait)).ok();
+    drop(stdin);
+    reader.join().expect("the output ends");
+    child.wait().expect("the program ends");
+    printed
+}
+
+/// Whether an input settles what is printed, whatever follows: a line that is refused, or 2,049 bytes of a text.
+fn enough(input: &[u8]) -> bool {
+    match input.iter().position(|byte| *byte == b'\n') {
+        None => input.len() >= 40,
+        Some(end) => {
+            let refused = print(&input[..=end]);
+            let by_line = ["refused 12 ", "refused 13 ", "refused 14 ", "refused 16 "];
+            by_line.iter().any(|refusal| refused.starts_with(refusal))
+                || input.len() > end + 1 + 2048
+        }
+    }
+}
+
+/// Inputs that settle the answer before they end.
+fn unended() -> Vec<(&'static str, Vec<u8>)> {
+    let long = [&b"job 0 3 100\n"[..], &[b' '; 2049]].concat();
+    vec![
+        ("a bad line", b"jib 0 3 100\n".to_vec()),
+        ("an empty line", b"\n".to_vec()),
+        ("a line without an end", [b'1'; 40].to_vec()),
+        ("low above high", b"job 3 0 100\n".to_vec()),
+        ("4,097 values", b"job 0 4096 100\n".to_vec()),
+        ("no steps", b"job 0 3 0\n".to_vec()),
+        ("1,001 steps", b"job 0 3 1001\n".to_vec()),
+        ("a text of 2,049 bytes", long),
+    ]
 }
 
 /// Inputs at the limits of line, text, rows and moves, each with its last line.
