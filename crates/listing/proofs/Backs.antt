@@ -21,7 +21,7 @@ use Rattle.settings.specs.Tries.{tallyOf, tallyIn, nextOf, tests, Counts, Count
 use Rattle.settings.proofs.Counting.{rowed-none}
 use Rattle.settings.proofs.Going.{counts-more}
 use Rattle.paths.specs.declared.Point.{Point}
-use Rattle.listing.specs.Loop.{TakenBack, forcedIn, closeOf, closes, thenOf, writtenIn, Adds, Onward, Backed, Finished}
+use Rattle.listing.specs.Loop.{NewestBack, forcedIn, closeOf, closes, thenOf, writtenIn, Adds, Onward, Backed, Finished}
 use Rattle.listing.specs.declared.Next.{Next}
 use Rattle.listing.specs.declared.Next.the-variants.{Ended, Forced}
 use Rattle.listing.specs.declared.Ending.{Ending}
@@ -52,7 +52,7 @@ adds-of c = record { more = c .more; most = omega (arith, c .places) }
 -- ---- the choice taken back
 
 -- no choice is left
-pub ended-backed : (m m′ : List ℕ) (n : ℕ) (t : Tally) (x : Next) → TakenBack m m′ n x → x ≡ Ended → (e : Ending) → closeOf e ≡ closing (t .cut) → (a : Answered) → a ≡ closes t e → Backed m m′ n (tried.Go t) (Over a)
+pub ended-backed : (m m′ : List ℕ) (n : ℕ) (t : Tally) (x : Next) → NewestBack m m′ n x → x ≡ Ended → (e : Ending) → closeOf e ≡ closing (t .cut) → (a : Answered) → a ≡ closes t e → Backed m m′ n (tried.Go t) (Over a)
 ended-backed m m′ n t x b q e c a d = subst (λ (a : Answered). Backed m m′ n (tried.Go t) (Over a)) (sym d) (record {
   is = λ rows. ap (λ k. over (closed k (tallyOf rows t))) c ∙ back-none (outcomesIn m 0 n) (tallyOf rows t) (sym (ap (forcedIn m′) q) ∙ b .is);
   onward = adds-none t;
@@ -80,7 +80,7 @@ moved-same k (tried.Go u) = refl
 moved-same k (tried.Full u) = refl
 moved-same k (tried.Spent u) = refl
 
-pub forced-backed : (m m′ : List ℕ) (n : ℕ) (t : Tally) (x : Next) → TakenBack m m′ n x → (k : ℕ) → x ≡ Forced k → (y : Tried) → Charged t (λ rows. charge (tallyOf rows t)) y → (z : Tried) → y ≡ z → (r : Then) → r ≡ movedOn k z
+pub forced-backed : (m m′ : List ℕ) (n : ℕ) (t : Tally) (x : Next) → NewestBack m m′ n x → (k : ℕ) → x ≡ Forced k → (y : Tried) → Charged t (λ rows. charge (tallyOf rows t)) y → (z : Tried) → y ≡ z → (r : Then) → r ≡ movedOn k z
     → Backed m m′ n (tried.Go t) r
 forced-backed m m′ n t x b k q y h z e r d = subst (λ (r : Then). Backed m m′ n (tried.Go t) r) (sym d) (by (subst (λ (y : Tried). Charged t (λ rows. charge (tallyOf rows t)) y) e h))
   where

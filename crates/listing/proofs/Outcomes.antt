@@ -12,7 +12,7 @@ use lib.Seq.{getD-set-same, getD-set-other}
 use Rattle.simulation.specs.Lister.{next}
 use Rattle.simulation.proofs.Back.{AllFalse, next-none, next-newest}
 use Rattle.machine.specs.Memory.{outcomeAs, outcomesIn}
-use Rattle.listing.specs.Loop.{TakenBack}
+use Rattle.listing.specs.Loop.{NewestBack}
 use Rattle.listing.specs.declared.Next.the-variants.{Ended, Forced}
 
 -- the word of choice j
@@ -64,7 +64,7 @@ kept m m′ i (suc k) f = ap₂ (λ (x : ℕ) (l : List Bool). outcomeAs x ∷ l
 
 -- ---- what taking back does
 
-pub none-left : (m : List ℕ) (n : ℕ) → FalseFrom m 0 n → TakenBack m m n Ended
+pub none-left : (m : List ℕ) (n : ℕ) → FalseFrom m 0 n → NewestBack m m n Ended
 none-left m n f = record { is = sym (next-none (outcomesIn m 0 n) (all-false m 0 n (λ j l u. f j l (omega arith)))); other = λ i h. refl }
 
 module _ (m : List ℕ) (n k : ℕ) (inside : k < n) (room : 1200 + 12 * n ≤ length m) (was : getD m (at k) 0 ≡ 0 → ⊥) (after : FalseFrom m (suc k) n) where
@@ -85,7 +85,7 @@ module _ (m : List ℕ) (n k : ℕ) (inside : k < n) (room : 1200 + 12 * n ≤ l
       (kept m back 0 k (λ j l u. getD-set-other m (at k) (at j) 0 0 (λ e. omega (arith, e))))
       (getD-set-same m (at k) 0 0 (omega (arith, room)))
 
-  pub newest : TakenBack m back n (Forced (k + 1))
+  pub newest : NewestBack m back n (Forced (k + 1))
   newest = record {
     is = ap some now ∙ sym (ap next before ∙ next-newest (outcomesIn m 0 k) (outcomesIn m (suc k) (n - suc k)) (all-false m (suc k) (n - suc k) (λ j l u. after j l (omega arith))));
     other = λ i h. getD-set-other m (at k) i 0 0 (λ e. h k inside e);

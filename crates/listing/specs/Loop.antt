@@ -39,7 +39,7 @@ forcedIn m Ended = none
 forcedIn m (Forced k) = some (outcomesIn m 0 k)
 
 -- of n choices the newest true one was taken back, if there is one; no word but an outcome's changed
-pub record TakenBack (m m′ : List ℕ) (n : ℕ) (r : Next) : Type 0 where
+pub record NewestBack (m m′ : List ℕ) (n : ℕ) (r : Next) : Type 0 where
   pub is : forcedIn m′ r ≡ next (outcomesIn m 0 n)
   pub other : (i : ℕ) → ((j : ℕ) → j < n → i ≡ 1211 + 12 * j → ⊥) → getD m′ i 0 ≡ getD m i 0
 

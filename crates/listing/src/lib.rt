@@ -11,7 +11,7 @@ ghost use Rattle.machine.specs.Contracts.{Room, meant};
 ghost use Rattle.settings.specs.Tries.{tallyIn, Fair};
 ghost use Rattle.settings.specs.declared.Tried.the-variants as tried;
 ghost use Rattle.paths.specs.Point.{Standing};
-ghost use Rattle.listing.specs.Loop.{TakenBack, closes, paying, Backed, Finished, Round, Lists};
+ghost use Rattle.listing.specs.Loop.{NewestBack, closes, paying, Backed, Finished, Round, Lists};
 use intervals::Window;
 use machine::Value;
 use paths::Point;
@@ -49,7 +49,7 @@ pub enum Then {
 // Takes back the newest choice that went true, of n: it goes false, and those after it are dropped.
 fn take_back(mem: &mut [u32], n: usize) -> Next
     requires { ⌜ Room (now mem) n ⌝ }
-    ensures { λ r. ⌜ TakenBack (now (mem .entry)) (now (mem .exit)) n r ⌝ }
+    ensures { λ r. ⌜ NewestBack (now (mem .entry)) (now (mem .exit)) n r ⌝ }
 {
     let mut i = n;
     while 0 < i {

@@ -18,6 +18,9 @@ use Rattle.semantics.specs.Search.{to, byRanges}
 use Rattle.semantics.specs.Demand.{In32}
 use Rattle.semantics.specs.Promise.{Promised, atWhole, atCut, atFull, atSpent}
 use Rattle.semantics.proofs.Theorems.{plan-list, plan-list-unique, promise-01}
+use Rattle.simulation.proofs.Drive.{most-turns}
+use Rattle.simulation.proofs.Listing.{placed-lists}
+use Rattle.simulation.proofs.Back.{taken-back}
 use Rattle.search.specs.List.{jobOf, Answer, refused, listed, Left, ground, refuses, found, answering, list}
 use Rattle.search.specs.Promise as P
 use Rattle.search.specs.Promise.{Closes, Keeps}
@@ -82,6 +85,8 @@ module _ (text : List ℕ) (low high : ℤ) (steps skip budget : ℕ) (rows : Li
         slice = ap (λ (l : Left). l .rows) e;
         cleared = ap (λ (l : Left). l .scratch) e;
         closes = closing j skip (length rows / 10) budget a (promise-01 j (in-32 low high f h) skip (length rows / 10) budget);
+        made = λ c p k l. (most-turns c steps, placed-lists byRanges j c p skip (length rows / 10) budget k (most-turns c steps) l (omega arith));
+        restores = λ c p. record { back = taken-back byRanges (to low high) c steps };
       }
 
   -- a refusal leaves both slices as they were

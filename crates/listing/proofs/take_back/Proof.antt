@@ -4,7 +4,7 @@ use mathlib.Core.List.{List}
 use native.Mathlib.Omega.{arith}
 use lib.ListN.{length, getD, set}
 use borrow.Author.Needs.{needs}
-use Rattle.listing.specs.Loop.{TakenBack}
+use Rattle.listing.specs.Loop.{NewestBack}
 use Rattle.listing.specs.declared.Next.the-variants.{Ended, Forced}
 use Rattle.listing.proofs.Outcomes.{at, FalseFrom, false-more, none-left, newest}
 use Rattle.listing.proofs.take_back.Statement.{statement}
@@ -58,7 +58,7 @@ returns : tie.Need-returns Inv-loop μ-loop
 returns c =
     let s = c .before .before .before .before in
     let l = c .before .before .before .loop in
-    subst (λ (m : List ℕ). TakenBack m (set (l .mem) (at (l .i - 1)) 0) (s .args .n) (Forced (l .i - 1 + 1))) (l .inv .1)
+    subst (λ (m : List ℕ). NewestBack m (set (l .mem) (at (l .i - 1)) 0) (s .args .n) (Forced (l .i - 1 + 1))) (l .inv .1)
     (newest (l .mem) (s .args .n) (l .i - 1) (omega (arith, c .before .before .loop-test .taken, l .inv .0)) (omega (arith, s .pre .words, ap length (l .inv .1))) (c .if1 .taken) (subst (λ (m : List ℕ). FalseFrom m (suc (l .i - 1)) (s .args .n)) (sym (l .inv .1)) (λ j g u. l .inv .2 j (omega (arith, g)) u)))
 
 loop-less : tie.Need-loop-less Inv-loop μ-loop
@@ -77,7 +77,7 @@ returns-2 : tie.Need-returns-2 Inv-loop μ-loop
 returns-2 c =
     let s = c .before .before in
     let l = c .before .loop in
-    subst (λ (m : List ℕ). TakenBack (s .args .mem .now) m (s .args .n) Ended) (sym (l .inv .1)) (none-left (s .args .mem .now) (s .args .n) (λ j g u. l .inv .2 j (omega arith) u))
+    subst (λ (m : List ℕ). NewestBack (s .args .mem .now) m (s .args .n) Ended) (sym (l .inv .1)) (none-left (s .args .mem .now) (s .args .n) (λ j g u. l .inv .2 j (omega arith) u))
 
 pub take-back-spec : {M : Type 1} → statement M
 take-back-spec =
