@@ -106,7 +106,7 @@ ended-line l r k =
     ∙ ap (λ (m : List ℕ). jobIn (place 10 l + 1) m) (take-append-le (place 10 l) l r (omega arith))
     ∙ sym (a-line l k)
 
--- "Input that never ends": 40 bytes settle the job line, whatever stands after them
+-- of input that never ends 40 bytes settle the job line, whatever stands after them
 pub settled : (l r : List ℕ) → 40 ≤ length l → jobOf (l ++ r) ≡ jobOf l
 settled l r h = go (ltb (place 10 l) (length l)) refl
   where

@@ -232,7 +232,7 @@ fn put_word(out: &mut [u8], at: usize, w: u32) -> usize
 }
 
 // A number in decimal.
-pub fn put_integer(out: &mut [u8], at: usize, z: i32) -> usize
+fn put_integer(out: &mut [u8], at: usize, z: i32) -> usize
     requires { ⌜ at + 11 ≤ length (now out) ⌝ }
     ensures { λ r. ⌜ Put (now (out .entry)) at (integer z) (now (out .exit)) r × (r ≤ at + 11) ⌝ }
 {
@@ -313,7 +313,7 @@ pub fn put_refusal(out: &mut [u8], at: usize, number: u32, place: u32) -> usize
 }
 
 // The row whose ten words begin at `base`.
-pub fn put_row(out: &mut [u8], at: usize, rows: &[i32], base: usize) -> usize
+fn put_row(out: &mut [u8], at: usize, rows: &[i32], base: usize) -> usize
     requires { ⌜ (at + 110 ≤ length (now out)) × (base + 10 ≤ length (now rows)) ⌝ }
     ensures { λ r. ⌜ Put (now (out .entry)) at (rowLine (rowOf (drop base (now (rows .entry))))) (now (out .exit)) r × (r ≤ at + 110) ⌝ }
 {

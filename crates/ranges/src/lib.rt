@@ -153,21 +153,21 @@ fn most_of(a: i64, b: i64, c: i64, d: i64) -> i64
 }
 
 // The ranges of a sum, a difference and a product.
-pub fn sum(v: Window, w: Window) -> Window
+fn sum(v: Window, w: Window) -> Window
     requires { ⌜ Filled (ofWindow v) × Filled (ofWindow w) ⌝ }
     ensures { λ r. ⌜ ofWindow r ≡ fitted (span add (ofWindow v) (ofWindow w)) ⌝ }
 {
     fit(plus(v.low, w.low), plus(v.high, w.high))
 }
 
-pub fn difference(v: Window, w: Window) -> Window
+fn difference(v: Window, w: Window) -> Window
     requires { ⌜ Filled (ofWindow v) × Filled (ofWindow w) ⌝ }
     ensures { λ r. ⌜ ofWindow r ≡ fitted (span sub (ofWindow v) (ofWindow w)) ⌝ }
 {
     fit(minus(v.low, w.high), minus(v.high, w.low))
 }
 
-pub fn product(v: Window, w: Window) -> Window
+fn product(v: Window, w: Window) -> Window
     requires { ⌜ Filled (ofWindow v) × Filled (ofWindow w) ⌝ }
     ensures { λ r. ⌜ ofWindow r ≡ fitted (span mul (ofWindow v) (ofWindow w)) ⌝ }
 {

@@ -44,7 +44,7 @@ outputFor input (Good j) = linesOf (listing (textOf input j) (j .low) (j .high) 
 unfoldable pub output : List ℕ → List ℕ
 output input = outputFor input (jobOf input)
 
--- ---- how much input the program needs: "Input that never ends is read no further than the answer needs."
+-- ---- how much input the program needs: input that never ends is read no further than the answer needs
 
 abbrev pub isSome : Option ℕ → Bool
 isSome none = false

@@ -8,7 +8,7 @@ use Rattle.events.specs.Event.{Event, function, parameter, thing, opens, closes
 use Rattle.rules.specs.Scan.{scan, on, when}
 use Rattle.rules.specs.Rules.{Head, heads, functionOf}
 
--- a declared variable: its name's token, and its slot, "its declaration's number in its function, parameters first"
+-- a declared variable: its name's token, and its slot: its declaration's number in its function, parameters first
 pub record Declared : Type 0 where
   pub name : ℕ
   pub slot : ℕ

@@ -44,7 +44,7 @@ belongs-has j c b =
     (lists-has 8 (j .window) (c .values) (run-length _ (j .steps) 8 (c .values) (c .ran) (b .runs)) (member-all (c .values) (λ v n. window-in (j .window) v (b .inside v n))))
     (b .runs)
 
--- "exactly the lists of values in the window whose run reaches as many free declarations as there are values"
+-- the choices of a job are exactly those that belong to it
 pub belongs : (j : Job) (c : Choice) → (c ∈ choices j) ↔ Belongs j c
 belongs j c = (belongs-only j c, belongs-has j c)
 

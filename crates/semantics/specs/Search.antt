@@ -181,7 +181,7 @@ pub data Paths : Type 0 where
   onward : Paths → Paths
   fork : Paths → Paths → Paths
 
--- a side of a choice, in its windows; a closed one "goes on as after a `fail`"
+-- a side of a choice, in its windows. Document 01's solver closes none; one that another solver closes goes on as after a `fail` (document 02)
 abbrev pub side : Option (List Window) → (List Window → Paths) → Paths
 side none p = leaf []
 side (some ws) p = p ws

@@ -17,7 +17,7 @@ pub enum Side {
 }
 
 // The windows of a path, eight pairs: the one at i.
-pub fn window_at(ws: [[i32; 2]; 8], i: usize) -> Window
+fn window_at(ws: [[i32; 2]; 8], i: usize) -> Window
     requires { ⌜ i < 8 ⌝ }
     ensures { λ r. ⌜ ofWindow r ≡ getD (ofPairs ws) i all32 ⌝ }
 {
@@ -39,7 +39,7 @@ pub fn with_pair(ws: [[i32; 2]; 8], i: usize, p: [i32; 2]) -> [[i32; 2]; 8]
 }
 
 // The windows with the one at i narrowed by a comparison with a number.
-pub fn narrow_at(ws: [[i32; 2]; 8], i: usize, c: u32, k: i32) -> [[i32; 2]; 8]
+fn narrow_at(ws: [[i32; 2]; 8], i: usize, c: u32, k: i32) -> [[i32; 2]; 8]
     requires { ⌜ (i < 8) × (decided (comparison c) (getD (ofPairs ws) i all32) (to k k) ≡ none) ⌝ }
     ensures { λ r. ⌜ ofPairs r ≡ set (ofPairs ws) i (clip (comparison c) k (getD (ofPairs ws) i all32)) ⌝ }
 {
