@@ -34,7 +34,7 @@ stored-values (suc n) ks ps vs h =
 
 -- ---- the kinds of a text's tokens are a token list
 
-ends-in : {m : ℕ} {ts : List Token} → Ended m ts → Tokens (kinds ts)
+pub ends-in : {m : ℕ} {ts : List Token} → Ended m ts → Tokens (kinds ts)
 ends-in the-end = record { filled = omega arith; ends = λ a e. first a (omega (arith, e)); only = λ a h e. omega (arith, h) }
   where
     first : (a : ℕ) → a ≡ 0 → getD (kEnd ∷ []) a 0 ≡ kEnd

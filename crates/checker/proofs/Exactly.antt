@@ -9,9 +9,13 @@ use native.Mathlib.Omega.{arith}
 use lib.ListN.{length, getD}
 use Rattle.lexer.specs.Lex as L
 use Rattle.lexer.specs.Lex.{Token, lexed}
-use Rattle.syntax.specs.Tree.{Tree, prog}
+use Rattle.lexer.proofs.Theorems.{lexed-tokens, end-last}
+use Rattle.syntax.specs.Tree.{Tree, prog, width}
 use Rattle.syntax.specs.Abstract.{ast}
 use Rattle.grammar.specs.Parse.{Res, parsed, ok, bad}
+use Rattle.grammar.specs.Text as G
+use Rattle.grammar.specs.Text.{Tokens}
+use Rattle.grammar.proofs.Grammar as Q
 use Rattle.events.specs.Event.{Event, events}
 use Rattle.rules.specs.Scan.{least, lesser}
 use Rattle.rules.specs.Spelling.{sameName, isMain}
@@ -19,8 +23,9 @@ use Rattle.rules.specs.Rules.{tooDeep, miscalls, mainless, openEnds, tooMany}
 use Rattle.rules.specs.Names.{badNames}
 use Rattle.checker.specs.Check.{Verdict, accepted, refused, Fault, fault, Rule, rule, orElse, rules, firstBroken, verdict, rulesOf, checkedTokens, checked, kinds, places, values}
 use Rattle.checker.specs.Accepted.{Keeps}
+use Rattle.checker.proofs.Analysing.{ends-in}
 
-least-none : (is : List ℕ) → least is ≡ none → is ≡ []
+pub least-none : (is : List ℕ) → least is ≡ none → is ≡ []
 unfolding least lesser
 least-none [] e = refl
 least-none (i ∷ is) e = absurd (go (least is) e)
@@ -61,6 +66,14 @@ is-accepted : (ps : List ℕ) (o : Option Fault) → verdict ps o ≡ accepted �
 is-accepted ps none e = refl
 is-accepted ps (some f) e = let z : _≡_ {A = ℕ} 0 1 = cc in absurd (omega arith)
 
+-- the kinds of a text's tokens are a token list
+pub token-list : (text : List ℕ) (ts : List Token) → lexed text ≡ L.tokens ts → Tokens (kinds ts)
+token-list text ts l = ends-in (end-last (lexed-tokens text ts l .1))
+
+-- the tokens of a tree are read back as this tree
+pub read-so : (ks : List ℕ) (t : Tree prog) → G.Keeps ks t → parsed ks ≡ ok t (width t)
+read-so ks t k = Q.accepts ks t (k .tokens) ∙ ap (λ (x : Tree prog). ok x (width t)) (sym (k .numbers))
+
 module _ (text : List ℕ) where
   to : checked text ≡ accepted → Keeps text
   unfolding checked checkedTokens
@@ -69,7 +82,7 @@ module _ (text : List ℕ) where
       kept : (ts : List Token) → lexed text ≡ L.tokens ts → (t : Tree prog) (m : ℕ) → parsed (kinds ts) ≡ ok t m → firstBroken (rulesOf text (places ts) (values ts) (length (kinds ts)) (events (ast t))) ≡ none → Keeps text
       kept ts l t m p f =
           let u = unbroken (sameName text (places ts) (values ts)) (isMain text (places ts) (values ts)) (length (kinds ts) - 1) (events (ast t)) f in
-          record { tokens = ts; tree = t; after = m; lexes = l; parses = p; depth = u .depth; names = u .names; calls = u .calls; main = u .main; ends = u .ends; counts = u .counts }
+          record { tokens = ts; tree = t; lexes = l; grammar = Q.kept (kinds ts) (token-list text ts l) p; depth = u .depth; names = u .names; calls = u .calls; main = u .main; ends = u .ends; counts = u .counts }
 
       read : (ts : List Token) → lexed text ≡ L.tokens ts → (r : Res prog) → parsed (kinds ts) ≡ r
           → elim r [ bad m ↦ refused 4 (getD (places ts) m 0) | ok t m ↦ verdict (places ts) (firstBroken (rulesOf text (places ts) (values ts) (length (kinds ts)) (events (ast t)))) ] ≡ accepted → Keeps text
@@ -82,7 +95,7 @@ module _ (text : List ℕ) where
 
   from : Keeps text → checked text ≡ accepted
   unfolding checked checkedTokens rules firstBroken least
-  from k = rw (k .lexes, checked) (rw (k .parses, checkedTokens) (rw (k .depth, k .names, k .calls, k .main, k .ends, k .counts)))
+  from k = rw (k .lexes, checked) (rw (read-so (kinds (k .tokens)) (k .tree) (k .grammar), checkedTokens) (rw (k .depth, k .names, k .calls, k .main, k .ends, k .counts)))
 
   pub exactly : (checked text ≡ accepted) ↔ Keeps text
   exactly = (to, from)

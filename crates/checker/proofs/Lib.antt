@@ -5,4 +5,6 @@ pub mod Settling
 pub mod Analysing
 pub mod Small
 pub mod Exactly
+pub mod Inside
+pub mod Refusals
 pub mod Texts

@@ -1,4 +1,4 @@
--- What it means that a text keeps every rule, without a word of numbers and places. That check accepts exactly these texts is proved in proofs/Exactly.
+-- What it means that a text keeps every rule, without a word of readers, numbers and places. That check accepts exactly these texts is proved in proofs/Exactly.
 use Prim.Native.Nat.{ℕ, _-_}
 use mathlib.Core.Path.{_≡_}
 use mathlib.Core.List.{List, []}
@@ -7,20 +7,20 @@ use Rattle.lexer.specs.Lex as L
 use Rattle.lexer.specs.Lex.{Token, lexed}
 use Rattle.syntax.specs.Tree.{Tree, prog}
 use Rattle.syntax.specs.Abstract.{ast}
-use Rattle.grammar.specs.Parse.{parsed, ok}
+use Rattle.grammar.specs.Text as G
 use Rattle.events.specs.Event.{events}
 use Rattle.rules.specs.Spelling.{sameName, isMain}
 use Rattle.rules.specs.Rules.{tooDeep, miscalls, mainless, openEnds, tooMany}
 use Rattle.rules.specs.Names.{badNames}
 use Rattle.checker.specs.Check.{kinds, places, values}
 
--- it has tokens, they are the tokens of a tree, and nothing in the tree breaks a rule
+-- "a text is accepted exactly if it keeps the grammar and every other rule": it has tokens, they are the tokens of a tree, and nothing in the tree breaks a rule
 pub record Keeps (text : List ℕ) : Type 0 where
   pub tokens : List Token
   pub tree : Tree prog
-  pub after : ℕ
   pub lexes : lexed text ≡ L.tokens tokens
-  pub parses : parsed (kinds tokens) ≡ ok tree after
+  -- it keeps the grammar: its tokens are those of the tree, and then the end
+  pub grammar : G.Keeps (kinds tokens) tree
   pub depth : tooDeep (events (ast tree)) ≡ []
   pub names : badNames (sameName text (places tokens) (values tokens)) (events (ast tree)) ≡ []
   pub calls : miscalls (sameName text (places tokens) (values tokens)) (events (ast tree)) ≡ []

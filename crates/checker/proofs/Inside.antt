@@ -1,0 +1,230 @@
+-- The tokens that break a rule are tokens of the text.
+use Prim.Native.Nat.{ℕ, _+_, _-_, _<_}
+use mathlib.Core.Path.{_≡_, sym, ap, _∙_, subst}
+use mathlib.Core.Bool.{Bool, true, false, cond, not, _||_}
+use mathlib.Core.List.{List, [], _∷_, _++_, List·Memᴰ·head as here, List·Memᴰ·tail as there, List·Memᴰ·not-nil as nowhere}
+use mathlib.Core.Option.{Option, none, some}
+use native.Mathlib.Omega.{arith}
+use lib.ListN.{length}
+use lib.Dec.{eqb, leb, ltb}
+use Rattle.syntax.specs.Token.{kEnd}
+use Rattle.syntax.specs.Tree.{Tree, prog, width, numbered}
+use Rattle.syntax.specs.Abstract.{ast}
+use Rattle.grammar.specs.Text as G
+use Rattle.events.specs.Event.{Event, function, parameter, thing, opens, closes, declares, uses, calls, ends, events}
+use Rattle.events.specs.Walk.{Below}
+use Rattle.events.proofs.Widths.{onto-length}
+use Rattle.events.proofs.Tokens.{Within, Each, numbered-below, events-within}
+use Rattle.events.proofs.Tokens as W
+use Rattle.semantics.specs.Demand.{_∈_}
+use Rattle.rules.specs.Scan.{scan, on, when}
+use Rattle.rules.specs.Rules.{Head, heads, deep, wrong, arityOf, miscounted, mains, withParameters, badMain, unended, Tally, tally, counted, over, functionOf}
+use Rattle.rules.specs.Names.{Scope, nowhere as outside, entered, sought, misnamed, unlessFound, ifFound, uncalled, repeated, badNames}
+use Rattle.checker.specs.Check.{Rule, rules}
+
+-- every number is below m
+pub data Low (m : ℕ) : List ℕ → Type 0 where
+  nil : Low m []
+  more : {i : ℕ} {is : List ℕ} → i < m → Low m is → Low m (i ∷ is)
+
+pub low-at : {m : ℕ} {is : List ℕ} → Low m is → (j : ℕ) → j ∈ is → j < m
+low-at nil j k = absurd (nowhere k)
+low-at {m} (more h l) j (here e) = subst (λ (i : ℕ). i < m) (sym e) h
+low-at (more h l) j (there k) = low-at l j k
+
+low-append : {m : ℕ} {is js : List ℕ} → Low m is → Low m js → Low m (is ++ js)
+low-append nil l = l
+low-append (more h k) l = more h (low-append k l)
+
+low-when : {m i : ℕ} (b : Bool) → i < m → Low m (when b i)
+low-when true h = more h nil
+low-when false h = nil
+
+module _ (m : ℕ) where
+  -- ---- events
+
+  low-on : (gives : Event → List ℕ) → ((e : Event) → Within m e → Low m (gives e)) → {es : List Event} → Each m es → Low m (on gives es)
+  unfolding on
+  low-on gives f W.none = nil
+  low-on gives f (W.more {e = e} h l) = low-append (f e h) (low-on gives f l)
+
+  low-scan : {S : Type 0} (step : S → Event → S) (gives : S → Event → List ℕ) → ((s : S) (e : Event) → Within m e → Low m (gives s e)) → (s : S) {es : List Event} → Each m es → Low m (scan step gives s es)
+  unfolding scan
+  low-scan step gives f s W.none = nil
+  low-scan step gives f s (W.more {e = e} h l) = low-append (f s e h) (low-scan step gives f (step s e) l)
+
+  -- ---- rule 5
+
+  low-deep : (e : Event) → Within m e → Low m (deep e)
+  unfolding deep Within
+  low-deep (function i) h = nil
+  low-deep (parameter i) h = nil
+  low-deep (thing d i) h = low-when (ltb 24 d) h
+  low-deep opens h = nil
+  low-deep closes h = nil
+  low-deep (declares i) h = nil
+  low-deep (uses i) h = nil
+  low-deep (calls i n) h = nil
+  low-deep (ends i b) h = nil
+
+  -- ---- functions
+
+  -- the name of every function is below m
+  data Heads : List Head → Type 0 where
+    no-heads : Heads []
+    head : {h : Head} {hs : List Head} → h .name < m → Heads hs → Heads (h ∷ hs)
+
+  low-heads : {es : List Event} → Each m es → Heads (heads es)
+  unfolding heads Within
+  low-heads W.none = no-heads
+  low-heads (W.more {e = e} {es = es} h l) = go e h (low-heads l)
+    where
+      go : (e : Event) → Within m e → Heads (heads es) → Heads (heads (e ∷ es))
+      go (function i) h k = head h k
+      go (parameter i) h k = k
+      go (thing d i) h k = k
+      go opens h k = k
+      go closes h k = k
+      go (declares i) h k = k
+      go (uses i) h k = k
+      go (calls i n) h k = k
+      go (ends i b) h k = k
+
+  -- ---- rules 6 and 7
+
+  module _ (same : ℕ → ℕ → Bool) where
+    low-found : {i : ℕ} (o : Option ℕ) → i < m → Low m (ifFound same o i)
+    low-found none h = nil
+    low-found (some n) h = more h nil
+
+    low-unless : {i : ℕ} (o : Option ℕ) → i < m → Low m (unlessFound same o i)
+    low-unless none h = more h nil
+    low-unless (some n) h = nil
+
+    low-misnamed : (s : Scope) (e : Event) → Within m e → Low m (misnamed same s e)
+    unfolding misnamed Within
+    low-misnamed s (function i) h = nil
+    low-misnamed s (parameter i) h = low-found (sought same (s .blocks) i) h
+    low-misnamed s (thing d i) h = nil
+    low-misnamed s opens h = nil
+    low-misnamed s closes h = nil
+    low-misnamed s (declares i) h = low-found (sought same (s .blocks) i) h
+    low-misnamed s (uses i) h = low-unless (sought same (s .blocks) i) h
+    low-misnamed s (calls i n) h = nil
+    low-misnamed s (ends i b) h = nil
+
+    low-uncalled : (hs : List Head) (e : Event) → Within m e → Low m (uncalled same hs e)
+    unfolding uncalled Within
+    low-uncalled hs (function i) h = nil
+    low-uncalled hs (parameter i) h = nil
+    low-uncalled hs (thing d i) h = nil
+    low-uncalled hs opens h = nil
+    low-uncalled hs closes h = nil
+    low-uncalled hs (declares i) h = nil
+    low-uncalled hs (uses i) h = nil
+    low-uncalled hs (calls i n) h = low-unless (functionOf same hs i) h
+    low-uncalled hs (ends i b) h = nil
+
+    low-repeated : (before : List Head) {hs : List Head} → Heads hs → Low m (repeated same before hs)
+    unfolding repeated
+    low-repeated before no-heads = nil
+    low-repeated before (head {h = x} h l) = low-append (low-found (functionOf same before (x .name)) h) (low-repeated (before ++ x ∷ []) l)
+
+    low-wrong : {i : ℕ} (o : Option ℕ) (n : ℕ) → i < m → Low m (wrong same o i n)
+    unfolding wrong
+    low-wrong none n h = nil
+    low-wrong (some k) n h = low-when (not (eqb k n)) h
+
+    low-miscounted : (hs : List Head) (e : Event) → Within m e → Low m (miscounted same hs e)
+    unfolding miscounted Within
+    low-miscounted hs (function i) h = nil
+    low-miscounted hs (parameter i) h = nil
+    low-miscounted hs (thing d i) h = nil
+    low-miscounted hs opens h = nil
+    low-miscounted hs closes h = nil
+    low-miscounted hs (declares i) h = nil
+    low-miscounted hs (uses i) h = nil
+    low-miscounted hs (calls i n) h = low-wrong (arityOf same hs i) n h
+    low-miscounted hs (ends i b) h = nil
+
+    low-names : {es : List Event} → Each m es → Low m (badNames same es)
+    low-names {es} l =
+        low-append (low-scan entered (misnamed same) low-misnamed outside l)
+        (low-append (low-on (uncalled same (heads es)) (low-uncalled (heads es)) l) (low-repeated [] (low-heads l)))
+
+  -- ---- rule 8
+
+  module _ (isMain : ℕ → Bool) where
+    low-mains : {hs : List Head} → Heads hs → Heads (mains isMain hs)
+    unfolding mains
+    low-mains no-heads = no-heads
+    low-mains (head {h = x} {hs = hs} h l) = go (isMain (x .name)) (low-mains l)
+      where
+        go : (b : Bool) → Heads (mains isMain hs) → Heads (cond b (x ∷ mains isMain hs) (mains isMain hs))
+        go true k = head h k
+        go false k = k
+
+    low-parameters : {hs : List Head} → Heads hs → Low m (withParameters isMain hs)
+    unfolding withParameters
+    low-parameters no-heads = nil
+    low-parameters (head {h = x} h l) = low-append (low-when (ltb 0 (x .arity)) h) (low-parameters l)
+
+    low-main : {end : ℕ} → end < m → {hs : List Head} → Heads hs → Low m (badMain isMain end hs)
+    unfolding badMain
+    low-main e no-heads = more e nil
+    low-main e (head h l) = low-parameters (head h l)
+
+  -- ---- rules 9 and 10
+
+  low-unended : (e : Event) → Within m e → Low m (unended e)
+  unfolding unended Within
+  low-unended (function i) h = nil
+  low-unended (parameter i) h = nil
+  low-unended (thing d i) h = nil
+  low-unended opens h = nil
+  low-unended closes h = nil
+  low-unended (declares i) h = nil
+  low-unended (uses i) h = nil
+  low-unended (calls i n) h = nil
+  low-unended (ends i b) h = low-when b h
+
+  low-over : (c : Tally) (e : Event) → Within m e → Low m (over c e)
+  unfolding over Within
+  low-over c (function i) h = low-when (leb 16 (c .functions)) h
+  low-over c (parameter i) h = low-when (leb 4 (c .parameters) || leb 16 (c .declarations)) h
+  low-over c (thing d i) h = nil
+  low-over c opens h = nil
+  low-over c closes h = nil
+  low-over c (declares i) h = low-when (leb 16 (c .declarations)) h
+  low-over c (uses i) h = nil
+  low-over c (calls i n) h = nil
+  low-over c (ends i b) h = nil
+
+-- ---- all rules
+
+pub data Lows (m : ℕ) : List Rule → Type 0 where
+  done : Lows m []
+  also : {r : Rule} {rs : List Rule} → Low m (r .broken) → Lows m rs → Lows m (r ∷ rs)
+
+rules-low : (m : ℕ) (same : ℕ → ℕ → Bool) (isMain : ℕ → Bool) (end : ℕ) (es : List Event) → end < m → Each m es → Lows m (rules same isMain end es)
+unfolding rules
+rules-low m same isMain end es e l =
+    also (low-on m deep (low-deep m) l)
+    (also (low-names m same l)
+    (also (low-on m (miscounted same (heads es)) (low-miscounted m same (heads es)) l)
+    (also (low-main m isMain e (low-mains m isMain (low-heads m l)))
+    (also (low-on m unended (low-unended m) l)
+    (also (low-scan m counted over (low-over m) (tally 0 0 0) l) done)))))
+
+-- the events of a tree name tokens of its text
+events-low : (ks : List ℕ) (t : Tree prog) → G.Keeps ks t → Each (length ks) (events (ast t))
+unfolding events
+events-low ks t k =
+    let w : length ks ≡ width t + 1 = ap length (k .tokens) ∙ onto-length t (kEnd ∷ []) in
+    let b : Below (length ks) (ast (numbered 0 t)) = numbered-below 0 (length ks) t (omega (arith, w)) in
+    events-within (length ks) 1 (ast t) (subst (λ (x : Tree prog). Below (length ks) (ast x)) (sym (k .numbers)) b)
+
+pub broken-low : (ks : List ℕ) (t : Tree prog) → G.Keeps ks t → (same : ℕ → ℕ → Bool) (isMain : ℕ → Bool) → Lows (length ks) (rules same isMain (length ks - 1) (events (ast t)))
+broken-low ks t k same isMain =
+    let w : length ks ≡ width t + 1 = ap length (k .tokens) ∙ onto-length t (kEnd ∷ []) in
+    rules-low (length ks) same isMain (length ks - 1) (events (ast t)) (omega (arith, w)) (events-low ks t k)
