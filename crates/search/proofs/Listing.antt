@@ -17,6 +17,7 @@ use Rattle.semantics.specs.Search.{to}
 use Rattle.search.specs.List.{ground, Left, answering, list}
 use Rattle.search.specs.Parts.{leaves}
 use Rattle.search.specs.Code.{Codes, Translates, refuses, has, Searches}
+use Rattle.search.proofs.Values.{neither}
 use Rattle.search.specs.declared.Listed.{Listed}
 use Rattle.search.specs.declared.Listed.the-variants as L
 use Rattle.search.specs.declared.Coded.{Coded}
@@ -33,10 +34,6 @@ pub record Groundless (words : ℕ) (low high : ℤ) (steps : ℕ) : Type 0 wher
 past : (b : Bool) (n : ℕ) (o : Option ℕ) → cond b (some n) o ≡ none → (b ≡ false) × (o ≡ none)
 past true n o e = let z : _≡_ {A = ℕ} 0 1 = cc in absurd (omega arith)
 past false n o e = (refl, e)
-
-neither : (a b : Bool) → a || b ≡ false → b ≡ false
-neither true b e = absurd (let z : _≡_ {A = ℕ} 0 1 = cc in omega arith)
-neither false b e = e
 
 le-of : (a b : ℤ) → ltZ b a ≡ false → leZ a b ≡ true
 le-of (pos a) (pos b) e = le-leb a b (ltb-false b a e)

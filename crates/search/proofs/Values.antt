@@ -14,7 +14,7 @@ use Rattle.lexer.proofs.Loop.{Longest}
 use Rattle.lexer.proofs.Theorems.{Scans, ended, next, Small, one, lexed-tokens}
 use Rattle.checker.specs.Check.{values}
 
-neither : (a b : Bool) → a || b ≡ false → b ≡ false
+pub neither : (a b : Bool) → a || b ≡ false → b ≡ false
 neither true b e = absurd (let z : _≡_ {A = ℕ} 0 1 = cc in omega arith)
 neither false b e = e
 
