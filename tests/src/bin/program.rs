@@ -7,7 +7,7 @@ use reference::lister::print;
 use reference::random::Random;
 use reference::{generate, rule_files, with_room};
 use std::io::{Read, Write};
-use std::process::{Command, Stdio};
+use std::process::{Child, ChildStdin, ChildStdout, Command, Stdio};
 use std::time::Duration;
 
 const A: &str = "int main() { int y free; if (y < 2) return y; else fail; }";
@@ -77,15 +77,21 @@ fn compare(path: &str, name: &str, input: &[u8], expected: &[u8], piece: Option<
     std::process::exit(1);
 }
 
-/// What the program prints, or how it ended if not with exit status 0.
-fn printed_by(path: &str, input: &[u8], piece: Option<usize>) -> Result<Vec<u8>, String> {
+/// The program, with pipes to its input and from its output.
+fn started(path: &str) -> (Child, ChildStdin, ChildStdout) {
     let mut child = Command::new(path)
         .stdin(Stdio::piped())
         .stdout(Stdio::piped())
         .spawn()
         .expect("the program can be started");
-    let mut stdin = child.stdin.take().expect("a pipe");
-    let mut stdout = child.stdout.take().expect("a pipe");
+    let stdin = child.stdin.take().expect("a pipe");
+    let stdout = child.stdout.take().expect("a pipe");
+    (child, stdin, stdout)
+}
+
+/// What the program prints, or how it ended if not with exit status 0.
+fn printed_by(path: &str, input: &[u8], piece: Option<usize>) -> Result<Vec<u8>, String> {
+    let (mut child, mut stdin, mut stdout) = started(path);
     let mut printed = Vec::new();
     std::thread::scope(|scope| {
         // A program that has read enough may end before all is written.
@@ -112,13 +118,7 @@ fn printed_by(path: &str, input: &[u8], piece: Option<usize>) -> Result<Vec<u8>,
 
 /// What the program prints while its input is left open; none if it goes on to read for half a second.
 fn answered_while_open(path: &str, input: &[u8]) -> Option<Vec<u8>> {
-    let mut child = Command::new(path)
-        .stdin(Stdio::piped())
-        .stdout(Stdio::piped())
-        .spawn()
-        .expect("the program can be started");
-    let mut stdin = child.stdin.take().expect("a pipe");
-    let mut stdout = child.stdout.take().expect("a pipe");
+    let (mut child, mut stdin, mut stdout) = started(path);
     stdin.write_all(input).expect("the input can be written");
     let (sender, receiver) = std::sync::mpsc::channel();
     let reader = std::thread::spawn(move || {
