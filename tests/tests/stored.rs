@@ -24,10 +24,10 @@ fn the_sample() {
 
 /// A byte 1 stands after each input.
 #[test]
-fn the_limits() {
-    let inputs = stored("limits", "stdin");
+fn the_program_cases() {
+    let inputs = stored("program_cases", "stdin");
     let (last, inputs) = inputs.split_last().expect("there are inputs");
     assert_eq!(*last, 1);
     let outputs: String = inputs.split(|byte| *byte == 1).map(printed).collect();
-    assert_eq!(outputs, text(stored("limits", "stdout")));
+    assert_eq!(outputs, text(stored("program_cases", "stdout")));
 }

@@ -1,6 +1,6 @@
 -- What the tally of the code stands for.
 use Prim.Native.Nat.{_<_}
-use Rattle.rules.specs.Rules.{Tally, tally}
+use Rattle.text_rules.specs.Rules.{Tally, tally}
 use Rattle.breaches.specs.declared.counts.Tally as C
 
 -- the tally that the code keeps; each count leaves room for one more

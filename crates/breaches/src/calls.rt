@@ -3,16 +3,16 @@ ghost use mathlib.Core.Path.{_≡_};
 ghost use Prim.Native.Nat.{_*_, _≤_};
 ghost use lib.ListN.{length};
 ghost use Rattle.events.specs.Stored.{stored};
-ghost use Rattle.rules.specs.Scan.{on, least};
-ghost use Rattle.rules.specs.Spelling.{sameName};
-ghost use Rattle.rules.specs.Rules.{miscounted};
-ghost use Rattle.rules.specs.Answers.{event, place, leastWith, storedHeads};
-use rules::broken::Broken;
-use rules::broken::lesser;
-use rules::heads::Found;
-use rules::heads::arity_of;
-use rules::item::Item;
-use rules::item::item_at;
+ghost use Rattle.text_rules.specs.Scan.{on, least};
+ghost use Rattle.text_rules.specs.Spelling.{sameName};
+ghost use Rattle.text_rules.specs.Rules.{miscounted};
+ghost use Rattle.text_rules.specs.Answers.{event, place, leastWith, storedHeads};
+use text_rules::broken::Broken;
+use text_rules::broken::lesser;
+use text_rules::heads::Found;
+use text_rules::heads::arity_of;
+use text_rules::item::Item;
+use text_rules::item::item_at;
 
 // What breaks the rule at one event, with what was found before.
 fn miscount(

@@ -3,14 +3,14 @@ ghost use mathlib.Core.Path.{_≡_};
 ghost use Prim.Native.Nat.{_+_, _*_, _≤_};
 ghost use lib.ListN.{length};
 ghost use Rattle.events.specs.Stored.{stored};
-ghost use Rattle.rules.specs.Scan.{least};
-ghost use Rattle.rules.specs.Rules.{counted, over, tooMany};
-ghost use Rattle.rules.specs.Answers.{event, place, leastWith};
+ghost use Rattle.text_rules.specs.Scan.{least};
+ghost use Rattle.text_rules.specs.Rules.{counted, over, tooMany};
+ghost use Rattle.text_rules.specs.Answers.{event, place, leastWith};
 ghost use Rattle.breaches.specs.Answers.{tallied, Room};
-use rules::broken::Broken;
-use rules::broken::lesser;
-use rules::item::Item;
-use rules::item::item_at;
+use text_rules::broken::Broken;
+use text_rules::broken::lesser;
+use text_rules::item::Item;
+use text_rules::item::item_at;
 
 // How many functions so far, and of the present one how many parameters, and declarations with the parameters.
 pub struct Tally {

@@ -3,15 +3,15 @@ ghost use mathlib.Core.Path.{_≡_};
 ghost use mathlib.Core.List.{[], _∷_};
 ghost use Prim.Native.Nat.{_*_, _≤_};
 ghost use lib.ListN.{length};
-ghost use Rattle.rules.specs.Scan.{least};
-ghost use Rattle.rules.specs.Spelling.{isMain};
-ghost use Rattle.rules.specs.Rules.{mains, withParameters, badMain};
-ghost use Rattle.rules.specs.Answers.{place, leastWith, storedHeads, head};
-use rules::broken::Broken;
-use rules::broken::lesser;
-use rules::mains::main_number;
-use rules::spelling::is_main;
-use rules::spelling::word;
+ghost use Rattle.text_rules.specs.Scan.{least};
+ghost use Rattle.text_rules.specs.Spelling.{isMain};
+ghost use Rattle.text_rules.specs.Rules.{mains, withParameters, badMain};
+ghost use Rattle.text_rules.specs.Answers.{place, leastWith, storedHeads, head};
+use text_rules::broken::Broken;
+use text_rules::broken::lesser;
+use text_rules::mains::main_number;
+use text_rules::spelling::is_main;
+use text_rules::spelling::word;
 
 // What breaks the rule at one function, with what was found before.
 fn main_with(

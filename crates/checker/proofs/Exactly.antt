@@ -17,10 +17,10 @@ use Rattle.grammar.specs.Text as G
 use Rattle.grammar.specs.Text.{Tokens}
 use Rattle.grammar.proofs.Grammar as Q
 use Rattle.events.specs.Event.{Event, events}
-use Rattle.rules.specs.Scan.{least, lesser}
-use Rattle.rules.specs.Spelling.{sameName, isMain}
-use Rattle.rules.specs.Rules.{tooDeep, miscalls, mainless, openEnds, tooMany}
-use Rattle.rules.specs.Names.{badNames}
+use Rattle.text_rules.specs.Scan.{least, lesser}
+use Rattle.text_rules.specs.Spelling.{sameName, isMain}
+use Rattle.text_rules.specs.Rules.{tooDeep, miscalls, mainless, openEnds, tooMany}
+use Rattle.text_rules.specs.Names.{badNames}
 use Rattle.checker.specs.Check.{Verdict, accepted, refused, Fault, fault, Rule, rule, orElse, rules, firstBroken, verdict, rulesOf, checkedTokens, checked, kinds, places, values}
 use Rattle.checker.specs.Accepted.{Keeps}
 use Rattle.checker.proofs.Analysing.{ends-in}

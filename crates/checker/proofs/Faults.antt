@@ -6,13 +6,13 @@ use mathlib.Core.List.{List}
 use mathlib.Core.Option.{Option, none, some}
 use lib.ListN.{length}
 use Rattle.events.specs.Event.{Event}
-use Rattle.rules.specs.Scan.{least}
-use Rattle.rules.specs.Rules.{heads, tooDeep, miscalls, mainless, openEnds, tooMany}
-use Rattle.rules.specs.Names.{badNames}
-use Rattle.rules.specs.Answers.{storedHeads, place}
-use Rattle.rules.specs.declared.broken.Broken as B
-use Rattle.rules.specs.declared.broken.Broken.the-variants as b
-use Rattle.meanings.specs.Steps.{Named}
+use Rattle.text_rules.specs.Scan.{least}
+use Rattle.text_rules.specs.Rules.{heads, tooDeep, miscalls, mainless, openEnds, tooMany}
+use Rattle.text_rules.specs.Names.{badNames}
+use Rattle.text_rules.specs.Answers.{storedHeads, place}
+use Rattle.text_rules.specs.declared.broken.Broken as B
+use Rattle.text_rules.specs.declared.broken.Broken.the-variants as b
+use Rattle.names.specs.Steps.{Named}
 use Rattle.checker.specs.Check.{Fault, fault, orElse, rules, firstBroken}
 use Rattle.checker.specs.Judge.{faultOf, Known, unless, chosen, Ruled, Judges}
 use Rattle.checker.specs.declared.Judged.{Judged}

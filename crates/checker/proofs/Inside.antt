@@ -17,9 +17,9 @@ use Rattle.events.proofs.Widths.{onto-length}
 use Rattle.events.proofs.Tokens.{Within, Each, numbered-below, events-within}
 use Rattle.events.proofs.Tokens as W
 use Rattle.semantics.specs.Demand.{_∈_}
-use Rattle.rules.specs.Scan.{scan, on, when}
-use Rattle.rules.specs.Rules.{Head, heads, deep, wrong, arityOf, miscounted, mains, withParameters, badMain, unended, Tally, tally, counted, over, functionOf}
-use Rattle.rules.specs.Names.{Scope, nowhere as outside, entered, sought, misnamed, unlessFound, ifFound, uncalled, repeated, badNames}
+use Rattle.text_rules.specs.Scan.{scan, on, when}
+use Rattle.text_rules.specs.Rules.{Head, heads, deep, wrong, arityOf, miscounted, mains, withParameters, badMain, unended, Tally, tally, counted, over, functionOf}
+use Rattle.text_rules.specs.Names.{Scope, nowhere as outside, entered, sought, misnamed, unlessFound, ifFound, uncalled, repeated, badNames}
 use Rattle.checker.specs.Check.{Rule, rules}
 
 -- every number is below m

@@ -12,7 +12,7 @@ use Rattle.syntax.specs.Table.{Holds}
 use Rattle.events.specs.Event as E
 use Rattle.events.specs.Stored.{stored}
 use Rattle.events.specs.Walk.{Ready, Walked}
-use Rattle.rules.specs.Spelling.{sameName, isMain}
+use Rattle.text_rules.specs.Spelling.{sameName, isMain}
 use Rattle.checker.specs.Check.{Verdict, Fault, fault, verdict, rulesOf, firstBroken}
 use Rattle.checker.specs.Judge.{faultOf, Judges}
 use Rattle.checker.specs.Judge as J

@@ -18,8 +18,8 @@ use Rattle.grammar.specs.Parse.{Res, parsed, ok, bad}
 use Rattle.grammar.specs.Text as G
 use Rattle.grammar.proofs.Grammar as Q
 use Rattle.events.specs.Event.{events}
-use Rattle.rules.specs.Scan.{least, lesser}
-use Rattle.rules.specs.Spelling.{sameName, isMain}
+use Rattle.text_rules.specs.Scan.{least, lesser}
+use Rattle.text_rules.specs.Spelling.{sameName, isMain}
 use Rattle.semantics.specs.Demand.{_∈_}
 use Rattle.checker.specs.Check.{Verdict, accepted, refused, Fault, Rule, orElse, firstBroken, verdict, rulesOf, checkedTokens, checked, kinds, places, values}
 use Rattle.checker.specs.Refusal.{Breaks, Refusal, too-long, no-token, too-large, no-program, breaks-rule}

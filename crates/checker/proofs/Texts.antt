@@ -7,10 +7,10 @@ use Rattle.lexer.specs.Lex.{bytes, lexed, noneLarge, scan, front, valueOf, deci
 use Rattle.syntax.specs.Abstract.{ast}
 use Rattle.grammar.specs.Parse.{readText, moreProg, readFun, readParams, moreParams, readStmt, readDecl, readBlock, readEnded, readFail, readGuard, readNamed, readIf, readWhile, moreBody, readCond, moreCond, readConj, moreConj, readAtom, readCmp, readSum, moreSum, readTerm, moreTerm, readOperand, readBracket, readCall, readArgs, moreArgs}
 use Rattle.events.specs.Event.{events, eventsAt, stops, count, first}
-use Rattle.rules.specs.Scan as R
-use Rattle.rules.specs.Scan.{on, least, lesser}
-use Rattle.rules.specs.Rules.{deep, parameters, heads, functionOf, arityOf, wrong, miscounted, mains, withParameters, badMain, unended, counted, over}
-use Rattle.rules.specs.Names.{declared, outer, entered, inBlock, sought, misnamed, uncalled, repeated}
+use Rattle.text_rules.specs.Scan as R
+use Rattle.text_rules.specs.Scan.{on, least, lesser}
+use Rattle.text_rules.specs.Rules.{deep, parameters, heads, functionOf, arityOf, wrong, miscounted, mains, withParameters, badMain, unended, counted, over}
+use Rattle.text_rules.specs.Names.{declared, outer, entered, inBlock, sought, misnamed, uncalled, repeated}
 use Rattle.checker.specs.Check.{Verdict, accepted, refused, rules, firstBroken, checkedTokens, checked}
 
 pub record Case : Type 0 where

@@ -9,9 +9,9 @@ use Rattle.syntax.specs.Tree.{Tree, prog}
 use Rattle.syntax.specs.Abstract.{ast}
 use Rattle.grammar.specs.Text as G
 use Rattle.events.specs.Event.{events}
-use Rattle.rules.specs.Spelling.{sameName, isMain}
-use Rattle.rules.specs.Rules.{tooDeep, miscalls, mainless, openEnds, tooMany}
-use Rattle.rules.specs.Names.{badNames}
+use Rattle.text_rules.specs.Spelling.{sameName, isMain}
+use Rattle.text_rules.specs.Rules.{tooDeep, miscalls, mainless, openEnds, tooMany}
+use Rattle.text_rules.specs.Names.{badNames}
 use Rattle.checker.specs.Check.{kinds, places, values}
 
 -- "a text is accepted exactly if it keeps the grammar and every other rule": it has tokens, they are the tokens of a tree, and nothing in the tree breaks a rule

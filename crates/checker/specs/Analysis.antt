@@ -15,10 +15,10 @@ use Rattle.grammar.specs.Parse.{parsed, ok}
 use Rattle.grammar.specs.Text.{Tokens}
 use Rattle.events.specs.Event as E
 use Rattle.events.specs.Stored.{stored}
-use Rattle.rules.specs.Spelling.{sameName}
-use Rattle.rules.specs.Rules as R
-use Rattle.rules.specs.Names.{meanings, meant}
-use Rattle.rules.specs.Answers.{storedHeads}
+use Rattle.text_rules.specs.Spelling.{sameName}
+use Rattle.text_rules.specs.Rules as R
+use Rattle.text_rules.specs.Names.{meanings, meant}
+use Rattle.text_rules.specs.Answers.{storedHeads}
 use Rattle.checker.specs.Check.{Verdict, accepted, refused, firstBroken, verdict, rulesOf}
 use Rattle.checker.specs.declared.Judged.{Judged}
 use Rattle.checker.specs.declared.Judged.the-variants.{Broken, Kept}

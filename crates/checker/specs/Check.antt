@@ -12,11 +12,11 @@ use Rattle.syntax.specs.Ast as A
 use Rattle.syntax.specs.Abstract.{ast}
 use Rattle.grammar.specs.Parse.{parsed, ok, bad}
 use Rattle.events.specs.Event.{Event, events}
-use Rattle.rules.specs.Scan.{least}
-use Rattle.rules.specs.Spelling.{sameName, isMain}
-use Rattle.rules.specs.Rules.{Head, heads, tooDeep, miscalls, mainless, openEnds, tooMany}
-use Rattle.rules.specs.Names.{badNames, meanings, meant}
-use Rattle.rules.specs.Resolve.{resolved}
+use Rattle.text_rules.specs.Scan.{least}
+use Rattle.text_rules.specs.Spelling.{sameName, isMain}
+use Rattle.text_rules.specs.Rules.{Head, heads, tooDeep, miscalls, mainless, openEnds, tooMany}
+use Rattle.text_rules.specs.Names.{badNames, meanings, meant}
+use Rattle.text_rules.specs.Resolve.{resolved}
 use Rattle.semantics.specs.Program.{Program}
 
 -- "It answers accepted, or number and place, a byte offset from 0."

@@ -6,12 +6,12 @@ use mathlib.Core.List.{List}
 use mathlib.Core.Option.{Option, none, some}
 use lib.ListN.{length, getD}
 use Rattle.events.specs.Event.{Event}
-use Rattle.rules.specs.Scan.{on, least}
-use Rattle.rules.specs.Rules.{Head, heads, tooDeep, miscounted, badMain, mains, openEnds, tooMany}
-use Rattle.rules.specs.Names.{meanings, meant}
-use Rattle.rules.specs.Answers.{storedHeads, place}
-use Rattle.rules.specs.declared.broken.Broken as B
-use Rattle.rules.specs.declared.broken.Broken.the-variants as b
+use Rattle.text_rules.specs.Scan.{on, least}
+use Rattle.text_rules.specs.Rules.{Head, heads, tooDeep, miscounted, badMain, mains, openEnds, tooMany}
+use Rattle.text_rules.specs.Names.{meanings, meant}
+use Rattle.text_rules.specs.Answers.{storedHeads, place}
+use Rattle.text_rules.specs.declared.broken.Broken as B
+use Rattle.text_rules.specs.declared.broken.Broken.the-variants as b
 use Rattle.checker.specs.Check.{Fault, fault, rules, firstBroken}
 use Rattle.checker.specs.declared.Judged.{Judged}
 use Rattle.checker.specs.declared.Judged.the-variants.{Broken, Kept}

@@ -3,15 +3,15 @@ ghost use mathlib.Core.Path.{_≡_};
 ghost use Prim.Native.Nat.{_*_, _≤_, _<_};
 ghost use lib.ListN.{length};
 ghost use Rattle.events.specs.Stored.{stored};
-ghost use Rattle.rules.specs.Spelling.{sameName, isMain};
-ghost use Rattle.rules.specs.Answers.{storedHeads};
+ghost use Rattle.text_rules.specs.Spelling.{sameName, isMain};
+ghost use Rattle.text_rules.specs.Answers.{storedHeads};
 ghost use Rattle.events.specs.Walk.{Ready};
 ghost use Rattle.checker.specs.Judge.{unless, chosen, Ruled, Judges};
 ghost use Rattle.checker.specs.Check.{checkedTokens, checked};
 ghost use Rattle.checker.specs.Analysis.{concluded, Inspected, Lent, Settles, Slices, Analyses, verdictOf};
 use grammar::Parsed;
 use lexer::Lexed;
-use rules::broken::Broken;
+use text_rules::broken::Broken;
 
 // What the rules 5 to 10 say of a text: the number of a broken one with the first token that breaks it, or how many functions there are.
 pub enum Judged {
@@ -87,8 +87,8 @@ fn judge(
     requires { ⌜ (3 * n ≤ length (now events)) × (2 * n ≤ length (now heads)) × (3 * n ≤ length (now scope)) × (n < 4294967296) ⌝ }
     ensures { λ r. ⌜ Judges (sameName (now (text .entry)) (now (places .entry)) (now (values .entry))) (isMain (now (text .entry)) (now (places .entry)) (now (values .entry))) end (stored (now (events .entry)) n) (now (slots .entry)) (now (slots .exit)) (now (heads .exit)) r ⌝ }
 {
-    let h = rules::heads::collect_heads(events, n, heads);
-    let misnamed = meanings::names::names(text, places, values, events, n, heads, h, scope, slots);
+    let h = text_rules::heads::collect_heads(events, n, heads);
+    let misnamed = names::resolve(text, places, values, events, n, heads, h, scope, slots);
     rule_all(text, places, values, events, n, end, heads, h, misnamed)
 }
 
@@ -114,7 +114,7 @@ fn conclude(places: &[u32], judged: Judged, tokens: usize, root: usize, events: 
     ensures { λ r. ⌜ r ≡ concluded (now (places .entry)) tokens root events judged ⌝ }
 {
     match judged {
-        Judged::Broken(number, i) => Analysed::Refused(number, rules::spelling::word(places, i)),
+        Judged::Broken(number, i) => Analysed::Refused(number, text_rules::spelling::word(places, i)),
         Judged::Kept(functions) => Analysed::Fine {
             tokens,
             root,
@@ -161,7 +161,7 @@ fn settle(
     ensures { λ r. ⌜ Settles (now (text .entry)) (now (kinds .entry)) (now (places .entry)) (now (values .entry)) (now (nodes .exit)) (now (items .exit)) (now (heads .exit)) (now (slots .entry)) (now (slots .exit)) r (checkedTokens (now (text .entry)) (now (kinds .entry)) (now (places .entry)) (now (values .entry))) ⌝ }
 {
     match grammar::parse(kinds, nodes) {
-        Parsed::Bad(m) => Analysed::Refused(4, rules::spelling::word(places, m)),
+        Parsed::Bad(m) => Analysed::Refused(4, text_rules::spelling::word(places, m)),
         Parsed::Tree { root, count: _ } => {
             inspect(
                 text,

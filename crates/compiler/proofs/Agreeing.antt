@@ -9,7 +9,7 @@ use Rattle.syntax.specs.Ast as A
 use Rattle.semantics.specs.Int.{add, sub, mul}
 use Rattle.semantics.specs.Program as P
 use Rattle.semantics.specs.Program.{Expr, Exprs, Cond, Stmt, Stmts, slot}
-use Rattle.rules.specs.Resolve.{Part, part, comparison}
+use Rattle.text_rules.specs.Resolve.{Part, part, comparison}
 use Rattle.compiler.specs.Sound.{Sound}
 use Rattle.compiler.proofs.Lengths.{Within}
 

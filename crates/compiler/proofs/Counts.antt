@@ -8,9 +8,9 @@ use borrow.Author.Tests.{leb-false}
 use lib.ListN.{length}
 use lib.Dec.{leb}
 use Rattle.events.specs.Event.{Event, function, parameter, thing, opens, closes, declares, uses, calls, ends}
-use Rattle.rules.specs.Scan.{scan, when}
-use Rattle.rules.specs.Rules.{Head, heads, parameters, Tally, tally, counted, over, tooMany, mains, badMain}
-use Rattle.rules.specs.Resolve.{mainOf}
+use Rattle.text_rules.specs.Scan.{scan, when}
+use Rattle.text_rules.specs.Rules.{Head, heads, parameters, Tally, tally, counted, over, tooMany, mains, badMain}
+use Rattle.text_rules.specs.Resolve.{mainOf}
 
 -- ---- lists that are empty
 

@@ -13,9 +13,9 @@ use Rattle.syntax.specs.Ast as A
 use Rattle.syntax.specs.Abstract.{ast}
 use Rattle.syntax.specs.Table.{Holds}
 use Rattle.events.specs.Event.{Event, function, parameter, thing, opens, closes, declares, uses, calls, ends, stops, closing, first, eventsAt, events}
-use Rattle.rules.specs.Rules.{heads, miscalls, mainless, tooMany}
-use Rattle.rules.specs.Names.{badNames, meant, meanings}
-use Rattle.rules.specs.Resolve.{part, mainOf, resolved}
+use Rattle.text_rules.specs.Rules.{heads, miscalls, mainless, tooMany}
+use Rattle.text_rules.specs.Names.{badNames, meant, meanings}
+use Rattle.text_rules.specs.Resolve.{part, mainOf, resolved}
 use Rattle.semantics.specs.Program.{Stmts}
 use Rattle.simulation.specs.Code.{codeOf}
 use Rattle.simulation.specs.Words.{codeIn, Fits}

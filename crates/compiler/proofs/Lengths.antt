@@ -11,7 +11,7 @@ use Rattle.syntax.specs.Ast as A
 use Rattle.syntax.specs.Abstract.{ast, sortOf}
 use Rattle.events.proofs.Widths.{onto-length}
 use Rattle.semantics.specs.Program.{Exprs, Stmts}
-use Rattle.rules.specs.Resolve.{Part, part}
+use Rattle.text_rules.specs.Resolve.{Part, part}
 use Rattle.simulation.proofs.Size.{tokensE, tokensEs, tokensC, tokensS, tokensSs, tokensBs, code-size}
 use Rattle.simulation.specs.Code.{codeOf}
 use lib.ListN.{length}

@@ -9,9 +9,9 @@ use borrow.Author.Tests.{eq-eqb, eqb-true, leb-false}
 use lib.ListN.{length}
 use lib.Dec.{eqb, leb}
 use Rattle.events.specs.Event.{Event, function, parameter, thing, opens, closes, declares, uses, calls, ends}
-use Rattle.rules.specs.Scan.{scan, on, when}
-use Rattle.rules.specs.Rules.{Head, heads, parameters, functionOf, arityOf, wrong, miscounted, miscalls, Tally, tally, counted, over, tooMany}
-use Rattle.rules.specs.Names.{Declared, Scope, declared, outer, entered, nowhere, Meaning, meaning, asFound, meant, inBlock, sought, unlessFound, misnamed, badVariables, uncalled, badNames, named, meanings}
+use Rattle.text_rules.specs.Scan.{scan, on, when}
+use Rattle.text_rules.specs.Rules.{Head, heads, parameters, functionOf, arityOf, wrong, miscounted, miscalls, Tally, tally, counted, over, tooMany}
+use Rattle.text_rules.specs.Names.{Declared, Scope, declared, outer, entered, nowhere, Meaning, meaning, asFound, meant, inBlock, sought, unlessFound, misnamed, badVariables, uncalled, badNames, named, meanings}
 use Rattle.compiler.proofs.Counts.{nil-left, nil-right, not-when, or-right, few-functions, Modest, heads-modest}
 
 -- ---- what a token means at the end

@@ -18,7 +18,7 @@ use Rattle.syntax.specs.Table.{At, Holds, cmpNumber, nNumber, nNegative, nName,
 use Rattle.events.specs.Event.{count}
 use Rattle.events.specs.Visit.{level}
 use Rattle.events.proofs.Nodes.{at-kind, moved, two-of}
-use Rattle.rules.specs.Resolve.{part, comparison}
+use Rattle.text_rules.specs.Resolve.{part, comparison}
 use Rattle.simulation.specs.Code.{Entry, number, name, operate, compare, call, constant, jump, leaf, argument, act, codeE, codeC}
 use Rattle.simulation.specs.Code as Code
 use Rattle.simulation.specs.Words.{kindOf, wordOf}

@@ -11,7 +11,7 @@ use Rattle.semantics.specs.Program.{Exprs, Stmts}
 use Rattle.simulation.specs.Code.{Entry, argument, codeE, codeEs, codeS, codeSs, codeB, entriesOf, startsOf}
 use Rattle.simulation.specs.Code as Code
 use Rattle.events.specs.Event.{count}
-use Rattle.rules.specs.Resolve.{part}
+use Rattle.text_rules.specs.Resolve.{part}
 
 -- how many functions
 unfoldable pub funs : Ast prog → ℕ

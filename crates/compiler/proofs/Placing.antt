@@ -17,7 +17,7 @@ use Rattle.semantics.specs.Does.{frame}
 use Rattle.syntax.specs.Ast.{Sort, Ast, prog}
 use Rattle.syntax.specs.Ast as A
 use Rattle.syntax.specs.Table.{Holds}
-use Rattle.rules.specs.Resolve.{Part, part}
+use Rattle.text_rules.specs.Resolve.{Part, part}
 use Rattle.simulation.specs.Code.{codeOf}
 use Rattle.simulation.specs.Words.{codeIn, wordsOf, wordsIn, FitsE, FitsEs, FitsC, FitsS, FitsSs, FitsBs, Fits}
 use Rattle.simulation.specs.Placed.{Placed}

@@ -13,7 +13,7 @@ use Rattle.syntax.specs.Ast.{Ast, prog, fun, body, moreFuns}
 use Rattle.syntax.specs.Table.{At, Holds, nMoreFuns, at-function, at-no-funs, at-more-funs}
 use Rattle.semantics.specs.Does.{frame}
 use Rattle.events.proofs.Nodes.{at-kind, moved}
-use Rattle.rules.specs.Resolve.{part}
+use Rattle.text_rules.specs.Resolve.{part}
 use Rattle.simulation.specs.Code.{fail, act, codeB, startsOf}
 use Rattle.compiler.specs.Coded.{word, coded}
 use Rattle.compiler.specs.Sound.{Sound}

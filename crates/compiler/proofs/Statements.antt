@@ -12,7 +12,7 @@ use Rattle.syntax.specs.Ast.{Sort, Ast, expr, cond, stmt, stmts, body}
 use Rattle.syntax.specs.Table.{At, Holds, nEmpty, nDeclare, nDeclareFree, nAssign, nEval, nBlock, nIfElse, nWhile, nReturn, nFail, nMoreStmts, nBraced, at-number, at-negative, at-name, at-call, at-bracket, at-times, at-plus, at-minus, at-no-args, at-more-args, at-always, at-never, at-compare, at-both, at-either, at-empty, at-declare, at-declare-free, at-assign, at-eval, at-block, at-if-else, at-while, at-return, at-fail, at-no-stmts, at-more-stmts, at-braced, at-no-params, at-more-params, at-function, at-no-funs, at-more-funs}
 use Rattle.events.specs.Visit.{level}
 use Rattle.events.proofs.Nodes.{at-kind, moved}
-use Rattle.rules.specs.Resolve.{part}
+use Rattle.text_rules.specs.Resolve.{part}
 use Rattle.simulation.specs.Code.{Entry, jump, skip, again, begin, clear, ask, store, return, fail, act, codeS}
 use Rattle.compiler.specs.Coded.{coded}
 use Rattle.compiler.specs.Sound.{Sound}

@@ -7,7 +7,7 @@ use lib.ListN.{length, replicate}
 use lib.Seq.{sets}
 use Rattle.semantics.specs.Program.{Program}
 use Rattle.semantics.specs.Does.{frame}
-use Rattle.rules.specs.Resolve.{part}
+use Rattle.text_rules.specs.Resolve.{part}
 use Rattle.simulation.specs.Code.{Entry, call, return, fail, act, entriesOf, startsOf, codeOf}
 use Rattle.simulation.specs.Words.{kindOf, wordOf, wordsOf, wordsIn}
 use Rattle.simulation.proofs.Words.{length-words}

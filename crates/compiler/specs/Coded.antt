@@ -7,7 +7,7 @@ use Rattle.syntax.specs.Ast as A
 use Rattle.semantics.specs.Program.{Program}
 use Rattle.semantics.specs.Program as P
 use Rattle.simulation.specs.Code.{Entry, codeE, codeEs, codeC, codeS, codeSs, codeB, entriesOf}
-use Rattle.rules.specs.Resolve.{Part, part}
+use Rattle.text_rules.specs.Resolve.{Part, part}
 
 -- of arguments, statements and functions: nothing follows them
 abbrev pub codeAs : (s : Sort) → Part s → List Entry

@@ -7,7 +7,7 @@ use lib.Seq.{sets}
 use Rattle.syntax.specs.Ast.{Ast, prog}
 use Rattle.syntax.specs.Table.{Holds}
 use Rattle.events.specs.Walk.{Rooted}
-use Rattle.rules.specs.Resolve.{part}
+use Rattle.text_rules.specs.Resolve.{part}
 use Rattle.simulation.specs.Code.{codeOf}
 use Rattle.simulation.specs.Words.{wordsIn}
 use Rattle.compiler.specs.Coded.{word, program}

@@ -10,7 +10,7 @@ use Rattle.syntax.specs.Ast.{Sort, Ast, prog}
 use Rattle.syntax.specs.Table.{Holds}
 use Rattle.events.specs.Walk.{Rooted}
 use Rattle.events.specs.Visit.{level}
-use Rattle.rules.specs.Resolve.{part}
+use Rattle.text_rules.specs.Resolve.{part}
 use Rattle.simulation.specs.Code.{Entry, entriesOf, startsOf}
 use Rattle.simulation.specs.Words.{wordsOf}
 use Rattle.compiler.specs.Coded.{word, coded}

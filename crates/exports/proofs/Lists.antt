@@ -8,10 +8,10 @@ use lib.ListN.{length}
 use lib.Dec.{ltb}
 use lib.IntN.{ℤ}
 use borrow.Author.Tests.{lt-ltb, le-ltb}
-use Rattle.search.specs.List.{Answer, refused, listed, Left, list}
-use Rattle.search.specs.Parts.{answerOf, leaves}
-use Rattle.search.specs.declared.Listed.{Listed}
-use Rattle.search.proofs.Bounds.{Small, small-answer}
+use Rattle.list.specs.List.{Answer, refused, listed, Left, list}
+use Rattle.list.specs.Parts.{answerOf, leaves}
+use Rattle.list.specs.declared.Listed.{Listed}
+use Rattle.list.proofs.Bounds.{Small, small-answer}
 use Rattle.exports.specs.Answers.{Fits, listWords, Out, out, outWith, listOut}
 
 fits-small : (budget : ℕ) (a : Answer) → budget < 4294967296 → Small budget a → Fits a

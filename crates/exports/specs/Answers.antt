@@ -7,8 +7,8 @@ use lib.ListN.{length, set}
 use lib.Dec.{ltb}
 use lib.IntN.{ℤ}
 use Rattle.semantics.specs.Search.{Close, whole, cuts, full, spent}
-use Rattle.search.specs.List as S
-use Rattle.search.specs.List.{list}
+use Rattle.list.specs.List as S
+use Rattle.list.specs.List.{list}
 use Rattle.checker.specs.Check.{Verdict, accepted, refused}
 use Rattle.remarks.specs.Remarks.{Answers, verdict}
 use Rattle.remarks.specs.declared.Answer.{Answer}

@@ -3,10 +3,10 @@ ghost use mathlib.Core.Path.{_≡_};
 ghost use Rattle.checker.specs.Check.{checked};
 ghost use Prim.Native.Nat.{_≤_};
 ghost use lib.ListN.{length};
-ghost use Rattle.search.specs.Parts.{answerOf};
+ghost use Rattle.list.specs.Parts.{answerOf};
 ghost use Rattle.exports.specs.Answers.{checkWords, Remarks, Fits, fiveWords, listWords, out, listOut};
 use checker::Checked;
-use search::Listed;
+use list::Listed;
 
 // Check: answer[0] is 0 if the text is accepted, else the number of the refusal; answer[1] is the place, 0 if accepted.
 // An answer of fewer than two words is left as it is.
@@ -97,6 +97,6 @@ pub extern "C" fn plans_list(
     if answer.len() < 5 {
         return;
     }
-    let listed = search::list(text, low, high, steps, skip, budget, rows, scratch);
+    let listed = list::list(text, low, high, steps, skip, budget, rows, scratch);
     put_listed(answer, listed);
 }

@@ -9,7 +9,7 @@ use mir.Syntax.{w32}
 use mir.Val.{toZ}
 use Rattle.semantics.specs.Search.{to}
 use Rattle.intervals.specs.Meaning.{ofPairs}
-use Rattle.pairs.specs.Memory.{pairsAt}
+use Rattle.window_memory.specs.Memory.{pairsAt}
 use Rattle.machine.specs.Memory.{windowsIn, settingIn, rangesIn, numbersIn, testAs, testsIn, outcomeAs, outcomesIn}
 use Rattle.machine.specs.Contracts.{Kept}
 

@@ -20,7 +20,7 @@ use Rattle.simulation.specs.Machine.{Caller, Machine, machine}
 use Rattle.simulation.specs.Nodes.{Cell, Known, Open, Node, unknown, operation, meaning, Noted}
 use Rattle.ints.specs.Numbers as numbers
 use Rattle.intervals.specs.Meaning.{ofPairs}
-use Rattle.pairs.specs.Memory.{pairsAt}
+use Rattle.window_memory.specs.Memory.{pairsAt}
 use Rattle.machine.specs.declared.Run.{Run}
 
 -- a value of the program, as the search knows it

@@ -23,11 +23,11 @@ use Rattle.simulation.proofs.Nodes.{range-ok, adding-ok}
 use Rattle.ints.specs.Numbers as numbers
 use Rattle.ints.proofs.Fits.{eq-bits}
 use Rattle.intervals.specs.declared.Window as win
-use Rattle.windows.specs.declared.Side.{Side}
-use Rattle.windows.specs.declared.Side.the-variants.{Free, Other}
+use Rattle.narrowing.specs.declared.Side.{Side}
+use Rattle.narrowing.specs.declared.Side.the-variants.{Free, Other}
 use Rattle.intervals.specs.Meaning.{ofWindow, ofPairs}
-use Rattle.windows.specs.Meaning.{variableOf, Stands}
-use Rattle.pairs.specs.Memory.{pairsAt}
+use Rattle.narrowing.specs.Meaning.{variableOf, Stands}
+use Rattle.window_memory.specs.Memory.{pairsAt}
 use Rattle.machine.specs.Memory.{cellAs, nodeBy, nodeAt, nodesIn, windowsIn, rangesIn, testAs, outcomeAs, outcomesIn}
 use Rattle.machine.specs.Contracts.{cellOf, meant, Room}
 use Rattle.machine.specs.declared.Value as code

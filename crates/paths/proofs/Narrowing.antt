@@ -21,14 +21,14 @@ use Rattle.semantics.proofs.Filled.{never-empty}
 use Rattle.simulation.specs.Nodes.{ranges, rangeIn}
 use Rattle.simulation.proofs.Nodes.{range-ok}
 use Rattle.intervals.specs.declared.Window as win
-use Rattle.windows.specs.declared.Side.{Side}
+use Rattle.narrowing.specs.declared.Side.{Side}
 use Rattle.intervals.specs.Meaning.{ofWindow, ofPair, ofPairs}
-use Rattle.windows.specs.Meaning.{Placed, rangeOf, variableOf, narrowedBy, Stands}
-use Rattle.pairs.specs.Memory.{pairsAt, putPairs}
+use Rattle.narrowing.specs.Meaning.{Placed, rangeOf, variableOf, narrowedBy, Stands}
+use Rattle.window_memory.specs.Memory.{pairsAt, putPairs}
 use Rattle.ranges.proofs.Ranges.{filled, ordered}
-use Rattle.windows.proofs.Pairs.{pairs-more}
-use Rattle.windows.proofs.Sides.{stands-range, narrowed-by}
-use Rattle.pairs.proofs.Stored.{Ends, put-below, put-above, put-load}
+use Rattle.narrowing.proofs.Pairs.{pairs-more}
+use Rattle.narrowing.proofs.Sides.{stands-range, narrowed-by}
+use Rattle.window_memory.proofs.Stored.{Ends, put-below, put-above, put-load}
 use Rattle.machine.specs.Memory.{nodeAt, nodesIn, windowsIn, rangesIn}
 use Rattle.machine.specs.Contracts.{cellOf, meant, Other}
 use Rattle.machine.specs.declared.Value as code

@@ -18,7 +18,7 @@ use Rattle.simulation.specs.Nodes.{Cell, Known, Open, Node, cell, node, meaning
 use Rattle.simulation.proofs.Nodes.{range-ok, ranges-last}
 use Rattle.ints.specs.Numbers as numbers
 use Rattle.intervals.specs.Meaning.{ofPair, Filled, ofPairs}
-use Rattle.pairs.specs.Memory.{pairAt, pairsAt}
+use Rattle.window_memory.specs.Memory.{pairAt, pairsAt}
 use Rattle.ranges.proofs.Ranges.{filled, ordered}
 use Rattle.machine.specs.Memory.{cellAs, nodeBy, nodeAt, nodesIn, windowsIn, rangesIn}
 use Rattle.machine.specs.Contracts.{Room}

@@ -14,7 +14,7 @@ ghost use Rattle.simulation.specs.Nodes as nodes;
 ghost use Rattle.simulation.specs.Nodes.{rangeIn, Within};
 ghost use Rattle.ints.specs.Numbers.{comparison};
 ghost use Rattle.intervals.specs.Meaning.{Filled, ofWindow};
-ghost use Rattle.windows.specs.Meaning.{variableOf, Stands};
+ghost use Rattle.narrowing.specs.Meaning.{variableOf, Stands};
 ghost use Rattle.machine.specs.Memory.{Sym, cellAs, nodeAt, windowsIn, rangesIn, outcomesIn, machineAt};
 ghost use Rattle.machine.specs.Contracts.{cellOf, Sized, meant, Room, Ready, flagged};
 ghost use Rattle.paths.specs.Table.{rangeAt, Ranging, Ranged, Windows, Anew};
@@ -27,7 +27,7 @@ use machine::Did;
 use machine::Run;
 use machine::Value;
 use ranges::Decided;
-use windows::Side;
+use narrowing::Side;
 
 // Where a path stands, beside the memory: the machine's run, the steps that may still be made, how many windows and choices there are, and how many forced outcomes are still to come.
 pub struct Point {
@@ -152,8 +152,8 @@ fn reach(mem: &mut [u32], job: Window, k: usize)
     requires { ⌜ (k < 8) × (1200 ≤ length (now mem)) ⌝ }
     ensures { λ _. ⌜ Reached (now (mem .entry)) (now (mem .exit)) (ofWindow job) k ⌝ }
 {
-    let ws = pairs::load(mem, 1120);
-    pairs::put(mem, 1120, windows::with_pair(ws, k, [job.low, job.high]));
+    let ws = window_memory::load(mem, 1120);
+    window_memory::put(mem, 1120, narrowing::with_pair(ws, k, [job.low, job.high]));
 }
 
 // A side of a comparison, in k windows with n nodes.
@@ -236,8 +236,8 @@ fn narrow(mem: &mut [u32], k: usize, n: usize, c: u32, v: Value, w: Value)
             return;
         }
     }
-    let ws = pairs::load(mem, 1120);
-    pairs::put(mem, 1120, windows::narrowed(ws, c, a, b));
+    let ws = window_memory::load(mem, 1120);
+    window_memory::put(mem, 1120, narrowing::narrowed(ws, c, a, b));
     all_ranges(mem, k, n);
 }
 

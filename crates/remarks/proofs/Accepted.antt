@@ -14,12 +14,12 @@ use borrow.Author.Tests.{leb-false}
 use Rattle.events.specs.Event.{Event, function, parameter, thing, opens, closes, declares, uses, calls, ends}
 use Rattle.events.proofs.Tokens.{Within, Each}
 use Rattle.events.proofs.Tokens as W
-use Rattle.rules.specs.Scan.{scan, when, on}
-use Rattle.rules.specs.Rules.{Head, heads, functionOf, mains, badMain, Tally, tally, counted, over, tooMany}
-use Rattle.rules.specs.Names.{ifFound, repeated, badVariables, badFunctions, badNames, uncalled}
-use Rattle.rules.specs.Resolve.{mainOf}
-use Rattle.rules.specs.Answers.{headsFrom, storedHeads}
-use Rattle.rules.proofs.Functions.{bad-none}
+use Rattle.text_rules.specs.Scan.{scan, when, on}
+use Rattle.text_rules.specs.Rules.{Head, heads, functionOf, mains, badMain, Tally, tally, counted, over, tooMany}
+use Rattle.text_rules.specs.Names.{ifFound, repeated, badVariables, badFunctions, badNames, uncalled}
+use Rattle.text_rules.specs.Resolve.{mainOf}
+use Rattle.text_rules.specs.Answers.{headsFrom, storedHeads}
+use Rattle.text_rules.proofs.Functions.{bad-none}
 
 nil-left : {A : Type 0} (a b : List A) → a ++ b ≡ [] → a ≡ []
 nil-left [] b e = refl

@@ -21,10 +21,10 @@ use Rattle.events.specs.Walk.{Below}
 use Rattle.events.proofs.Widths.{onto-length}
 use Rattle.events.proofs.Capacity.{program-fits}
 use Rattle.events.proofs.Tokens.{numbered-below, Each, events-within}
-use Rattle.rules.specs.Spelling.{spelled, sameName, isMain}
-use Rattle.rules.specs.Rules as R
-use Rattle.rules.specs.Rules.{Head}
-use Rattle.rules.proofs.Functions.{length-heads}
+use Rattle.text_rules.specs.Spelling.{spelled, sameName, isMain}
+use Rattle.text_rules.specs.Rules as R
+use Rattle.text_rules.specs.Rules.{Head}
+use Rattle.text_rules.proofs.Functions.{length-heads}
 use Rattle.checker.specs.Analysis.{Known}
 use Rattle.checker.proofs.Analysing.{Into, as-long, token-list, few-listed}
 use Rattle.remarks.specs.Steps.{offsetIn, Apart, Fair}

@@ -10,9 +10,9 @@ use Rattle.lexer.specs.Parts.{stored}
 use Rattle.lexer.proofs.Theorems.{stored-kinds, stored-places}
 use Rattle.grammar.specs.Parse.{parsed}
 use Rattle.events.specs.Event.{events}
-use Rattle.rules.specs.Spelling.{sameName, isMain}
-use Rattle.rules.specs.Rules as R
-use Rattle.rules.specs.Resolve.{mainOf}
+use Rattle.text_rules.specs.Spelling.{sameName, isMain}
+use Rattle.text_rules.specs.Rules as R
+use Rattle.text_rules.specs.Resolve.{mainOf}
 use Rattle.checker.specs.Check.{Verdict, accepted, checked, values}
 use Rattle.checker.specs.Analysis.{Known, Analyses}
 use Rattle.checker.specs.Analysis as N

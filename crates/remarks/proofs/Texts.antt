@@ -12,10 +12,10 @@ use Rattle.syntax.specs.Tree.{prog}
 use Rattle.syntax.specs.Abstract.{ast}
 use Rattle.grammar.specs.Parse.{Res, ok, bad, parsed, readText, moreProg, readFun, readParams, moreParams, readStmt, readDecl, readBlock, readEnded, readFail, readGuard, readNamed, readIf, readWhile, moreBody, readCond, moreCond, readConj, moreConj, readAtom, readCmp, readSum, moreSum, readTerm, moreTerm, readOperand, readBracket, readCall, readArgs, moreArgs}
 use Rattle.events.specs.Event.{events, eventsAt, stops, count, first}
-use Rattle.rules.specs.Scan as R
-use Rattle.rules.specs.Rules.{parameters, heads, functionOf}
-use Rattle.rules.specs.Resolve.{mainOf}
-use Rattle.rules.specs.Spelling.{sameName, isMain}
+use Rattle.text_rules.specs.Scan as R
+use Rattle.text_rules.specs.Rules.{parameters, heads, functionOf}
+use Rattle.text_rules.specs.Resolve.{mainOf}
+use Rattle.text_rules.specs.Spelling.{sameName, isMain}
 use Rattle.checker.specs.Check.{kinds, places, values}
 use Rattle.remarks.specs.Remarks.{Call, begun, calledBy, callsOf, Leads, Unreached, nameOffset}
 use Rattle.remarks.specs.Steps.{fresh}

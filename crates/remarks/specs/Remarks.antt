@@ -7,10 +7,10 @@ use mathlib.Core.Option.{Option, none, some}
 use lib.ListN.{length, getD}
 use lib.Dec.{ltb}
 use Rattle.events.specs.Event.{Event, events, function, parameter, thing, opens, closes, declares, uses, calls, ends}
-use Rattle.rules.specs.Scan.{scan}
-use Rattle.rules.specs.Rules.{Head, heads, functionOf}
-use Rattle.rules.specs.Resolve.{mainOf}
-use Rattle.rules.specs.Spelling.{sameName, isMain}
+use Rattle.text_rules.specs.Scan.{scan}
+use Rattle.text_rules.specs.Rules.{Head, heads, functionOf}
+use Rattle.text_rules.specs.Resolve.{mainOf}
+use Rattle.text_rules.specs.Spelling.{sameName, isMain}
 use Rattle.syntax.specs.Tree.{Tree, prog}
 use Rattle.syntax.specs.Abstract.{ast}
 use Rattle.lexer.specs.Lex.{Token, lexed, tokens}

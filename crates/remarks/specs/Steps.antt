@@ -7,10 +7,10 @@ use mathlib.Core.Option.{Option, none, some}
 use lib.ListN.{length, getD}
 use lib.Dec.{eqb}
 use Rattle.events.specs.Stored.{stored}
-use Rattle.rules.specs.Scan.{scan}
-use Rattle.rules.specs.Spelling.{sameName, isMain}
-use Rattle.rules.specs.Resolve.{mainOf}
-use Rattle.rules.specs.Answers.{storedHeads}
+use Rattle.text_rules.specs.Scan.{scan}
+use Rattle.text_rules.specs.Spelling.{sameName, isMain}
+use Rattle.text_rules.specs.Resolve.{mainOf}
+use Rattle.text_rules.specs.Answers.{storedHeads}
 use Rattle.remarks.specs.Remarks.{Call, begun, calledBy, Leads, Unreached, Remarked}
 
 -- a function is marked by a word that is not 0

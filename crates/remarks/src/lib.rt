@@ -4,20 +4,20 @@ ghost use Prim.Native.Nat.{ℕ, _-_, _*_, _≤_, _<_};
 ghost use lib.ListN.{length, getD, set};
 ghost use lib.Dec.{ltb};
 ghost use Rattle.events.specs.Stored.{stored};
-ghost use Rattle.rules.specs.Spelling.{sameName, isMain};
-ghost use Rattle.rules.specs.Resolve.{mainOf};
-ghost use Rattle.rules.specs.Answers.{event, found, storedHeads};
+ghost use Rattle.text_rules.specs.Spelling.{sameName, isMain};
+ghost use Rattle.text_rules.specs.Resolve.{mainOf};
+ghost use Rattle.text_rules.specs.Answers.{event, found, storedHeads};
 ghost use Rattle.checker.specs.Check.{checked};
 ghost use Rattle.checker.specs.Analysis.{Slices};
 ghost use Rattle.remarks.specs.Remarks.{begun, callTo, calledBy, Remarked, Answers, verdict};
 ghost use Rattle.remarks.specs.Steps.{fresh, callsIn, Marks, Unmarked, offsetIn, Apart, Fair, Lists};
 use checker::Analysed;
-use rules::heads::Found;
-use rules::heads::function_of;
-use rules::item::Item;
-use rules::item::item_at;
-use rules::mains::main_number;
-use rules::spelling::word;
+use text_rules::heads::Found;
+use text_rules::heads::function_of;
+use text_rules::item::Item;
+use text_rules::item::item_at;
+use text_rules::mains::main_number;
+use text_rules::spelling::word;
 
 // What remarks answers: a refusal's number and place, or how many functions are written.
 pub enum Answer {

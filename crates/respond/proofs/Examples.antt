@@ -6,18 +6,18 @@ use Rattle.lexer.specs.Lex.{bytes, lexed, noneLarge, scan, front, valueOf, deci
 use Rattle.syntax.specs.Abstract.{ast}
 use Rattle.grammar.specs.Parse.{readText, moreProg, readFun, readParams, moreParams, readStmt, readDecl, readBlock, readEnded, readFail, readGuard, readNamed, readIf, readWhile, moreBody, readCond, moreCond, readConj, moreConj, readAtom, readCmp, readSum, moreSum, readTerm, moreTerm, readOperand, readBracket, readCall, readArgs, moreArgs}
 use Rattle.events.specs.Event.{events, eventsAt, stops, count, first}
-use Rattle.rules.specs.Scan as R
-use Rattle.rules.specs.Scan.{on, least, lesser}
-use Rattle.rules.specs.Rules.{deep, parameters, heads, functionOf, arityOf, wrong, miscounted, mains, withParameters, badMain, unended, counted, over}
-use Rattle.rules.specs.Names.{declared, outer, entered, inBlock, sought, misnamed, uncalled, repeated, named, meant}
-use Rattle.rules.specs.Resolve.{part, mainOf}
+use Rattle.text_rules.specs.Scan as R
+use Rattle.text_rules.specs.Scan.{on, least, lesser}
+use Rattle.text_rules.specs.Rules.{deep, parameters, heads, functionOf, arityOf, wrong, miscounted, mains, withParameters, badMain, unended, counted, over}
+use Rattle.text_rules.specs.Names.{declared, outer, entered, inBlock, sought, misnamed, uncalled, repeated, named, meant}
+use Rattle.text_rules.specs.Resolve.{part, mainOf}
 use Rattle.checker.specs.Check.{rules, firstBroken, checkedTokens, checked, programOf}
 use Rattle.semantics.specs.Int.{arith, exact, wrap, low32, holds, eqZ}
 use Rattle.semantics.specs.Does.{within, does, enter, stmt, loop, cond, expr, frame}
 use Rattle.semantics.specs.Run.{each, numbers, clamp, counting}
 use Rattle.semantics.specs.Search as S
 use Rattle.semantics.specs.Search.{answer, search, openly, settled, moves, paths, probed, tried, settings, meets, narrowed, clipped, clip, decided, always, range, fitted, span, maxZ, minZ, all32, under, work}
-use Rattle.search.specs.List.{program, ground, list}
+use Rattle.list.specs.List.{program, ground, list}
 use Rattle.lines.specs.JobLine.{plain, minus, numberOf, place, jobIn, jobOf}
 use Rattle.lines.specs.Print.{digits, natural, integer, refusal, spaced, rowLine, rowLines, ending, lastLine}
 use Rattle.lines.specs.Written.{rowOf, rowsOf}

@@ -12,10 +12,10 @@ use Rattle.checker.proofs.Small.{Within, low as at-most, checked-low}
 use Rattle.semantics.specs.Run.{Row}
 use Rattle.semantics.specs.Search as Z
 use Rattle.semantics.specs.Search.{byRanges}
-use Rattle.search.specs.List as S
-use Rattle.search.specs.List.{Answer, Left, ground, list, answering}
-use Rattle.search.specs.Promise.{Closes, Keeps}
-use Rattle.search.proofs.Promises.{keeps}
+use Rattle.list.specs.List as S
+use Rattle.list.specs.List.{Answer, Left, ground, list, answering}
+use Rattle.list.specs.Promise.{Closes, Keeps}
+use Rattle.list.proofs.Promises.{keeps}
 use Rattle.lines.specs.declared.Job.{Job}
 use Rattle.lines.specs.declared.JobLine.the-variants.{Bad, Good}
 use Rattle.lines.specs.JobLine.{jobOf}

@@ -14,7 +14,7 @@ use Rattle.semantics.specs.Demand.{RowOf, PlanList}
 use Rattle.semantics.proofs.Keep.{All, anil, acons}
 use Rattle.semantics.proofs.Members.{member-all, run-length}
 use Rattle.settings.specs.Rows.{wordsOf}
-use Rattle.search.specs.Promise.{Closes, atWhole, atCut, atFull, atSpent}
+use Rattle.list.specs.Promise.{Closes, atWhole, atCut, atFull, atSpent}
 use Rattle.lines.specs.Written.{rowOf, rowsOf}
 use Rattle.lines.proofs.Kept as K
 use Rattle.lines.proofs.Kept.{read-back}

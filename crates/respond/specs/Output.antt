@@ -12,7 +12,7 @@ use Rattle.lines.specs.declared.JobLine.the-variants.{Bad, Good}
 use Rattle.lines.specs.JobLine.{jobOf, lineSettled}
 use Rattle.lines.specs.Print.{refusal, rowLines, lastLine}
 use Rattle.lines.specs.Written.{rowsOf}
-use Rattle.search.specs.List.{Answer, refused, listed, Left, ground, list}
+use Rattle.list.specs.List.{Answer, refused, listed, Left, ground, list}
 
 -- "a line `job LOW HIGH STEPS` ended by LF .., then the text"
 abbrev pub textOf : List ℕ → Job → List ℕ

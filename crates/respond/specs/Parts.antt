@@ -1,6 +1,6 @@
 -- What the printing functions ask of an answer.
 use Prim.Native.Nat.{ℕ, _≤_}
-use Rattle.search.specs.List.{Answer, refused, listed}
+use Rattle.list.specs.List.{Answer, refused, listed}
 
 -- the rows that an answer counts, and the place that it names
 abbrev pub countIn : Answer → ℕ

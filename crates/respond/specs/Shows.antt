@@ -6,8 +6,8 @@ use lib.ListN.{length}
 use Rattle.semantics.specs.Run.{Row}
 use Rattle.semantics.specs.Search.{Close}
 use Rattle.semantics.specs.Demand.{PlanList}
-use Rattle.search.specs.List as S
-use Rattle.search.specs.Promise.{Closes}
+use Rattle.list.specs.List as S
+use Rattle.list.specs.Promise.{Closes}
 use Rattle.lines.specs.declared.Job.{Job}
 use Rattle.lines.specs.Print.{rowLines, lastLine}
 use Rattle.respond.specs.Output.{textOf}

@@ -7,13 +7,13 @@ ghost use lib.Dec.{ltb};
 ghost use lib.ListN.{length};
 ghost use Rattle.lines.specs.Print.{rowLines, lastLine};
 ghost use Rattle.lines.specs.Written.{Put, endingAt, rowsOf};
-ghost use Rattle.search.specs.Parts.{answerOf};
-ghost use Rattle.search.specs.List.{ground};
+ghost use Rattle.list.specs.Parts.{answerOf};
+ghost use Rattle.list.specs.List.{ground};
 ghost use Rattle.respond.specs.Output.{listing, shown, linesOf, output, isSome, enoughInput};
 ghost use Rattle.respond.specs.Parts.{Small};
 use lines::JobLine;
-use search::Ground;
-use search::Listed;
+use list::Ground;
+use list::Listed;
 
 // 1,000 rows of at most 110 bytes each, and a last line of at most 39.
 pub const OUTPUT: usize = 110039;
@@ -48,7 +48,7 @@ fn print_job(out: &mut [u8], text: &[u8], low: i32, high: i32, steps: u32) -> us
 {
     let mut rows = [0i32; 10000];
     let mut scratch = [0u32; 16384];
-    let listed = search::list(text, low, high, steps, 0, 1000000, &mut rows, &mut scratch);
+    let listed = list::list(text, low, high, steps, 0, 1000000, &mut rows, &mut scratch);
     print_listed(out, &rows, listed)
 }
 
@@ -70,7 +70,7 @@ fn is_job_enough(low: i32, high: i32, steps: u32, text: usize, read: usize) -> b
     requires { ⌜ text < 65536 ⌝ }
     ensures { λ r. ⌜ r ≡ (isSome (ground 16384 low high steps) || ltb (text + 2048) read) ⌝ }
 {
-    match search::refusal(low, high, steps, 16384) {
+    match list::refusal(low, high, steps, 16384) {
         Ground::Nothing => text + 2048 < read,
         Ground::Number(_) => true,
     }

@@ -6,7 +6,7 @@ use native.Mathlib.Omega.{arith}
 use lib.ListN.{length, getD, set, length-set}
 use lib.Seq.{getD-set-same, getD-set-other}
 use Rattle.events.specs.Event.{Event, function, parameter, opens, closes, declares}
-use Rattle.rules.specs.Names.{Declared, declared, outer, entered, scope}
+use Rattle.text_rules.specs.Names.{Declared, declared, outer, entered, scope}
 use Rattle.scopes.specs.Memory.{declaration, start, from, blocksOf, Ordered, none, more, Room, Moved, scopeOf}
 use Rattle.scopes.specs.declared.scope.Scope.{Scope}
 

@@ -7,7 +7,7 @@ use mathlib.Core.Option.{Option, none, some}
 use native.Mathlib.Omega.{arith}
 use native.Mathlib.Numerals.{add-one}
 use lib.ListN.{getD}
-use Rattle.rules.specs.Names.{Declared, inBlock, sought}
+use Rattle.text_rules.specs.Names.{Declared, inBlock, sought}
 use Rattle.scopes.specs.Memory.{declaration, start, from, blocksOf, Ordered}
 use Rattle.scopes.specs.Memory as M
 

@@ -4,8 +4,8 @@ use mathlib.Core.Path.{_≡_}
 use mathlib.Core.List.{List, [], _∷_}
 use lib.ListN.{length, getD}
 use Rattle.events.specs.Event.{Event, function, parameter, thing, opens, closes, declares, uses, calls, ends}
-use Rattle.rules.specs.Names as N
-use Rattle.rules.specs.Names.{Declared, entered}
+use Rattle.text_rules.specs.Names as N
+use Rattle.text_rules.specs.Names.{Declared, entered}
 use Rattle.scopes.specs.declared.scope.Scope.{Scope}
 
 abbrev pub declaration : List ℕ → ℕ → Declared

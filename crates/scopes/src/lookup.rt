@@ -1,12 +1,12 @@
 // The lookup of a variable's name.
 ghost use mathlib.Core.Path.{_≡_};
 ghost use Prim.Native.Nat.{_^_, _<_};
-ghost use Rattle.rules.specs.Spelling.{sameName};
-ghost use Rattle.rules.specs.Names as N;
+ghost use Rattle.text_rules.specs.Spelling.{sameName};
+ghost use Rattle.text_rules.specs.Names as N;
 ghost use Rattle.scopes.specs.Memory.{Held, blocksOf};
 ghost use Rattle.scopes.specs.Answers.{slotOf, orZero};
-use rules::spelling::same_name;
-use rules::spelling::word;
+use text_rules::spelling::same_name;
+use text_rules::spelling::word;
 
 // A variable's address in its function's frame: the number of its declaration in the function, parameters first.
 pub struct Address(pub usize);

@@ -3,10 +3,10 @@ ghost use mathlib.Core.Path.{_≡_};
 ghost use Prim.Native.Nat.{_+_, _*_, _^_, _≤_, _<_};
 ghost use lib.ListN.{length};
 ghost use Rattle.events.specs.Event.{function, opens, closes, declares};
-ghost use Rattle.rules.specs.Answers.{event};
+ghost use Rattle.text_rules.specs.Answers.{event};
 ghost use Rattle.scopes.specs.Memory.{Room, Moved, tokenOf};
-use rules::item::Item;
-use rules::spelling::word;
+use text_rules::item::Item;
+use text_rules::spelling::word;
 
 // How many blocks are open, how many declarations can be seen, and the number of the function's next declaration.
 pub struct Scope {

@@ -1,10 +1,5 @@
--- Theorems of list.
-pub mod Promises
-pub mod Examples
-pub mod Grounds
-pub mod Cleared
-pub mod Values
-pub mod Building
+-- Theorems of the loop over paths.
+pub mod Outcomes
+pub mod Backs
+pub mod Rounds
 pub mod Searching
-pub mod Listing
-pub mod Bounds

@@ -1,36 +1,103 @@
--- What the search leaves is what list leaves.
-use Prim.Native.Nat.{ℕ, _/_}
-use mathlib.Core.Path.{_≡_, refl, sym, ap, _∙_}
+-- Path after path: the answer to the whole search stays the same, and the budget falls.
+use Prim.Native.Nat.{ℕ, _+_, _*_, _≤_, _<_}
+use native.Mathlib.Omega.{arith}
+use mathlib.Core.Path.{_≡_, refl, sym, _∙_, subst}
+use mathlib.Core.Bool.{false}
 use mathlib.Core.List.{List}
-use lib.ListN.{length, replicate}
+use lib.ListN.{length}
 use lib.IntN.{ℤ}
-use Rattle.semantics.specs.Search as S
-use Rattle.semantics.specs.Search.{to}
-use Rattle.simulation.specs.Words.{codeIn}
+use Rattle.semantics.specs.Run.{Window, Job}
+use Rattle.semantics.specs.Search.{known, work, byRanges, listed}
+use Rattle.simulation.specs.Code.{Code}
+use Rattle.simulation.specs.Machine.{start}
+use Rattle.simulation.specs.Path.{begins}
+use Rattle.simulation.specs.Lister.{opening}
+use Rattle.simulation.proofs.Drive.{most-turns, kept-start, turns-le}
+use Rattle.simulation.proofs.Listing.{treeOf, Opens, OpensNext, leads-start, path-ok, opens-start}
 use Rattle.simulation.specs.Placed.{Placed}
-use Rattle.settings.specs.Rows.{sheet}
-use Rattle.settings.proofs.Slice.{rows-length}
-use Rattle.listing.specs.Loop.{Lists, closeOf}
-use Rattle.listing.specs.Loop as loop
-use Rattle.listing.specs.declared.Answered.{Answered}
-use Rattle.search.specs.List.{program, jobOf, Answer, listed, Left, lists, found}
-use Rattle.search.specs.Parts.{answerOf, leaves}
-use Rattle.search.specs.Code.{Searches}
-use Rattle.search.specs.declared.Listed.{Listed}
+use Rattle.simulation.proofs.Spending.{Fewer, path-fewer}
+use Rattle.machine.specs.Memory.{outcomesIn}
+use Rattle.settings.specs.declared.Tally.{Tally}
+use Rattle.settings.specs.Rows.{rowsIn}
+use Rattle.settings.specs.Tries.{tallyOf, Rowed, Fair}
+use Rattle.settings.proofs.Counting.{rowed-none}
+use Rattle.settings.proofs.Going.{rowed-more}
+use Rattle.settings.proofs.Slice.{sheet-is}
+use Rattle.search.specs.Loop.{startOf, thenOf, Round, Lists}
+use Rattle.search.specs.declared.Answered.{Answered}
+use Rattle.search.specs.declared.Then.{Then}
+use Rattle.search.specs.declared.Then.the-variants.{On, Over}
 
-abbrev left : Answer → List ℤ → List ℕ → Left
-left a rows scratch = record { answer = a; rows = rows; scratch = scratch }
+-- what was counted at first
+abbrev pub first : ℕ → ℕ → ℕ → Tally
+first skip room budget = record { budget = budget; skip = skip; room = room; written = 0; moves = 0; cut = false }
 
-module _ (code : List ℕ) (n : ℕ) (low high : ℤ) (steps skip budget : ℕ) (rows rows′ : List ℤ) (scratch scratch′ : List ℕ) (a : Answered) (r : Listed) where
-  pub searched : Lists (codeIn code n) (to low high) steps skip (length rows / 10) budget rows rows′ a → answerOf r ≡ listed (a .written) (a .moves) (closeOf (a .ending)) → scratch′ ≡ replicate (length scratch) 0
-      → Searches code n low high steps skip budget rows scratch (leaves r rows′ scratch′)
-  searched l e z = record { is = by }
-    where
-      by : (text : List ℕ) → Placed (codeIn code n) (program text) → leaves r rows′ scratch′ ≡ lists text low high steps skip budget rows scratch (found text low high steps skip budget rows scratch)
-      by text p =
-          let x = loop.answerOf rows′ a in
-          let k : answerOf r ≡ listed (length (x .rows)) (x .moves) (x .close) = e ∙ ap (λ (m : ℕ). listed m (a .moves) (closeOf (a .ending))) (sym (rows-length rows′ (a .written))) in
-          ap (λ (b : Answer). left b rows′ scratch′) k
-          ∙ ap (λ (s : List ℤ). left (listed (length (x .rows)) (x .moves) (x .close)) s scratch′) (l .sheet)
-          ∙ ap (left (listed (length (x .rows)) (x .moves) (x .close)) (sheet rows (x .rows))) z
-          ∙ ap (lists text low high steps skip budget rows scratch) (l .is (jobOf text low high steps) p refl refl)
+-- between two paths: the answer to every job that the code is, the rows so far, and what was counted
+pub record Between (c : Code) (window : Window) (limit skip room budget : ℕ) (m₀ : List ℕ) (rows₀ : List ℤ) (m : List ℕ) (rows : List ℤ) (forced : ℕ) (t : Tally) : Type 0 where
+  pub opens : (j : Job) → Placed c (j .program) → j .window ≡ window → j .steps ≡ limit → Opens (listed byRanges j skip room budget) (treeOf byRanges window limit (j .program)) (startOf m rows forced t)
+  pub rowed : Rowed rows₀ rows 0 (t .written)
+  pub places : t .written + t .room ≡ room
+  pub sum : t .moves + t .budget ≡ budget
+  pub size : length m ≡ length m₀
+  pub sheet : length rows ≡ length rows₀
+
+module _ (c : Code) (window : Window) (limit skip room budget : ℕ) (m₀ : List ℕ) (rows₀ : List ℤ) where
+  opens-first : (j : Job) → j .window ≡ window → j .steps ≡ limit → Opens (listed byRanges j skip room budget) (treeOf byRanges window limit (j .program)) (startOf m₀ rows₀ 0 (first skip room budget))
+  unfolding outcomesIn rowsIn
+  opens-first j p q =
+      subst (λ (w : Window). Opens (listed byRanges j skip room budget) (treeOf byRanges w limit (j .program)) (opening skip room budget)) p
+      (subst (λ (n : ℕ). Opens (listed byRanges j skip room budget) (treeOf byRanges (j .window) n (j .program)) (opening skip room budget)) q (opens-start byRanges j skip room budget))
+
+  pub between-first : Between c window limit skip room budget m₀ rows₀ m₀ rows₀ 0 (first skip room budget)
+  between-first = record {
+    opens = λ j h p q. opens-first j p q;
+    rowed = rowed-none rows₀ 0;
+    places = omega arith;
+    sum = omega arith;
+    size = refl;
+    sheet = refl;
+  }
+
+  module _ (m : List ℕ) (rows : List ℤ) (forced : ℕ) (t : Tally) (b : Between c window limit skip room budget m₀ rows₀ m rows forced t) where
+    pub between-fair : budget < 4294967296 → 10 * room ≤ length rows₀ → Fair (length rows) t
+    between-fair l h = record { sum = omega (arith, b .sum, l); place = subst (λ (n : ℕ). 10 * n ≤ length rows) (sym (b .places)) (omega (arith, b .sheet, h)) }
+
+    module _ (m′ : List ℕ) (rows′ : List ℤ) (r : Then) (h : Round c window limit m m′ rows rows′ forced t r) where
+      opens-next : (j : Job) → Placed c (j .program) → j .window ≡ window → j .steps ≡ limit → OpensNext (listed byRanges j skip room budget) (treeOf byRanges window limit (j .program)) (thenOf m′ rows′ r)
+      opens-next j placing p q =
+          let a = listed byRanges j skip room budget in
+          let tree = treeOf byRanges window limit (j .program) in
+          let k = kept-start c limit (outcomesIn m 0 forced) in
+          subst (OpensNext a tree) (sym (h .is))
+          (path-ok a tree byRanges window c limit (most-turns c limit) (start known work c) (begins limit (outcomesIn m 0 forced)) (tallyOf rows t) (leads-start a byRanges window c limit (j .program) placing (startOf m rows forced t) (b .opens j placing p q)) k
+          (turns-le c limit (start known work c) (begins limit (outcomesIn m 0 forced)) k))
+
+      fewer : Fewer (t .budget) (thenOf m′ rows′ r)
+      fewer = subst (Fewer (t .budget)) (sym (h .is)) (path-fewer byRanges window c limit (most-turns c limit) (start known work c) (begins limit (outcomesIn m 0 forced)) (tallyOf rows t))
+
+    pub between-less : (m′ : List ℕ) (rows′ : List ℤ) (r : Then) → Round c window limit m m′ rows rows′ forced t r → (k : ℕ) (u : Tally) → r ≡ On k u → u .budget < t .budget
+    between-less m′ rows′ r h k u e = subst (λ (r : Then). Fewer (t .budget) (thenOf m′ rows′ r)) e (fewer m′ rows′ r h)
+
+    pub between-next : (m′ : List ℕ) (rows′ : List ℤ) (r : Then) → Round c window limit m m′ rows rows′ forced t r → (k : ℕ) (u : Tally) → r ≡ On k u → length m′ ≡ length m → length rows′ ≡ length rows
+        → Between c window limit skip room budget m₀ rows₀ m′ rows′ k u
+    between-next m′ rows′ r h k u e x y = by (subst (λ (r : Then). Round c window limit m m′ rows rows′ forced t r) e h)
+      where
+        by : Round c window limit m m′ rows rows′ forced t (On k u) → Between c window limit skip room budget m₀ rows₀ m′ rows′ k u
+        by h = record {
+          opens = opens-next m′ rows′ (On k u) h;
+          rowed = rowed-more rows₀ rows rows′ 0 (t .written) (u .written) (omega arith) (h .onward .more) (b .rowed) (h .rowed);
+          places = h .onward .places ∙ b .places;
+          sum = h .onward .sum ∙ b .sum;
+          size = x ∙ b .size;
+          sheet = y ∙ b .sheet;
+        }
+
+    pub between-over : 10 * room ≤ length rows₀ → (m′ : List ℕ) (rows′ : List ℤ) (r : Then) → Round c window limit m m′ rows rows′ forced t r → (a : Answered) → r ≡ Over a → length rows′ ≡ length rows → Lists c window limit skip room budget rows₀ rows′ a
+    between-over l m′ rows′ r h a e y = by (subst (λ (r : Then). Round c window limit m m′ rows rows′ forced t r) e h)
+      where
+        by : Round c window limit m m′ rows rows′ forced t (Over a) → Lists c window limit skip room budget rows₀ rows′ a
+        by h = record {
+          is = opens-next m′ rows′ (Over a) h;
+          sheet = sheet-is rows₀ rows′ (a .written) (y ∙ b .sheet) (omega (arith, l, h .onward .most, b .places)) (rowed-more rows₀ rows rows′ 0 (t .written) (a .written) (omega arith) (h .onward .more) (b .rowed) (h .rowed));
+          few = omega (arith, h .onward .most, b .places);
+        }

@@ -1,5 +1,3 @@
--- List: what it answers and leaves for every input, and what it promises.
-pub mod List
-pub mod Promise
-pub mod Parts
-pub mod Code
+-- The loop over the paths of the search, up to its answer.
+-- Loop says what a caller is promised; the rest is what the functions on the way promise each other.
+pub mod Loop

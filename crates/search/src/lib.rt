@@ -1,268 +1,205 @@
-// List: the grounds for its refusals, and the slice that it leaves.
+// The search: path after path, up to its answer.
 ghost use mathlib.Core.Path.{_≡_};
-ghost use Prim.Native.Nat.{_+_, _*_, _≤_, _<_};
-ghost use mathlib.Core.Option.{none};
-ghost use lib.Dec.{ltb};
-ghost use lib.Signed.{leZ};
-ghost use mathlib.Core.Bool.{true};
-ghost use lib.IntN.{_-ℤ_};
-ghost use lib.ListN.{length, replicate};
-ghost use Rattle.semantics.specs.Run.{numbers};
-ghost use Rattle.semantics.specs.Search.{to};
-ghost use Rattle.checker.specs.Check.{checked};
-ghost use Rattle.checker.specs.Analysis.{Slices};
-ghost use Rattle.listing.specs.Loop.{closeOf};
-ghost use Rattle.search.specs.List.{ground, listed, list as listOf};
-ghost use Rattle.search.specs.Parts.{groundOf, answerOf, leaves};
-ghost use Rattle.search.specs.Code.{Understood, Codes, Translates, Searches};
-use checker::Analysed;
+ghost use mathlib.Core.List.{List};
+ghost use Prim.Native.Nat.{_+_, _*_, _<_, _≤_, _/_};
+ghost use lib.ListN.{length};
+ghost use lib.IntN.{ℤ};
+ghost use Rattle.simulation.specs.Path as path;
+ghost use Rattle.simulation.specs.Words.{codeIn};
+ghost use Rattle.intervals.specs.Meaning.{Filled, ofWindow};
+ghost use Rattle.machine.specs.Contracts.{Room, meant};
+ghost use Rattle.settings.specs.Tries.{tallyIn, Fair};
+ghost use Rattle.settings.specs.declared.Tried.the-variants as tried;
+ghost use Rattle.paths.specs.Point.{Standing};
+ghost use Rattle.search.specs.Loop.{NewestBack, closes, paying, Backed, Finished, Round, Lists};
 use intervals::Window;
-use listing::Answered;
-use listing::Ending;
+use machine::Value;
+use paths::Point;
+use paths::Walked;
+use settings::Tally;
+use settings::Tried;
 
-// A ground for a refusal at place 0, by its number, or none.
-pub enum Ground {
-    Nothing,
-    Number(u32),
+// The outcomes that are forced on the next path, by their count; or there is no next path.
+pub enum Next {
+    Ended,
+    Forced(usize),
 }
 
-// What list answers: a refusal's number and place; or rows written and moves made, by the ending.
-pub enum Listed {
-    Refused(u32, usize),
-    Whole(usize, u32),
-    Cut(usize, u32),
-    Full(usize, u32),
-    Spent(usize, u32),
+// How the search closes: it has ended, without a cut run or with one; a row has no place; or the budget is spent.
+pub enum Ending {
+    Whole,
+    Cuts,
+    Full,
+    Spent,
 }
 
-// The code of a text, by the count of its entries; or check's refusal.
-pub enum Coded {
-    Refused(u32, usize),
-    Entries(usize),
+// The answer: the rows written, the moves made, and how the search closed.
+pub struct Answered {
+    pub written: usize,
+    pub moves: u32,
+    pub ending: Ending,
 }
 
-// How far high is above low, exact in 64 bits.
-fn gap(low: i32, high: i32) -> i64
-    ensures { λ r. ⌜ r ≡ high -ℤ low ⌝ }
+// Another path follows, with so many forced outcomes; or the search is over.
+pub enum Then {
+    On(usize, Tally),
+    Over(Answered),
+}
+
+// Takes back the newest choice that went true, of n: it goes false, and those after it are dropped.
+fn take_back(mem: &mut [u32], n: usize) -> Next
+    requires { ⌜ Room (now mem) n ⌝ }
+    ensures { λ r. ⌜ NewestBack (now (mem .entry)) (now (mem .exit)) n r ⌝ }
 {
-    (high as i64) - (low as i64)
-}
-
-// Whether a window has over 4,096 values: it has one more than high is above low.
-fn is_wide(low: i32, high: i32) -> bool
-    ensures { λ r. ⌜ r ≡ ltb 4096 (length (numbers (to low high))) ⌝ }
-{
-    4096 <= gap(low, high)
-}
-
-// The first of list's own grounds for a refusal, where scratch has this many words.
-pub fn refusal(low: i32, high: i32, steps: u32, words: usize) -> Ground
-    ensures { λ r. ⌜ groundOf r ≡ ground words low high steps ⌝ }
-{
-    if words < 16384 {
-        return Ground::Number(11);
-    }
-    if high < low {
-        return Ground::Number(12);
-    }
-    if is_wide(low, high) {
-        return Ground::Number(13);
-    }
-    if steps == 0 {
-        return Ground::Number(14);
-    }
-    if 1000 < steps {
-        return Ground::Number(14);
-    }
-    Ground::Nothing
-}
-
-// Leaves scratch all zero.
-fn clear(scratch: &mut [u32])
-    ensures { λ _. ⌜ now (scratch .exit) ≡ replicate (length (now (scratch .entry))) 0 ⌝ }
-{
-    let mut i: usize = 0;
-    while i < scratch.len() {
-        scratch[i] = 0;
-        i += 1;
-    }
-}
-
-// Compiles the program of an accepted text, whose tree stands at node `root`, and answers how many entries its code has.
-fn build(
-    text: &[u8],
-    places: &[u32],
-    values: &[u32],
-    nodes: &[u32],
-    root: usize,
-    heads: &[u32],
-    functions: usize,
-    slots: &[u32],
-    code: &mut [u32],
-) -> usize
-    requires { ⌜ Understood (now text) (now places) (now values) (now nodes) root (now heads) functions (now slots) × (length (now code) ≡ 4120) ⌝ }
-    ensures { λ r. ⌜ Codes (now (text .entry)) (now (code .exit)) r ⌝ }
-{
-    let main = rules::mains::main_number(text, places, values, heads, functions);
-    compiler::compile(nodes, root, values, slots, main, code)
-}
-
-// The code of a text, with slices lent for its analysis.
-fn translate(
-    text: &[u8],
-    kinds: &mut [u8],
-    places: &mut [u32],
-    values: &mut [u32],
-    nodes: &mut [u32],
-    items: &mut [u32],
-    heads: &mut [u32],
-    scope: &mut [u32],
-    slots: &mut [u32],
-    code: &mut [u32],
-) -> Coded
-    requires { ⌜ Slices (now kinds) (now places) (now values) (now nodes) (now items) (now heads) (now scope) × (now slots ≡ replicate 2049 0) × (length (now code) ≡ 4120) ⌝ }
-    ensures { λ r. ⌜ Translates (now (text .entry)) (now (code .exit)) r (checked (now (text .entry))) ⌝ }
-{
-    let analysed = checker::analyse(
-        text,
-        kinds,
-        places,
-        values,
-        nodes,
-        items,
-        heads,
-        scope,
-        slots,
-    );
-    match analysed {
-        Analysed::Refused(number, place) => Coded::Refused(number, place),
-        Analysed::Fine {
-            tokens,
-            root,
-            events: _,
-            functions,
-        } => {
-            let n = build(
-                text,
-                &places[..tokens],
-                &values[..tokens],
-                nodes,
-                root,
-                heads,
-                functions,
-                slots,
-                code,
-            );
-            Coded::Entries(n)
+    let mut i = n;
+    while 0 < i {
+        i -= 1;
+        if mem[1211 + 12 * i] != 0 {
+            mem[1211 + 12 * i] = 0;
+            return Next::Forced(i + 1);
         }
     }
+    Next::Ended
 }
 
-// The code of a text.
-fn code_of(text: &[u8], code: &mut [u32]) -> Coded
-    requires { ⌜ length (now code) ≡ 4120 ⌝ }
-    ensures { λ r. ⌜ Translates (now (text .entry)) (now (code .exit)) r (checked (now (text .entry))) ⌝ }
+// The answer, where so much was counted.
+fn close(t: Tally, e: Ending) -> Answered
+    ensures { λ r. ⌜ r ≡ closes t e ⌝ }
 {
-    let mut kinds = [0u8; 2049];
-    let mut places = [0u32; 2049];
-    let mut values = [0u32; 2049];
-    let mut nodes = [0u32; 20490];
-    let mut items = [0u32; 12288];
-    let mut heads = [0u32; 8192];
-    let mut scope = [0u32; 12288];
-    let mut slots = [0u32; 2049];
-    translate(
-        text,
-        &mut kinds,
-        &mut places,
-        &mut values,
-        &mut nodes,
-        &mut items,
-        &mut heads,
-        &mut scope,
-        &mut slots,
-        code,
-    )
-}
-
-// What list answers, where the search has answered.
-fn conclude(a: Answered) -> Listed
-    ensures { λ r. ⌜ answerOf r ≡ listed (a .written) (a .moves) (closeOf (a .ending)) ⌝ }
-{
-    let ending = a.ending;
-    match ending {
-        Ending::Whole => Listed::Whole(a.written, a.moves),
-        Ending::Cuts => Listed::Cut(a.written, a.moves),
-        Ending::Full => Listed::Full(a.written, a.moves),
-        Ending::Spent => Listed::Spent(a.written, a.moves),
+    Answered {
+        written: t.written,
+        moves: t.moves,
+        ending: e,
     }
 }
 
-// The search on the code of n entries, with scratch as its memory, which is left all zero.
-fn explore(
+// With no choice left the search has ended; else the newest is taken back, which is a move.
+fn go_back(mem: &mut [u32], n: usize, t: Tally) -> Then
+    requires { ⌜ Room (now mem) n × (t .moves + t .budget < 4294967296) ⌝ }
+    ensures { λ r. ⌜ Backed (now (mem .entry)) (now (mem .exit)) n (tried.Go t) r ⌝ }
+{
+    match take_back(mem, n) {
+        Next::Ended => {
+            if t.cut {
+                return Then::Over(close(t, Ending::Cuts));
+            }
+            Then::Over(close(t, Ending::Whole))
+        }
+        Next::Forced(k) => match settings::charge(t) {
+            Tried::Go(u) => Then::On(k, u),
+            Tried::Full(u) => Then::Over(close(u, Ending::Full)),
+            Tried::Spent(u) => Then::Over(close(u, Ending::Spent)),
+        },
+    }
+}
+
+// After a path's settings were tried: the way to the next path, unless the search is over.
+fn go_on(mem: &mut [u32], n: usize, x: Tried) -> Then
+    requires { ⌜ Room (now mem) n × (tallyIn x .moves + tallyIn x .budget < 4294967296) ⌝ }
+    ensures { λ r. ⌜ Backed (now (mem .entry)) (now (mem .exit)) n x r ⌝ }
+{
+    match x {
+        Tried::Go(t) => go_back(mem, n, t),
+        Tried::Full(t) => Then::Over(close(t, Ending::Full)),
+        Tried::Spent(t) => Then::Over(close(t, Ending::Spent)),
+    }
+}
+
+// What was counted, where so much of the budget is left.
+fn pay(t: Tally, left: u32) -> Tally
+    requires { ⌜ (left ≤ t .budget) × (t .moves + t .budget < 4294967296) ⌝ }
+    ensures { λ r. ⌜ r ≡ paying t left ⌝ }
+{
+    Tally {
+        budget: left,
+        skip: t.skip,
+        room: t.room,
+        written: t.written,
+        moves: t.moves + (t.budget - left),
+        cut: t.cut,
+    }
+}
+
+// At a return: the settings are tried, then the way to the next path.
+fn at_return(mem: &mut [u32], p: Point, v: Value, t: Tally, rows: &mut [i32]) -> Then
+    requires { ⌜ Standing (now mem) p × Room (now mem) (p .choices) × Fair (length (now rows)) t ⌝ }
+    ensures { λ r. ⌜ Finished (now (mem .entry)) (now (mem .exit)) (now (rows .entry)) (now (rows .exit)) (path.returned (meant (now (mem .entry)) (p .run .nodes) v)) p t r ⌝ }
+{
+    let run = p.run;
+    let x = settings::trials(mem, run.nodes, p.choices, p.windows, v, t, rows);
+    go_on(mem, p.choices, x)
+}
+
+// At a cut: settings are tried until one meets the tests, then the way to the next path.
+fn at_cut(mem: &mut [u32], p: Point, t: Tally) -> Then
+    requires { ⌜ Standing (now mem) p × Room (now mem) (p .choices) × (t .moves + t .budget < 4294967296) ⌝ }
+    ensures { λ r. ⌜ ((rows : List ℤ) → Finished (now (mem .entry)) (now (mem .exit)) rows rows path.cut p t r) ⌝ }
+{
+    let run = p.run;
+    let x = settings::probes(mem, run.nodes, p.choices, p.windows, t);
+    go_on(mem, p.choices, x)
+}
+
+// At a fail no setting is tried.
+fn at_fail(mem: &mut [u32], p: Point, t: Tally) -> Then
+    requires { ⌜ Room (now mem) (p .choices) × (t .moves + t .budget < 4294967296) ⌝ }
+    ensures { λ r. ⌜ ((rows : List ℤ) → Finished (now (mem .entry)) (now (mem .exit)) rows rows path.failed p t r) ⌝ }
+{
+    go_back(mem, p.choices, t)
+}
+
+// One path, and what is done at its end.
+fn round(
     code: &[u32],
-    n: usize,
-    low: i32,
-    high: i32,
-    steps: u32,
-    skip: u32,
-    budget: u32,
+    size: usize,
+    mem: &mut [u32],
+    job: Window,
+    limit: usize,
+    forced: usize,
+    t: Tally,
     rows: &mut [i32],
-    scratch: &mut [u32],
-) -> Listed
-    requires { ⌜ (2 * n + 16 ≤ length (now code)) × (n < 65536) × (16384 ≤ length (now scratch)) × (leZ low high ≡ true) × (steps ≤ 1000) ⌝ }
-    ensures { λ r. ⌜ Searches (now (code .entry)) n low high steps skip budget (now (rows .entry)) (now (scratch .entry)) (leaves r (now (rows .exit)) (now (scratch .exit))) ⌝ }
+) -> Then
+    requires { ⌜ (2 * size + 16 ≤ length (now code)) × (size < 65536) × Room (now mem) (limit + 1) × Filled (ofWindow job) × Fair (length (now rows)) t ⌝ }
+    ensures { λ r. ⌜ Round (codeIn (now (code .entry)) size) (ofWindow job) limit (now (mem .entry)) (now (mem .exit)) (now (rows .entry)) (now (rows .exit)) forced t r ⌝ }
 {
-    let answered = listing::run(
-        code,
-        n,
-        scratch,
-        Window { low, high },
-        steps as usize,
-        skip,
-        budget,
-        rows,
-    );
-    clear(scratch);
-    conclude(answered)
-}
-
-// List, where there is no ground for a refusal but the text.
-fn list_text(
-    text: &[u8],
-    low: i32,
-    high: i32,
-    steps: u32,
-    skip: u32,
-    budget: u32,
-    rows: &mut [i32],
-    scratch: &mut [u32],
-) -> Listed
-    requires { ⌜ none ≡ ground (length (now scratch)) low high steps ⌝ }
-    ensures { λ r. ⌜ leaves r (now (rows .exit)) (now (scratch .exit)) ≡ listOf (now (text .entry)) low high steps skip budget (now (rows .entry)) (now (scratch .entry)) ⌝ }
-{
-    let mut code = [0u32; 4120];
-    match code_of(text, &mut code) {
-        Coded::Refused(number, place) => Listed::Refused(number, place),
-        Coded::Entries(n) => { explore(&code, n, low, high, steps, skip, budget, rows, scratch) }
+    match paths::run_path(code, size, mem, job, limit, forced, t.budget) {
+        Walked::Spent => Then::Over(close(pay(t, 0), Ending::Spent)),
+        Walked::Returned(v, p, left) => at_return(mem, p, v, pay(t, left), rows),
+        Walked::Failed(p, left) => at_fail(mem, p, pay(t, left)),
+        Walked::Cut(p, left) => at_cut(mem, p, pay(t, left)),
     }
 }
 
-// Lists the plans of a job: rows are written into the slice, the skipped ones not, as far as it has room and the budget goes.
-pub fn list(
-    text: &[u8],
-    low: i32,
-    high: i32,
-    steps: u32,
+// The whole search, path after path, on a job's program, window and step limit: its rows are written from the start of the slice.
+pub fn run(
+    code: &[u32],
+    size: usize,
+    mem: &mut [u32],
+    job: Window,
+    limit: usize,
     skip: u32,
     budget: u32,
     rows: &mut [i32],
-    scratch: &mut [u32],
-) -> Listed
-    ensures { λ r. ⌜ leaves r (now (rows .exit)) (now (scratch .exit)) ≡ listOf (now (text .entry)) low high steps skip budget (now (rows .entry)) (now (scratch .entry)) ⌝ }
+) -> Answered
+    requires { ⌜ (2 * size + 16 ≤ length (now code)) × (size < 65536) × Room (now mem) (limit + 1) × Filled (ofWindow job) ⌝ }
+    ensures { λ r. ⌜ Lists (codeIn (now (code .entry)) size) (ofWindow job) limit skip (length (now (rows .entry)) / 10) budget (now (rows .entry)) (now (rows .exit)) r ⌝ }
 {
-    match refusal(low, high, steps, scratch.len()) {
-        Ground::Number(number) => Listed::Refused(number, 0),
-        Ground::Nothing => list_text(text, low, high, steps, skip, budget, rows, scratch),
+    let mut forced: usize = 0;
+    let mut t = Tally {
+        budget: budget,
+        skip: skip,
+        room: rows.len() / 10,
+        written: 0,
+        moves: 0,
+        cut: false,
+    };
+    loop {
+        match round(code, size, mem, job, limit, forced, t, rows) {
+            Then::On(k, u) => {
+                forced = k;
+                t = u;
+            }
+            Then::Over(a) => return a,
+        }
     }
 }

@@ -19,7 +19,7 @@ use Rattle.semantics.specs.Search.{to}
 use Rattle.simulation.specs.Odometer.{filled, lowest, after}
 use Rattle.simulation.proofs.Odometer.{AtHigh, after-last, after-up}
 use Rattle.intervals.specs.Meaning.{ofPairs}
-use Rattle.pairs.specs.Memory.{pairsAt}
+use Rattle.window_memory.specs.Memory.{pairsAt}
 use Rattle.machine.specs.Memory.{windowsIn, settingIn}
 use Rattle.settings.specs.Table.{windowAt, valueAt, Wrote, Anew, First, Follows}
 use Rattle.settings.proofs.Entries.{upTo, setting-is}

@@ -11,95 +11,72 @@ use Rattle.checker.proofs.analyse.Lts as lts
 use Rattle.checker.proofs.settle.Reads as settle-reads
 use Rattle.lexer.proofs.lex.Reads as lex-reads
 
--- src/lib.rt:169:11
 lex-requires : tie.Need-lex-requires
 lex-requires c κs = search needs
 
--- src/lib.rt:170:24
 enum-known-number : tie.Need-enum-known-number
 enum-known-number c = search needs
 
--- src/lib.rt:171:23
 enum-known-n : tie.Need-enum-known-n
 enum-known-n c = search needs
 
--- src/lib.rt:172:26
 slice-reshare-prefix-settle : tie.Need-slice-reshare-prefix-settle
 slice-reshare-prefix-settle c = omega (arith, few-tokens (into (c .before .before .before .before .before .before .before .before .before .lex .ensures) (c .before .n .given .1)), kinds-long (c .before .before .before .before .before .before .before .before .before .lex .ensures) (c .before .before .before .before .before .before .before .before .before .before .before .before .before .before .before .before .before .before .before .before .before .before .pre .kinds))
 
--- src/lib.rt:172:26
 slice-aggregate-settle : tie.Need-slice-aggregate-settle
 slice-aggregate-settle c = as-long _ (omega (arith, few-tokens (into (c .before .before .before .before .before .before .before .before .before .before .lex .ensures) (c .before .before .n .given .1)), kinds-long (c .before .before .before .before .before .before .before .before .before .before .lex .ensures) (c .before .before .before .before .before .before .before .before .before .before .before .before .before .before .before .before .before .before .before .before .before .before .before .pre .kinds)))
 
--- src/lib.rt:172:39
 slice-reshare-prefix-settle-2 : tie.Need-slice-reshare-prefix-settle-2
 slice-reshare-prefix-settle-2 c = omega (arith, few-tokens (into (c .before .before .before .before .before .before .before .before .before .before .lex .ensures) (c .before .before .n .given .1)), places-long (c .before .before .before .before .before .before .before .before .before .before .lex .ensures) (c .before .before .before .before .before .before .before .before .before .before .before .before .before .before .before .before .before .before .before .before .before .before .before .pre .places))
 
--- src/lib.rt:172:39
 slice-aggregate-settle-2 : tie.Need-slice-aggregate-settle-2
 slice-aggregate-settle-2 c = as-long _ (omega (arith, few-tokens (into (c .before .before .before .before .before .before .before .before .before .before .before .lex .ensures) (c .before .before .before .n .given .1)), places-long (c .before .before .before .before .before .before .before .before .before .before .before .lex .ensures) (c .before .before .before .before .before .before .before .before .before .before .before .before .before .before .before .before .before .before .before .before .before .before .before .before .pre .places)))
 
--- src/lib.rt:172:53
 slice-reshare-prefix-settle-3 : tie.Need-slice-reshare-prefix-settle-3
 slice-reshare-prefix-settle-3 c = omega (arith, few-tokens (into (c .before .before .before .before .before .before .before .before .before .before .before .lex .ensures) (c .before .before .before .n .given .1)), values-long (c .before .before .before .before .before .before .before .before .before .before .before .lex .ensures) (c .before .before .before .before .before .before .before .before .before .before .before .before .before .before .before .before .before .before .before .before .before .before .before .before .pre .values))
 
--- src/lib.rt:172:53
 slice-aggregate-settle-3 : tie.Need-slice-aggregate-settle-3
 slice-aggregate-settle-3 c = as-long _ (omega (arith, few-tokens (into (c .before .before .before .before .before .before .before .before .before .before .before .before .lex .ensures) (c .before .before .before .before .n .given .1)), values-long (c .before .before .before .before .before .before .before .before .before .before .before .before .lex .ensures) (c .before .before .before .before .before .before .before .before .before .before .before .before .before .before .before .before .before .before .before .before .before .before .before .before .before .pre .values)))
 
--- src/lib.rt:172:13
 settle-requires : tie.Need-settle-requires
 settle-requires c κs = let x = into (c .before .before .before .before .before .before .before .before .before .before .before .before .before .before .before .before .before .lex .ensures) (c .before .before .before .before .before .before .before .before .before .n .given .1) in let k = kinds-long (c .before .before .before .before .before .before .before .before .before .before .before .before .before .before .before .before .before .lex .ensures) (c .before .before .before .before .before .before .before .before .before .before .before .before .before .before .before .before .before .before .before .before .before .before .before .before .before .before .before .before .before .before .pre .kinds) in let w = few-tokens x in record { tokens = token-list x (omega (arith, k, w)); few = few-listed x (omega (arith, k, w)); table = c .before .before .before .before .before .before .before .before .before .before .before .before .before .before .before .before .before .before .before .before .before .before .before .before .before .before .before .before .before .before .pre .table; words = c .before .before .before .before .before .before .before .before .before .before .before .before .before .before .before .before .before .before .before .before .before .before .before .before .before .before .before .before .before .before .pre .words; functions = c .before .before .before .before .before .before .before .before .before .before .before .before .before .before .before .before .before .before .before .before .before .before .before .before .before .before .before .before .before .before .pre .functions; blocks = c .before .before .before .before .before .before .before .before .before .before .before .before .before .before .before .before .before .before .before .before .before .before .before .before .before .before .before .before .before .before .pre .blocks }
 
--- src/lib.rt:155:1
 same-length : tie.Need-same-length
 same-length c = search needs
 
--- src/lib.rt:155:1
 same-length-2 : tie.Need-same-length-2
 same-length-2 c = search needs
 
--- src/lib.rt:155:1
 same-length-3 : tie.Need-same-length-3
 same-length-3 c = search needs
 
--- src/lib.rt:155:1
 returns : tie.Need-returns
 returns c = refused-so (c .before .before .before .before .before .before .before .before .before .lex .ensures) (c .before .number .given .1)
 
--- src/lib.rt:155:1
 same-length-4 : tie.Need-same-length-4
 same-length-4 c = search needs
 
--- src/lib.rt:155:1
 same-length-5 : tie.Need-same-length-5
 same-length-5 c = search needs
 
--- src/lib.rt:155:1
 same-length-6 : tie.Need-same-length-6
 same-length-6 c = search needs
 
--- src/lib.rt:155:1
 same-length-7 : tie.Need-same-length-7
 same-length-7 c = search needs
 
--- src/lib.rt:155:1
 same-length-8 : tie.Need-same-length-8
 same-length-8 c = search needs
 
--- src/lib.rt:155:1
 same-length-9 : tie.Need-same-length-9
 same-length-9 c = search needs
 
--- src/lib.rt:155:1
 same-length-10 : tie.Need-same-length-10
 same-length-10 c = search needs
 
--- src/lib.rt:155:1
 same-length-11 : tie.Need-same-length-11
 same-length-11 c = search needs
 
--- src/lib.rt:155:1
 returns-2 : tie.Need-returns-2
 returns-2 c = let x = into (c .before .before .before .before .before .before .before .before .before .before .before .before .before .before .before .before .before .before .before .before .before .before .before .before .before .before .before .before .lex .ensures) (c .before .before .before .before .before .before .before .before .before .before .before .before .before .before .before .before .before .before .before .before .n .given .1) in let w = few-tokens x in analysed x (omega (arith, w, kinds-long (c .before .before .before .before .before .before .before .before .before .before .before .before .before .before .before .before .before .before .before .before .before .before .before .before .before .before .before .before .lex .ensures) (c .before .before .before .before .before .before .before .before .before .before .before .before .before .before .before .before .before .before .before .before .before .before .before .before .before .before .before .before .before .before .before .before .before .before .before .before .before .before .before .before .before .pre .kinds))) (omega (arith, w, places-long (c .before .before .before .before .before .before .before .before .before .before .before .before .before .before .before .before .before .before .before .before .before .before .before .before .before .before .before .before .lex .ensures) (c .before .before .before .before .before .before .before .before .before .before .before .before .before .before .before .before .before .before .before .before .before .before .before .before .before .before .before .before .before .before .before .before .before .before .before .before .before .before .before .before .before .pre .places))) (omega (arith, w, values-long (c .before .before .before .before .before .before .before .before .before .before .before .before .before .before .before .before .before .before .before .before .before .before .before .before .before .before .before .before .lex .ensures) (c .before .before .before .before .before .before .before .before .before .before .before .before .before .before .before .before .before .before .before .before .before .before .before .before .before .before .before .before .before .before .before .before .before .before .before .before .before .before .before .before .before .pre .values))) (c .before .before .before .before .before .before .before .before .before .before .settle .ensures)
 

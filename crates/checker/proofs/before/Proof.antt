@@ -4,19 +4,15 @@ use Rattle.checker.proofs.before.Tie as tie
 use Rattle.checker.proofs.before.Reads as reads
 use Rattle.checker.proofs.before.Lts as lts
 
--- src/lib.rt:23:28
 enum-told : tie.Need-enum-told
 enum-told c = search needs
 
--- src/lib.rt:24:20
 enum-known-broken : tie.Need-enum-known-broken
 enum-known-broken c = search needs
 
--- src/lib.rt:19:1
 returns : tie.Need-returns
 returns c = search needs
 
--- src/lib.rt:19:1
 returns-2 : tie.Need-returns-2
 returns-2 c = rw (c .before .broken .given .1)
 

@@ -7,55 +7,42 @@ use Rattle.checker.proofs.check.Reads as reads
 use Rattle.checker.proofs.check.Lts as lts
 use Rattle.checker.proofs.analyse.Reads as analyse-reads
 
--- src/lib.rt:191:9
 slice-aggregate-analyse : tie.Need-slice-aggregate-analyse
 slice-aggregate-analyse c = search needs
 
--- src/lib.rt:192:9
 slice-aggregate-analyse-2 : tie.Need-slice-aggregate-analyse-2
 slice-aggregate-analyse-2 c = search needs
 
--- src/lib.rt:193:9
 slice-aggregate-analyse-3 : tie.Need-slice-aggregate-analyse-3
 slice-aggregate-analyse-3 c = search needs
 
--- src/lib.rt:194:9
 slice-aggregate-analyse-4 : tie.Need-slice-aggregate-analyse-4
 slice-aggregate-analyse-4 c = search needs
 
--- src/lib.rt:195:9
 slice-aggregate-analyse-5 : tie.Need-slice-aggregate-analyse-5
 slice-aggregate-analyse-5 c = search needs
 
--- src/lib.rt:196:9
 slice-aggregate-analyse-6 : tie.Need-slice-aggregate-analyse-6
 slice-aggregate-analyse-6 c = search needs
 
--- src/lib.rt:197:9
 slice-aggregate-analyse-7 : tie.Need-slice-aggregate-analyse-7
 slice-aggregate-analyse-7 c = search needs
 
--- src/lib.rt:198:9
 slice-aggregate-analyse-8 : tie.Need-slice-aggregate-analyse-8
 slice-aggregate-analyse-8 c = search needs
 
--- src/lib.rt:189:9
 analyse-requires : tie.Need-analyse-requires
 analyse-requires c κs = search needs
 
--- src/lib.rt:201:27
 enum-known-analysed : tie.Need-enum-known-analysed
 enum-known-analysed c = search needs
 
--- src/lib.rt:202:75
 enum-told : tie.Need-enum-told
 enum-told c = search needs
 
--- src/lib.rt:178:1
 returns : tie.Need-returns
 returns c = says-refused (rw (c .before .analysed .given .1) at (c .before .before .before .before .before .before .before .before .before .before .before .analyse .ensures))
 
--- src/lib.rt:178:1
 returns-2 : tie.Need-returns-2
 returns-2 c = says-accepted (rw (c .enum-told .given .1) at (c .before .before .before .before .before .before .before .before .before .before .analyse .ensures))
 

@@ -6,31 +6,24 @@ use Rattle.checker.proofs.choose.Reads as reads
 use Rattle.checker.proofs.choose.Lts as lts
 use Rattle.checker.proofs.before.Reads as before-reads
 
--- src/lib.rt:32:9
 before-requires : tie.Need-before-requires
 before-requires c κs = search needs
 
--- src/lib.rt:33:9
 before-requires-2 : tie.Need-before-requires-2
 before-requires-2 c κs = search needs
 
--- src/lib.rt:34:9
 before-requires-3 : tie.Need-before-requires-3
 before-requires-3 c κs = search needs
 
--- src/lib.rt:35:9
 before-requires-4 : tie.Need-before-requires-4
 before-requires-4 c κs = search needs
 
--- src/lib.rt:36:9
 before-requires-5 : tie.Need-before-requires-5
 before-requires-5 c κs = search needs
 
--- src/lib.rt:37:5
 before-requires-6 : tie.Need-before-requires-6
 before-requires-6 c κs = search needs
 
--- src/lib.rt:29:1
 returns : tie.Need-returns
 returns c = cc
 

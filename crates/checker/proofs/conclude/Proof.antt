@@ -4,25 +4,20 @@ use Rattle.checker.proofs.conclude.Statement.{statement}
 use Rattle.checker.proofs.conclude.Tie as tie
 use Rattle.checker.proofs.conclude.Reads as reads
 use Rattle.checker.proofs.conclude.Lts as lts
-use Rattle.rules.proofs.spelling.word.Reads as word-reads
+use Rattle.text_rules.proofs.spelling.word.Reads as word-reads
 
--- src/lib.rt:102:24
 enum-known-judged : tie.Need-enum-known-judged
 enum-known-judged c = search needs
 
--- src/lib.rt:102:64
 word-requires : tie.Need-word-requires
 word-requires c κs = search needs
 
--- src/lib.rt:103:22
 enum-known-judged-2 : tie.Need-enum-known-judged-2
 enum-known-judged-2 c = search needs
 
--- src/lib.rt:98:1
 returns : tie.Need-returns
 returns c = rw (c .before .before .judged .given .1, c .word .ensures)
 
--- src/lib.rt:98:1
 returns-2 : tie.Need-returns-2
 returns-2 c = rw (c .before .judged2 .given .1)
 

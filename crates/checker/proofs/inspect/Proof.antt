@@ -12,39 +12,30 @@ use Rattle.checker.proofs.conclude.Reads as conclude-reads
 use Rattle.checker.proofs.judge.Reads as judge-reads
 use Rattle.events.proofs.walk.Reads as walk-reads
 
--- src/lib.rt:123:9
 walk-requires : tie.Need-walk-requires
 walk-requires c κs = search needs
 
--- src/lib.rt:124:56
 sub-judge : tie.Need-sub-judge
 sub-judge c = search needs
 
--- src/lib.rt:124:9
 judge-requires : tie.Need-judge-requires
 judge-requires c κs = let f = few-events (c .before .before .before .before .before .before .before .before .before .before .before .before .before .before .before .before .pre .0) (c .before .before .before .before .before .before .walk .ensures) in (omega (arith, f, c .before .before .before .before .before .before .before .before .before .before .before .before .before .before .before .before .pre), omega (arith, f, c .before .before .before .before .before .before .before .before .before .before .before .before .before .before .before .before .pre), omega (arith, f, c .before .before .before .before .before .before .before .before .before .before .before .before .before .before .before .before .pre), omega (arith, f, c .before .before .before .before .before .before .before .before .before .before .before .before .before .before .before .before .pre))
 
--- src/lib.rt:125:5
 conclude-requires : tie.Need-conclude-requires
 conclude-requires c κs = search needs
 
--- src/lib.rt:108:1
 same-length : tie.Need-same-length
 same-length c = search needs
 
--- src/lib.rt:108:1
 same-length-2 : tie.Need-same-length-2
 same-length-2 c = search needs
 
--- src/lib.rt:108:1
 same-length-3 : tie.Need-same-length-3
 same-length-3 c = search needs
 
--- src/lib.rt:108:1
 same-length-4 : tie.Need-same-length-4
 same-length-4 c = search needs
 
--- src/lib.rt:108:1
 returns : tie.Need-returns
 returns c = rw (c .conclude .ensures) (inspected _ _ _ _ _ _ _ _ _ _ _ _ (c .before .before .before .before .before .before .before .before .before .before .before .before .before .before .walk .ensures) (c .before .before .before .before .before .before .before .judge .ensures))
 

@@ -10,57 +10,44 @@ use Rattle.checker.proofs.settle.Reads as reads
 use Rattle.checker.proofs.settle.Lts as lts
 use Rattle.checker.proofs.inspect.Reads as inspect-reads
 use Rattle.grammar.proofs.parse.Reads as parse-reads
-use Rattle.rules.proofs.spelling.word.Reads as word-reads
+use Rattle.text_rules.proofs.spelling.word.Reads as word-reads
 
--- src/lib.rt:146:11
 parse-requires : tie.Need-parse-requires
 parse-requires c κs = search needs
 
--- src/lib.rt:147:21
 enum-known-m : tie.Need-enum-known-m
 enum-known-m c = search needs
 
--- src/lib.rt:147:48
 word-requires : tie.Need-word-requires
 word-requires c κs = search needs
 
--- src/lib.rt:148:24
 enum-known-root : tie.Need-enum-known-root
 enum-known-root c = search needs
 
--- src/lib.rt:149:13
 inspect-requires : tie.Need-inspect-requires
 inspect-requires c κs = (can-walk (c .before .before .before .before .before .before .before .before .before .before .before .before .before .before .before .before .before .before .before .before .before .pre) (search needs) (is-tree (rw (c .before .before .before .before .before .before .root .given .1) at (c .before .before .before .before .before .before .before .before .before .before .parse .ensures))), c .before .before .before .before .before .before .before .before .before .before .before .before .before .before .before .before .before .before .before .before .before .pre .words, c .before .before .before .before .before .before .before .before .before .before .before .before .before .before .before .before .before .before .before .before .before .pre .functions, c .before .before .before .before .before .before .before .before .before .before .before .before .before .before .before .before .before .before .before .before .before .pre .blocks, c .before .before .before .before .before .before .before .before .before .before .before .before .before .before .before .before .before .before .before .before .before .pre .tokens .filled)
 
--- src/lib.rt:132:1
 same-length : tie.Need-same-length
 same-length c = search needs
 
--- src/lib.rt:132:1
 returns : tie.Need-returns
 returns c = rw (c .word .ensures) (settles-bad _ _ _ _ _ _ _ _ _ (is-bad (rw (c .before .before .m .given .1) at (c .before .before .before .before .before .before .parse .ensures))))
 
--- src/lib.rt:132:1
 same-length-2 : tie.Need-same-length-2
 same-length-2 c = search needs
 
--- src/lib.rt:132:1
 same-length-3 : tie.Need-same-length-3
 same-length-3 c = search needs
 
--- src/lib.rt:132:1
 same-length-4 : tie.Need-same-length-4
 same-length-4 c = search needs
 
--- src/lib.rt:132:1
 same-length-5 : tie.Need-same-length-5
 same-length-5 c = search needs
 
--- src/lib.rt:132:1
 same-length-6 : tie.Need-same-length-6
 same-length-6 c = search needs
 
--- src/lib.rt:132:1
 returns-2 : tie.Need-returns-2
 returns-2 c = settles-tree _ _ _ _ _ _ _ _ _ (is-tree (rw (c .before .before .before .before .before .before .before .before .before .before .before .before .before .before .before .root .given .1) at (c .before .before .before .before .before .before .before .before .before .before .before .before .before .before .before .before .before .before .before .parse .ensures))) (search needs) (c .before .before .before .before .before .before .before .before .inspect .ensures)
 

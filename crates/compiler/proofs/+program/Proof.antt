@@ -6,7 +6,7 @@ use native.Mathlib.Omega.{arith}
 use lib.ListN.{set, length-set}
 use lib.Seq.{sets}
 use Rattle.semantics.specs.Program.{Stmts}
-use Rattle.rules.specs.Resolve.{part}
+use Rattle.text_rules.specs.Resolve.{part}
 use Rattle.simulation.specs.Code.{fail, act, entriesOf, startsOf}
 use Rattle.simulation.specs.Words.{kindOf, wordOf}
 use Rattle.compiler.specs.Coded.{word}

@@ -8,33 +8,26 @@ use Rattle.exports.proofs.plans_list.Tie as tie
 use Rattle.exports.proofs.plans_list.Reads as reads
 use Rattle.exports.proofs.plans_list.Lts as lts
 use Rattle.exports.proofs.put_listed.Reads as put-listed-reads
-use Rattle.search.proofs.list.Reads as list-reads
+use Rattle.list.proofs.list.Reads as list-reads
 
--- src/lib.rt:98:9
 returns : tie.Need-returns
 returns c = list-short _ _ _ _ _ _ _ _ _ (c .if1 .taken)
 
--- src/lib.rt:100:9
 list-requires : tie.Need-list-requires
 list-requires c κs = search needs
 
--- src/lib.rt:101:5
 put-listed-requires : tie.Need-put-listed-requires
 put-listed-requires c κs = (omega (arith, c .before .before .before .before .before .before .before .if1 .left), list-fits _ _ _ _ _ _ _ _ (now (c .before .before .before .before .before .before .before .before .before .before .before .args .answer)) (c .before .before .before .before .list .result) _ _ (rw (toZ-ofZ (c .before .before .before .before .before .before .before .before .before .before .before .fits .low), toZ-ofZ (c .before .before .before .before .before .before .before .before .before .before .before .fits .high)) at (c .before .before .before .before .list .ensures)) (omega (arith, c .before .before .before .before .before .before .before .before .before .before .before .fits .budget)))
 
--- src/lib.rt:83:1
 same-length : tie.Need-same-length
 same-length c = search needs
 
--- src/lib.rt:83:1
 same-length-2 : tie.Need-same-length-2
 same-length-2 c = search needs
 
--- src/lib.rt:83:1
 same-length-3 : tie.Need-same-length-3
 same-length-3 c = search needs
 
--- src/lib.rt:83:1
 returns-2 : tie.Need-returns-2
 returns-2 c = list-out _ _ _ _ _ _ _ _ _ (c .before .before .before .before .before .before .before .list .result) _ _ (rw (toZ-ofZ (c .before .before .before .before .before .before .before .before .before .before .before .before .before .before .fits .low), toZ-ofZ (c .before .before .before .before .before .before .before .before .before .before .before .before .before .before .fits .high)) at (c .before .before .before .before .before .before .before .list .ensures)) _ (omega (arith, c .before .before .before .before .before .before .before .before .before .before .if1 .left)) (c .before .before .put-listed .ensures)
 

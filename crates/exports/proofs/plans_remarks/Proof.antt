@@ -11,75 +11,57 @@ use Rattle.exports.proofs.plans_remarks.Reads as reads
 use Rattle.exports.proofs.plans_remarks.Lts as lts
 use Rattle.remarks.proofs.remarks.Reads as remarks-reads
 
--- src/lib.rt:35:9
 returns : tie.Need-returns
 returns c = record { short = λ h. (refl, refl); long = λ h. absurd (omega (arith, h, c .if1 .taken)) }
 
--- src/lib.rt:37:11
 remarks-requires : tie.Need-remarks-requires
 remarks-requires c κs = search needs
 
--- src/lib.rt:38:34
 enum-known-number : tie.Need-enum-known-number
 enum-known-number c = search needs
 
--- src/lib.rt:39:13
 slice-write-answer : tie.Need-slice-write-answer
 slice-write-answer c = search needs
 
--- src/lib.rt:40:25
 cast-answer : tie.Need-cast-answer
 cast-answer c = omega (arith, low-remark (rw (c .before .number .given .1) at (c .before .before .before .before .before .remarks .ensures)))
 
--- src/lib.rt:40:13
 slice-write-answer-2 : tie.Need-slice-write-answer-2
 slice-write-answer-2 c = simp length-set (omega arith)
 
--- src/lib.rt:41:13
 slice-write-answer-3 : tie.Need-slice-write-answer-3
 slice-write-answer-3 c = search needs
 
--- src/lib.rt:43:32
 enum-known-count : tie.Need-enum-known-count
 enum-known-count c = search needs
 
--- src/lib.rt:44:13
 slice-write-answer-4 : tie.Need-slice-write-answer-4
 slice-write-answer-4 c = search needs
 
--- src/lib.rt:45:13
 slice-write-answer-5 : tie.Need-slice-write-answer-5
 slice-write-answer-5 c = simp length-set (omega arith)
 
--- src/lib.rt:46:25
 cast-answer-2 : tie.Need-cast-answer-2
 cast-answer-2 c = omega (arith, low-count (rw (c .before .count .given .1) at (c .before .before .before .before .before .remarks .ensures)))
 
--- src/lib.rt:46:13
 slice-write-answer-6 : tie.Need-slice-write-answer-6
 slice-write-answer-6 c = search needs
 
--- src/lib.rt:30:1
 same-length : tie.Need-same-length
 same-length c = search needs
 
--- src/lib.rt:30:1
 same-length-2 : tie.Need-same-length-2
 same-length-2 c = search needs
 
--- src/lib.rt:30:1
 returns-2 : tie.Need-returns-2
 returns-2 c = record { short = λ h. absurd (omega (arith, h, c .before .before .before .before .before .before .before .if1 .left)); long = λ h. record { said = _; answers = rw (c .before .number .given .1) at (c .before .before .before .before .before .remarks .ensures); words = refl } }
 
--- src/lib.rt:30:1
 same-length-3 : tie.Need-same-length-3
 same-length-3 c = search needs
 
--- src/lib.rt:30:1
 same-length-4 : tie.Need-same-length-4
 same-length-4 c = search needs
 
--- src/lib.rt:30:1
 returns-3 : tie.Need-returns-3
 returns-3 c = record { short = λ h. absurd (omega (arith, h, c .before .before .before .before .before .before .before .if1 .left)); long = λ h. record { said = _; answers = rw (c .before .count .given .1) at (c .before .before .before .before .before .remarks .ensures); words = refl } }
 

@@ -6,31 +6,24 @@ use Rattle.exports.proofs.put_words.Tie as tie
 use Rattle.exports.proofs.put_words.Reads as reads
 use Rattle.exports.proofs.put_words.Lts as lts
 
--- src/lib.rt:60:5
 slice-write-answer : tie.Need-slice-write-answer
 slice-write-answer c = search needs
 
--- src/lib.rt:61:5
 slice-write-answer-2 : tie.Need-slice-write-answer-2
 slice-write-answer-2 c = simp length-set (omega (arith, c .pre))
 
--- src/lib.rt:62:5
 slice-write-answer-3 : tie.Need-slice-write-answer-3
 slice-write-answer-3 c = simp length-set (omega (arith, c .pre))
 
--- src/lib.rt:63:5
 slice-write-answer-4 : tie.Need-slice-write-answer-4
 slice-write-answer-4 c = simp length-set (omega (arith, c .pre))
 
--- src/lib.rt:64:5
 slice-write-answer-5 : tie.Need-slice-write-answer-5
 slice-write-answer-5 c = search needs
 
--- src/lib.rt:56:1
 same-length : tie.Need-same-length
 same-length c = search needs
 
--- src/lib.rt:56:1
 returns : tie.Need-returns
 returns c = search needs
 

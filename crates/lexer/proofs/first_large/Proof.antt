@@ -8,21 +8,17 @@ use Rattle.lexer.proofs.first_large.Reads as reads
 use Rattle.lexer.proofs.first_large.Lts as lts
 use Rattle.lexer.proofs.is_large.Reads as is-large-reads
 
--- src/lib.rt:283:9
 returns : tie.Need-returns
 unfolding firstLarge
 returns c = rw (lt-ltb _ _ (c .if1 .taken), firstLarge)
 
--- src/lib.rt:285:8
 is-large-requires : tie.Need-is-large-requires
 is-large-requires c κs = search needs
 
--- src/lib.rt:286:9
 returns-2 : tie.Need-returns-2
 unfolding firstLarge
 returns-2 c = rw (le-ltb _ _ (c .before .before .if1 .left), firstLarge) (rw (sym (c .before .is-large .ensures) ∙ c .if2 .taken))
 
--- src/lib.rt:279:1
 returns-3 : tie.Need-returns-3
 unfolding firstLarge
 returns-3 c = rw (le-ltb _ _ (c .before .before .if1 .left), firstLarge) (rw (sym (c .before .is-large .ensures) ∙ c .if2 .left))

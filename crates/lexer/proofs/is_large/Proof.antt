@@ -7,15 +7,12 @@ use Rattle.lexer.proofs.is_large.Tie as tie
 use Rattle.lexer.proofs.is_large.Reads as reads
 use Rattle.lexer.proofs.is_large.Lts as lts
 
--- src/lib.rt:270:9
 returns : tie.Need-returns
 returns c = sym (ap (λ (k : ℕ). largeAs k (c .before .args .value)) (c .if1 .taken) ∙ large-name (c .before .args .value))
 
--- src/lib.rt:273:9
 returns-2 : tie.Need-returns-2
 returns-2 c = sym (ap (λ (k : ℕ). largeAs k (c .before .before .args .value)) (c .if2 .taken) ∙ large-number (c .before .before .args .value))
 
--- src/lib.rt:266:1
 returns-3 : tie.Need-returns-3
 returns-3 c = sym (large-other (c .before .before .args .kind) (c .before .before .args .value) (c .before .if1 .left) (c .if2 .left))
 

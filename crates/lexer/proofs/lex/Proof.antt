@@ -17,125 +17,101 @@ Inv-loop text kinds₀ places₀ values₀ at₀ n₀ large₀ kinds places valu
 abbrev μ-loop : tie.MeasureT-loop
 μ-loop text kinds₀ places₀ values₀ at₀ n₀ large₀ kinds places values at n large = length text - at
 
--- src/lib.rt:297:9
 returns : tie.Need-returns Inv-loop μ-loop
 returns c =
     let a = c .before .before .before .before .before .args in
     too-long (a .text .now) (a .kinds .now) (a .places .now) (a .values .now) (c .if1 .taken)
 
--- src/lib.rt:302:5
 loop-holds : tie.Need-loop-holds Inv-loop μ-loop
 loop-holds c =
     let a = c .before .before .before .before .before .args in
     turn-start (a .text .now) (a .kinds .now) (a .places .now) (a .values .now) (c .if1 .left)
 
--- src/lib.rt:303:15
 piece-at-requires : tie.Need-piece-at-requires Inv-loop μ-loop
 piece-at-requires c κs = (c .loop-test .taken, c .before .before .if1 .left)
 
--- src/lib.rt:305:17
 enum-told : tie.Need-enum-told Inv-loop μ-loop
 enum-told c = search needs
 
--- src/lib.rt:305:17
 add-at : tie.Need-add-at Inv-loop μ-loop
 add-at c =
     let t = c .before .before .before .before .loop .inv in
     omega (arith, c .before .before .before .before .before .if1 .left, t .inside, t .few, t .kinds .same-size, t .places .same-size, t .values .same-size, c .before .before .before .before .before .before .before .before .before .before .pre .0, c .before .before .before .before .before .before .before .before .before .before .pre .1, c .before .before .before .before .before .before .before .before .before .before .pre .2)
 
--- src/lib.rt:302:5
 loop-less : tie.Need-loop-less Inv-loop μ-loop
 loop-less c = omega (arith, c .before .before .before .loop-test .taken)
 
--- src/lib.rt:302:5
 loop-again : tie.Need-loop-again Inv-loop μ-loop
 loop-again c = turn-blank (c .before .before .before .before .loop .inv) (c .before .before .before .loop-test .taken) (sym (c .before .before .piece-at .ensures) ∙ c .enum-told .given .1)
 
--- src/lib.rt:308:17
 enum-told-2 : tie.Need-enum-told-2 Inv-loop μ-loop
 enum-told-2 c = search needs
 
--- src/lib.rt:308:17
 same-length : tie.Need-same-length Inv-loop μ-loop
 same-length c = c .before .before .before .before .loop .inv .kinds .same-size
 
--- src/lib.rt:308:17
 same-length-2 : tie.Need-same-length-2 Inv-loop μ-loop
 same-length-2 c = c .before .before .before .before .loop .inv .places .same-size
 
--- src/lib.rt:308:17
 same-length-3 : tie.Need-same-length-3 Inv-loop μ-loop
 same-length-3 c = c .before .before .before .before .loop .inv .values .same-size
 
--- src/lib.rt:308:17
 returns-2 : tie.Need-returns-2 Inv-loop μ-loop
 returns-2 c = turn-nothing (c .before .before .before .before .loop .inv) (c .before .before .before .loop-test .taken) (sym (c .before .before .piece-at .ensures) ∙ c .enum-told2 .given .1)
 
--- src/lib.rt:310:28
 enum-known-kind : tie.Need-enum-known-kind Inv-loop μ-loop
 enum-known-kind c = search needs
 
--- src/lib.rt:311:17
 first-large-requires : tie.Need-first-large-requires Inv-loop μ-loop
 first-large-requires c κs = tt
 
--- src/lib.rt:312:17
 slice-write-kinds : tie.Need-slice-write-kinds Inv-loop μ-loop
 slice-write-kinds c =
     let t = c .before .before .before .before .before .before .loop .inv in
     omega (arith, c .before .before .before .before .before .before .before .if1 .left, t .inside, t .few, t .kinds .same-size, t .places .same-size, t .values .same-size, c .before .before .before .before .before .before .before .before .before .before .before .before .pre .0, c .before .before .before .before .before .before .before .before .before .before .before .before .pre .1, c .before .before .before .before .before .before .before .before .before .before .before .before .pre .2)
 
--- src/lib.rt:313:29
 cast-places : tie.Need-cast-places Inv-loop μ-loop
 cast-places c =
     let t = c .before .before .before .before .before .before .loop .inv in
     omega (arith, c .before .before .before .before .before .before .before .if1 .left, t .inside, t .few, t .kinds .same-size, t .places .same-size, t .values .same-size, c .before .before .before .before .before .before .before .before .before .before .before .before .pre .0, c .before .before .before .before .before .before .before .before .before .before .before .before .pre .1, c .before .before .before .before .before .before .before .before .before .before .before .before .pre .2)
 
--- src/lib.rt:313:17
 mul-places : tie.Need-mul-places Inv-loop μ-loop
 mul-places c =
     let t = c .before .before .before .before .before .before .loop .inv in
     omega (arith, c .before .before .before .before .before .before .before .if1 .left, t .inside, t .few, t .kinds .same-size, t .places .same-size, t .values .same-size, c .before .before .before .before .before .before .before .before .before .before .before .before .pre .0, c .before .before .before .before .before .before .before .before .before .before .before .before .pre .1, c .before .before .before .before .before .before .before .before .before .before .before .before .pre .2)
 
--- src/lib.rt:313:17
 slice-write-places : tie.Need-slice-write-places Inv-loop μ-loop
 slice-write-places c =
     let t = c .before .before .before .before .before .before .loop .inv in
     omega (arith, c .before .before .before .before .before .before .before .if1 .left, t .inside, t .few, t .kinds .same-size, t .places .same-size, t .values .same-size, c .before .before .before .before .before .before .before .before .before .before .before .before .pre .0, c .before .before .before .before .before .before .before .before .before .before .before .before .pre .1, c .before .before .before .before .before .before .before .before .before .before .before .before .pre .2)
 
--- src/lib.rt:314:17
 mul-values : tie.Need-mul-values Inv-loop μ-loop
 mul-values c =
     let t = c .before .before .before .before .before .before .loop .inv in
     omega (arith, c .before .before .before .before .before .before .before .if1 .left, t .inside, t .few, t .kinds .same-size, t .places .same-size, t .values .same-size, c .before .before .before .before .before .before .before .before .before .before .before .before .pre .0, c .before .before .before .before .before .before .before .before .before .before .before .before .pre .1, c .before .before .before .before .before .before .before .before .before .before .before .before .pre .2)
 
--- src/lib.rt:314:17
 slice-write-values : tie.Need-slice-write-values Inv-loop μ-loop
 slice-write-values c =
     let t = c .before .before .before .before .before .before .loop .inv in
     omega (arith, c .before .before .before .before .before .before .before .if1 .left, t .inside, t .few, t .kinds .same-size, t .places .same-size, t .values .same-size, c .before .before .before .before .before .before .before .before .before .before .before .before .pre .0, c .before .before .before .before .before .before .before .before .before .before .before .before .pre .1, c .before .before .before .before .before .before .before .before .before .before .before .before .pre .2)
 
--- src/lib.rt:315:17
 add-n : tie.Need-add-n Inv-loop μ-loop
 add-n c =
     let t = c .before .before .before .before .before .before .loop .inv in
     omega (arith, c .before .before .before .before .before .before .before .if1 .left, t .inside, t .few, t .kinds .same-size, t .places .same-size, t .values .same-size, c .before .before .before .before .before .before .before .before .before .before .before .before .pre .0, c .before .before .before .before .before .before .before .before .before .before .before .before .pre .1, c .before .before .before .before .before .before .before .before .before .before .before .before .pre .2)
 
--- src/lib.rt:316:17
 add-at-2 : tie.Need-add-at-2 Inv-loop μ-loop
 add-at-2 c =
     let g = c .before .before .kind .given in
     let z = turn-size (c .before .before .before .before .before .before .loop .inv) (g .0 .0) (g .0 .1 .0) (g .0 .1 .1 .0) (c .before .before .before .before .before .loop-test .taken) (sym (c .before .before .before .before .piece-at .ensures) ∙ g .1) in
     omega (arith, z .1, c .before .before .before .before .before .before .before .if1 .left)
 
--- src/lib.rt:302:5
 loop-less-2 : tie.Need-loop-less-2 Inv-loop μ-loop
 loop-less-2 c =
     let g = c .before .before .kind .given in
     let z = turn-size (c .before .before .before .before .before .before .loop .inv) (g .0 .0) (g .0 .1 .0) (g .0 .1 .1 .0) (c .before .before .before .before .before .loop-test .taken) (sym (c .before .before .before .before .piece-at .ensures) ∙ g .1) in
     omega (arith, z .0, z .1, c .before .before .before .before .before .loop-test .taken)
 
--- src/lib.rt:302:5
 loop-again-2 : tie.Need-loop-again-2 Inv-loop μ-loop
 loop-again-2 c =
     let g = c .before .before .kind .given in
@@ -144,77 +120,62 @@ loop-again-2 c =
     let h : (i .n < length (i .kinds)) × (i .n < length (i .places)) × (i .n < length (i .values)) × (i .at < 2048) = omega (arith, c .before .before .before .before .before .loop-test .taken, c .before .before .before .before .before .before .before .if1 .left, t .few, t .kinds .same-size, t .places .same-size, t .values .same-size, c .before .before .before .before .before .before .before .before .before .before .before .before .pre .0, c .before .before .before .before .before .before .before .before .before .before .before .before .pre .1, c .before .before .before .before .before .before .before .before .before .before .before .before .pre .2) in
     turn-token t (g .0 .0) (g .0 .1 .0) (g .0 .1 .1 .0) (c .before .before .before .before .before .loop-test .taken) (sym (c .before .before .before .before .piece-at .ensures) ∙ g .1) (c .first-large .result) (h .3) (h .0) (h .1) (h .2) (c .first-large .ensures)
 
--- src/lib.rt:320:5
 slice-write-kinds-2 : tie.Need-slice-write-kinds-2 Inv-loop μ-loop
 slice-write-kinds-2 c =
     let t = c .before .loop .inv in
     omega (arith, c .before .before .if1 .left, t .inside, t .few, t .kinds .same-size, t .places .same-size, t .values .same-size, c .before .before .before .before .before .before .before .pre .0, c .before .before .before .before .before .before .before .pre .1, c .before .before .before .before .before .before .before .pre .2)
 
--- src/lib.rt:321:17
 cast-places-2 : tie.Need-cast-places-2 Inv-loop μ-loop
 cast-places-2 c =
     let t = c .before .loop .inv in
     omega (arith, c .before .before .if1 .left, t .inside, t .few, t .kinds .same-size, t .places .same-size, t .values .same-size, c .before .before .before .before .before .before .before .pre .0, c .before .before .before .before .before .before .before .pre .1, c .before .before .before .before .before .before .before .pre .2)
 
--- src/lib.rt:321:5
 mul-places-2 : tie.Need-mul-places-2 Inv-loop μ-loop
 mul-places-2 c =
     let t = c .before .loop .inv in
     omega (arith, c .before .before .if1 .left, t .inside, t .few, t .kinds .same-size, t .places .same-size, t .values .same-size, c .before .before .before .before .before .before .before .pre .0, c .before .before .before .before .before .before .before .pre .1, c .before .before .before .before .before .before .before .pre .2)
 
--- src/lib.rt:321:5
 slice-write-places-2 : tie.Need-slice-write-places-2 Inv-loop μ-loop
 slice-write-places-2 c =
     let t = c .before .loop .inv in
     omega (arith, c .before .before .if1 .left, t .inside, t .few, t .kinds .same-size, t .places .same-size, t .values .same-size, c .before .before .before .before .before .before .before .pre .0, c .before .before .before .before .before .before .before .pre .1, c .before .before .before .before .before .before .before .pre .2)
 
--- src/lib.rt:322:5
 mul-values-2 : tie.Need-mul-values-2 Inv-loop μ-loop
 mul-values-2 c =
     let t = c .before .loop .inv in
     omega (arith, c .before .before .if1 .left, t .inside, t .few, t .kinds .same-size, t .places .same-size, t .values .same-size, c .before .before .before .before .before .before .before .pre .0, c .before .before .before .before .before .before .before .pre .1, c .before .before .before .before .before .before .before .pre .2)
 
--- src/lib.rt:322:5
 slice-write-values-2 : tie.Need-slice-write-values-2 Inv-loop μ-loop
 slice-write-values-2 c =
     let t = c .before .loop .inv in
     omega (arith, c .before .before .if1 .left, t .inside, t .few, t .kinds .same-size, t .places .same-size, t .values .same-size, c .before .before .before .before .before .before .before .pre .0, c .before .before .before .before .before .before .before .pre .1, c .before .before .before .before .before .before .before .pre .2)
 
--- src/lib.rt:324:9
 same-length-4 : tie.Need-same-length-4 Inv-loop μ-loop
 same-length-4 c = length-set (c .before .before .loop .kinds) (c .before .before .loop .n) 0 ∙ c .before .before .loop .inv .kinds .same-size
 
--- src/lib.rt:324:9
 same-length-5 : tie.Need-same-length-5 Inv-loop μ-loop
 same-length-5 c = length-set (c .before .before .loop .places) (c .before .before .loop .n) (c .before .before .loop .at) ∙ c .before .before .loop .inv .places .same-size
 
--- src/lib.rt:324:9
 same-length-6 : tie.Need-same-length-6 Inv-loop μ-loop
 same-length-6 c = length-set (c .before .before .loop .values) (c .before .before .loop .n) 0 ∙ c .before .before .loop .inv .values .same-size
 
--- src/lib.rt:324:9
 returns-3 : tie.Need-returns-3 Inv-loop μ-loop
 returns-3 c = turn-large (c .before .before .loop .inv) (c .before .loop-test .left) (c .if2 .taken)
 
--- src/lib.rt:326:19
 add-t11 : tie.Need-add-t11 Inv-loop μ-loop
 add-t11 c =
     let t = c .before .before .loop .inv in
     omega (arith, c .before .before .before .if1 .left, t .inside, t .few, t .kinds .same-size, t .places .same-size, t .values .same-size, c .before .before .before .before .before .before .before .before .pre .0, c .before .before .before .before .before .before .before .before .pre .1, c .before .before .before .before .before .before .before .before .pre .2)
 
--- src/lib.rt:292:1
 same-length-7 : tie.Need-same-length-7 Inv-loop μ-loop
 same-length-7 c = length-set (c .before .before .loop .kinds) (c .before .before .loop .n) 0 ∙ c .before .before .loop .inv .kinds .same-size
 
--- src/lib.rt:292:1
 same-length-8 : tie.Need-same-length-8 Inv-loop μ-loop
 same-length-8 c = length-set (c .before .before .loop .places) (c .before .before .loop .n) (c .before .before .loop .at) ∙ c .before .before .loop .inv .places .same-size
 
--- src/lib.rt:292:1
 same-length-9 : tie.Need-same-length-9 Inv-loop μ-loop
 same-length-9 c = length-set (c .before .before .loop .values) (c .before .before .loop .n) 0 ∙ c .before .before .loop .inv .values .same-size
 
--- src/lib.rt:292:1
 returns-4 : tie.Need-returns-4 Inv-loop μ-loop
 returns-4 c =
     let i = c .before .before .loop in

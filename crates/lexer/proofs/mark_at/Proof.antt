@@ -12,34 +12,27 @@ use Rattle.lexer.proofs.mark_at.Lts as lts
 use Rattle.lexer.proofs.pair.Reads as pair-reads
 use Rattle.lexer.proofs.single.Reads as single-reads
 
--- src/lib.rt:224:13
 shared-slice-read-b : tie.Need-shared-slice-read-b
 shared-slice-read-b c = search needs
 
--- src/lib.rt:225:16
 add-next : tie.Need-add-next
 add-next c = search needs
 
--- src/lib.rt:227:27
 shared-slice-read-pair : tie.Need-shared-slice-read-pair
 shared-slice-read-pair c = search needs
 
--- src/lib.rt:227:13
 pair-requires : tie.Need-pair-requires
 pair-requires c κs = search needs
 
--- src/lib.rt:229:13
 returns : tie.Need-returns
 returns c =
     let l = c .before .before .before .before .before .before .args .text .now in
     let i = c .before .before .before .before .before .before .args .at in
     pair-piece l i (c .before .before .before .before .before .before .pre .0) (omega (arith, c .before .before .before .before .before .shared-slice-known .given i)) (c .before .before .before .before .before .before .pre .1) (c .before .before .before .before .before .before .pre .2) (c .before .pair .result) (c .before .before .before .if1 .taken) (c .before .pair .ensures) (c .if2 .taken)
 
--- src/lib.rt:236:9
 single-requires : tie.Need-single-requires
 single-requires c κs = search needs
 
--- src/lib.rt:238:9
 returns-2 : tie.Need-returns-2
 returns-2 c =
     let l = c .before .before .before .before .before .args .text .now in
@@ -47,7 +40,6 @@ returns-2 c =
     let p = ⊎-elim (λ w. pair-here (getD l i 0) l (i + 1) (w .0 .taken) ∙ sym (w .2 .ensures) ∙ w .3 .left) (λ w. pair-past (getD l i 0) l (i + 1) (w .left)) (c .before .before .if1 .came) in
     single-piece l i (c .before .before .before .before .before .pre .0) (omega (arith, c .before .before .before .before .shared-slice-known .given i)) (c .before .before .before .before .before .pre .1) (c .before .before .before .before .before .pre .2) (c .before .single .result) p (c .before .single .ensures) (c .if3 .taken)
 
--- src/lib.rt:220:1
 returns-3 : tie.Need-returns-3
 returns-3 c =
     let l = c .before .before .before .before .before .args .text .now in

@@ -8,38 +8,30 @@ use Rattle.lexer.proofs.number_at.Lts as lts
 use Rattle.lexer.proofs.number_value.Reads as number-value-reads
 use Rattle.lexer.proofs.run_end.Reads as run-end-reads
 
--- src/lib.rt:209:29
 add-run-end : tie.Need-add-run-end
 add-run-end c = search needs
 
--- src/lib.rt:209:9
 run-end-requires : tie.Need-run-end-requires
 run-end-requires c κs = search needs
 
--- src/lib.rt:210:16
 sub-size : tie.Need-sub-size
 sub-size c = search needs
 
--- src/lib.rt:211:30
 sub-number-value : tie.Need-sub-number-value
 sub-number-value c = search needs
 
--- src/lib.rt:211:30
 part-number-value-start : tie.Need-part-number-value-start
 part-number-value-start c = search needs
 
--- src/lib.rt:211:30
 part-number-value-end : tie.Need-part-number-value-end
 part-number-value-end c = search needs
 
--- src/lib.rt:211:9
 number-value-requires : tie.Need-number-value-requires
 number-value-requires c κs =
     let l = c .before .before .before .args .text .now in
     let i = c .before .before .before .args .at in
     number-digits l i (c .before .before .before .pre .0) (omega (arith, c .before .before .shared-slice-known .given i)) (c .before .run-end .result) (c .before .before .before .pre .1) (c .before .run-end .ensures .0)
 
--- src/lib.rt:205:1
 returns : tie.Need-returns
 returns c =
     let l = c .before .before .before .before .args .text .now in

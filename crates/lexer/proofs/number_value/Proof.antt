@@ -17,33 +17,26 @@ Inv-loop digits value₀ i₀ value i = (i ≤ length digits) × (value ≤ limi
 abbrev μ-loop : tie.MeasureT-loop
 μ-loop digits value₀ i₀ value i = length digits - i
 
--- src/lib.rt:167:5
 loop-holds : tie.Need-loop-holds Inv-loop μ-loop
 loop-holds c = (omega arith, omega arith, refl)
 
--- src/lib.rt:168:35
 shared-slice-read-with-digit : tie.Need-shared-slice-read-with-digit Inv-loop μ-loop
 shared-slice-read-with-digit c = omega arith
 
--- src/lib.rt:168:9
 with-digit-requires : tie.Need-with-digit-requires Inv-loop μ-loop
 with-digit-requires c κs = (c .before .before .loop .inv .1, all-at isDigit (c .before .before .before .before .args .digits .now) (c .before .before .loop .i) (c .before .before .before .before .pre) (c .before .loop-test .taken))
 
--- src/lib.rt:169:9
 add-i : tie.Need-add-i Inv-loop μ-loop
 add-i c = omega arith
 
--- src/lib.rt:167:5
 loop-less : tie.Need-loop-less Inv-loop μ-loop
 loop-less c = omega arith
 
--- src/lib.rt:167:5
 loop-again : tie.Need-loop-again Inv-loop μ-loop
 loop-again c =
     let l = c .before .before .before .before .before .args .digits .now in
     (omega arith, omega (arith, c .with-digit .ensures), c .before .before .before .loop .inv .2 ∙ decimal-more l (c .before .before .before .loop .i) (c .before .before .before .loop .value) (c .before .before .loop-test .taken) ∙ ap (λ (v : ℕ). min (decimal v (drop (c .before .before .before .loop .i + 1) l)) limit) (sym (c .with-digit .ensures)))
 
--- src/lib.rt:161:1
 returns : tie.Need-returns Inv-loop μ-loop
 returns c =
     let l = c .before .before .before .args .digits .now in

@@ -9,52 +9,42 @@ use Rattle.lexer.proofs.pair.Tie as tie
 use Rattle.lexer.proofs.pair.Reads as reads
 use Rattle.lexer.proofs.pair.Lts as lts
 
--- src/lib.rt:66:17
 returns : tie.Need-returns
 unfolding kindIn same
 returns c = rw (c .before .if1 .taken, c .match .keys1)
 
--- src/lib.rt:69:17
 returns-2 : tie.Need-returns-2
 unfolding kindIn same
 returns-2 c = rw (c .before .if1 .taken, c .match .keys2)
 
--- src/lib.rt:72:17
 returns-3 : tie.Need-returns-3
 unfolding kindIn same
 returns-3 c = rw (c .before .if1 .taken, c .match .keys3)
 
--- src/lib.rt:75:17
 returns-4 : tie.Need-returns-4
 unfolding kindIn same
 returns-4 c = rw (c .before .if1 .taken, c .match .keys4)
 
--- src/lib.rt:78:17
 returns-5 : tie.Need-returns-5
 unfolding same
 returns-5 c = sym (kindIn-chain marks kEnd (c .before .before .args .b ∷ c .before .before .args .c ∷ []) ∙ rw (c .before .if1 .taken) (simp (and-false, ne-eqb _ _ (c .match .rest .0 .0 .0 .1), ne-eqb _ _ (c .match .rest .0 .0 .1), ne-eqb _ _ (c .match .rest .0 .1), ne-eqb _ _ (c .match .rest .1))))
 
--- src/lib.rt:84:13
 returns-6 : tie.Need-returns-6
 unfolding kindIn same
 returns-6 c = rw (c .before .if2 .taken, c .if3 .taken)
 
--- src/lib.rt:86:9
 returns-7 : tie.Need-returns-7
 unfolding same
 returns-7 c = sym (kindIn-chain marks kEnd (c .before .before .before .args .b ∷ c .before .before .before .args .c ∷ []) ∙ rw (c .before .if2 .taken) (simp (ne-eqb _ _ (c .if3 .left))))
 
--- src/lib.rt:90:13
 returns-8 : tie.Need-returns-8
 unfolding kindIn same
 returns-8 c = rw (c .before .if4 .taken, c .if5 .taken)
 
--- src/lib.rt:92:9
 returns-9 : tie.Need-returns-9
 unfolding same
 returns-9 c = sym (kindIn-chain marks kEnd (c .before .before .before .before .args .b ∷ c .before .before .before .before .args .c ∷ []) ∙ rw (c .before .if4 .taken) (simp (ne-eqb _ _ (c .if5 .left))))
 
--- src/lib.rt:60:1
 returns-10 : tie.Need-returns-10
 unfolding same
 returns-10 c = sym (kindIn-chain marks kEnd (c .before .before .before .args .b ∷ c .before .before .before .args .c ∷ []) ∙ simp (and-false, ne-eqb _ _ (c .before .before .if1 .left), ne-eqb _ _ (c .before .if2 .left), ne-eqb _ _ (c .if4 .left)))

@@ -14,44 +14,36 @@ use Rattle.lexer.proofs.mark_at.Reads as mark-at-reads
 use Rattle.lexer.proofs.name_at.Reads as name-at-reads
 use Rattle.lexer.proofs.number_at.Reads as number-at-reads
 
--- src/lib.rt:252:19
 shared-slice-read-class : tie.Need-shared-slice-read-class
 shared-slice-read-class c = search needs
 
--- src/lib.rt:252:9
 class-requires : tie.Need-class-requires
 class-requires c κs = search needs
 
--- src/lib.rt:254:9
 returns : tie.Need-returns
 returns c =
     let l = c .before .before .before .before .args .text .now in
     let i = c .before .before .before .before .args .at in
     blank-piece l i (c .before .before .before .before .pre .0) (omega (arith, c .before .before .before .shared-slice-known .given i)) (sym (c .before .class .ensures) ∙ c .if1 .taken)
 
--- src/lib.rt:257:9
 name-at-requires : tie.Need-name-at-requires
 name-at-requires c κs =
     let l = c .before .before .before .before .before .args .text .now in
     let i = c .before .before .before .before .before .args .at in
     (c .before .before .before .before .before .pre .0, c .before .before .before .before .before .pre .1, class-letter (getD l i 0) (omega (arith, c .before .before .before .before .shared-slice-known .given i)) ∙ eq-eqb _ _ (sym (c .before .before .class .ensures) ∙ c .if2 .taken))
 
--- src/lib.rt:257:9
 returns-2 : tie.Need-returns-2
 returns-2 c = search needs
 
--- src/lib.rt:260:9
 number-at-requires : tie.Need-number-at-requires
 number-at-requires c κs =
     let l = c .before .before .before .before .before .before .args .text .now in
     let i = c .before .before .before .before .before .before .args .at in
     (c .before .before .before .before .before .before .pre .0, class-digit (getD l i 0) (omega (arith, c .before .before .before .before .before .shared-slice-known .given i)) ∙ eq-eqb _ _ (sym (c .before .before .before .class .ensures) ∙ c .if3 .taken))
 
--- src/lib.rt:260:9
 returns-3 : tie.Need-returns-3
 returns-3 c = search needs
 
--- src/lib.rt:262:5
 mark-at-requires : tie.Need-mark-at-requires
 mark-at-requires c κs =
     let l = c .before .before .before .before .before .before .args .text .now in
@@ -60,7 +52,6 @@ mark-at-requires c κs =
     let f = class-four (getD l i 0) in
     (c .before .before .before .before .before .before .pre .0, omega (arith, c .before .if2 .left, c .if3 .left), λ e. c .before .before .if1 .left (k ∙ e))
 
--- src/lib.rt:248:1
 returns-4 : tie.Need-returns-4
 returns-4 c = search needs
 

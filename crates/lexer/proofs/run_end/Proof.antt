@@ -18,19 +18,15 @@ Inv-loop text at least end₀ end = (end ≤ length text) × (at + span (atLeast
 abbrev μ-loop : tie.MeasureT-loop
 μ-loop text at least end₀ end = length text - end
 
--- src/lib.rt:180:5
 loop-holds : tie.Need-loop-holds Inv-loop μ-loop
 loop-holds c = (c .before .pre, refl)
 
--- src/lib.rt:181:18
 shared-slice-read-class : tie.Need-shared-slice-read-class Inv-loop μ-loop
 shared-slice-read-class c = omega arith
 
--- src/lib.rt:181:12
 class-requires : tie.Need-class-requires Inv-loop μ-loop
 class-requires c κs = tt
 
--- src/lib.rt:182:13
 returns : tie.Need-returns Inv-loop μ-loop
 returns c =
     let l = c .before .before .before .before .before .before .args .text .now in
@@ -39,15 +35,12 @@ returns c =
     let s = span-stop (atLeast k) l e (c .before .before .before .loop-test .taken) (ap (leb k) (sym (c .before .class .ensures)) ∙ lt-leb k (c .before .class .result) (c .if1 .taken)) in
     (omega (arith, c .before .before .before .before .loop .inv .1), c .before .before .before .before .loop .inv .0)
 
--- src/lib.rt:184:9
 add-end : tie.Need-add-end Inv-loop μ-loop
 add-end c = omega arith
 
--- src/lib.rt:180:5
 loop-less : tie.Need-loop-less Inv-loop μ-loop
 loop-less c = omega arith
 
--- src/lib.rt:180:5
 loop-again : tie.Need-loop-again Inv-loop μ-loop
 loop-again c =
     let l = c .before .before .before .before .before .before .args .text .now in
@@ -56,7 +49,6 @@ loop-again c =
     let s = span-more (atLeast k) l e (c .before .before .before .loop-test .taken) (ap (leb k) (sym (c .before .class .ensures)) ∙ le-leb k (c .before .class .result) (c .if1 .left)) in
     (omega arith, omega (arith, c .before .before .before .before .loop .inv .1))
 
--- src/lib.rt:175:1
 returns-2 : tie.Need-returns-2 Inv-loop μ-loop
 returns-2 c =
     let s = span-end (atLeast (c .before .before .before .args .least)) (c .before .before .before .args .text .now) (c .before .loop .end) (c .loop-test .left) in

@@ -15,23 +15,18 @@ Inv-loop a b i₀ i = (i ≤ length a) × (same a b ≡ same (drop i a) (drop i 
 abbrev μ-loop : tie.MeasureT-loop
 μ-loop a b i₀ i = length a - i
 
--- src/lib.rt:102:9
 returns : tie.Need-returns Inv-loop μ-loop
 returns c = sym (same-sizes (c .before .args .a .now) (c .before .args .b .now) (c .if1 .taken))
 
--- src/lib.rt:105:5
 loop-holds : tie.Need-loop-holds Inv-loop μ-loop
 loop-holds c = (omega arith, refl)
 
--- src/lib.rt:106:12
 shared-slice-read-if2 : tie.Need-shared-slice-read-if2 Inv-loop μ-loop
 shared-slice-read-if2 c = omega arith
 
--- src/lib.rt:106:20
 shared-slice-read-if2-2 : tie.Need-shared-slice-read-if2-2 Inv-loop μ-loop
 shared-slice-read-if2-2 c = omega arith
 
--- src/lib.rt:107:13
 returns-2 : tie.Need-returns-2 Inv-loop μ-loop
 returns-2 c =
     let a = c .before .before .before .before .before .before .args .a .now in
@@ -41,15 +36,12 @@ returns-2 c =
     let k : i < length b = omega (arith, c .before .before .before .before .before .if1 .left) in
     sym (c .before .before .before .before .loop .inv .1 ∙ same-not a b i h k (c .if2 .taken))
 
--- src/lib.rt:109:9
 add-i : tie.Need-add-i Inv-loop μ-loop
 add-i c = omega arith
 
--- src/lib.rt:105:5
 loop-less : tie.Need-loop-less Inv-loop μ-loop
 loop-less c = omega arith
 
--- src/lib.rt:105:5
 loop-again : tie.Need-loop-again Inv-loop μ-loop
 loop-again c =
     let a = c .before .before .before .before .before .before .args .a .now in
@@ -59,7 +51,6 @@ loop-again c =
     let k : i < length b = omega (arith, c .before .before .before .before .before .if1 .left) in
     (omega arith, c .before .before .before .before .loop .inv .1 ∙ same-more a b i h k (c .if2 .left))
 
--- src/lib.rt:98:1
 returns-3 : tie.Need-returns-3 Inv-loop μ-loop
 returns-3 c =
     let a = c .before .before .before .args .a .now in

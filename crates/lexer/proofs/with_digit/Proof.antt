@@ -6,31 +6,24 @@ use Rattle.lexer.proofs.with_digit.Tie as tie
 use Rattle.lexer.proofs.with_digit.Reads as reads
 use Rattle.lexer.proofs.with_digit.Lts as lts
 
--- src/lib.rt:153:16
 mul-more : tie.Need-mul-more
 mul-more c = search needs
 
--- src/lib.rt:153:40
 sub-more : tie.Need-sub-more
 sub-more c = omega (arith, digit-bounds (c .args .digit) (c .pre .1))
 
--- src/lib.rt:153:39
 cast-more : tie.Need-cast-more
 cast-more c = search needs
 
--- src/lib.rt:153:16
 add-more : tie.Need-add-more
 add-more c = search needs
 
--- src/lib.rt:155:16
 cast-result : tie.Need-cast-result
 cast-result c = search needs
 
--- src/lib.rt:155:9
 returns : tie.Need-returns
 returns c = search needs
 
--- src/lib.rt:149:1
 returns-2 : tie.Need-returns-2
 returns-2 c = search needs
 

@@ -29,47 +29,36 @@ put-natural-below t =
 abbrev put-natural-C : ℕ → put-natural-lts.Claims
 put-natural-C t = (digit-reads.Asked, digit-reads.Learnt, put-natural-below t, put-natural.Post)
 
--- src/lib.rt:199:19
 put-natural-digit-requires : (t : ℕ) → put-natural-lts.Need-digit-requires (put-natural-C t) (put-natural-at t) put-natural.Post
 put-natural-digit-requires t c κs = c .if1 .taken
 
--- src/lib.rt:199:9
 put-natural-slice-write-out : (t : ℕ) → put-natural-lts.Need-slice-write-out (put-natural-C t) (put-natural-at t) put-natural.Post
 put-natural-slice-write-out t c = omega (arith, c .before .before .before .pre .1, ap length (natural-one (c .before .before .before .args .n) (c .before .if1 .taken)))
 
--- src/lib.rt:200:16
 put-natural-add-result : (t : ℕ) → put-natural-lts.Need-add-result (put-natural-C t) (put-natural-at t) put-natural.Post
 put-natural-add-result t c = omega (arith, c .before .before .before .pre .1, ap length (natural-one (c .before .before .before .args .n) (c .before .if1 .taken)))
 
--- src/lib.rt:200:9
 put-natural-same-length : (t : ℕ) → put-natural-lts.Need-same-length (put-natural-C t) (put-natural-at t) put-natural.Post
 put-natural-same-length t c = length-set (c .before .before .before .args .out .now) (c .before .before .before .args .at) (c .digit .result)
 
--- src/lib.rt:200:9
 put-natural-returns : (t : ℕ) → put-natural-lts.Need-returns (put-natural-C t) (put-natural-at t) put-natural.Post
 put-natural-returns t c = put-one (c .before .before .before .args .out .now) (c .before .before .before .args .at) (c .before .before .before .args .n) (c .digit .result) (c .before .if1 .taken) (c .digit .ensures)
 
--- src/lib.rt:202:9
 put-natural-put-natural-requires : (t : ℕ) → put-natural-lts.Need-put-natural-requires (put-natural-C t) (put-natural-at t) put-natural.Post
 put-natural-put-natural-requires t c κs = (omega (arith, c .before .before .before .pre .0, c .before .if1 .left), omega (arith, c .before .before .before .pre .1, more-length (c .before .before .before .args .n) (c .before .if1 .left)))
 
--- src/lib.rt:203:14
 put-natural-digit-requires-2 : (t : ℕ) → put-natural-lts.Need-digit-requires-2 (put-natural-C t) (put-natural-at t) put-natural.Post
 put-natural-digit-requires-2 t c κs = omega arith
 
--- src/lib.rt:203:5
 put-natural-slice-write-out-2 : (t : ℕ) → put-natural-lts.Need-slice-write-out-2 (put-natural-C t) (put-natural-at t) put-natural.Post
 put-natural-slice-write-out-2 t c = omega (arith, c .before .before .before .before .before .before .before .pre .1, more-length (c .before .before .before .before .before .before .before .args .n) (c .before .before .before .before .before .if1 .left), c .before .before .before .put-natural .ensures .past, put-length (c .before .before .before .put-natural .ensures))
 
--- src/lib.rt:204:5
 put-natural-add-result-2 : (t : ℕ) → put-natural-lts.Need-add-result-2 (put-natural-C t) (put-natural-at t) put-natural.Post
 put-natural-add-result-2 t c = omega (arith, c .before .before .before .before .before .before .before .pre .1, more-length (c .before .before .before .before .before .before .before .args .n) (c .before .before .before .before .before .if1 .left), c .before .before .before .put-natural .ensures .past)
 
--- src/lib.rt:194:1
 put-natural-same-length-2 : (t : ℕ) → put-natural-lts.Need-same-length-2 (put-natural-C t) (put-natural-at t) put-natural.Post
 put-natural-same-length-2 t c = length-set (c .before .before .before .put-natural .last .0) (c .before .before .before .put-natural .result) (c .digit2 .result) ∙ put-length (c .before .before .before .put-natural .ensures)
 
--- src/lib.rt:194:1
 put-natural-returns-2 : (t : ℕ) → put-natural-lts.Need-returns-2 (put-natural-C t) (put-natural-at t) put-natural.Post
 put-natural-returns-2 t c = put-last (c .before .before .before .before .before .before .before .args .n) (c .digit2 .result) (c .before .before .before .before .before .if1 .left) (c .digit2 .ensures) (c .before .before .before .put-natural .ensures)
 

@@ -16,47 +16,36 @@ Inv-loop digits value₀ i₀ value i = (i ≤ length digits) × (value < 10 ^ i
 abbrev μ-loop : tie.MeasureT-loop
 μ-loop digits value₀ i₀ value i = length digits - i
 
--- src/lib.rt:55:5
 loop-holds : tie.Need-loop-holds Inv-loop μ-loop
 loop-holds c = (omega arith, omega arith, refl)
 
--- src/lib.rt:56:17
 shared-slice-read-d : tie.Need-shared-slice-read-d Inv-loop μ-loop
 shared-slice-read-d c = omega arith
 
--- src/lib.rt:58:13
 returns : tie.Need-returns Inv-loop μ-loop
 returns c = sym (c .before .before .before .loop .inv .2 ∙ valued-stop (c .before .before .before .before .before .args .digits .now) (c .before .before .before .loop .i) (c .before .before .before .loop .value) (c .before .before .loop-test .taken) (no-digit-low _ (c .if1 .taken)))
 
--- src/lib.rt:61:13
 returns-2 : tie.Need-returns-2 Inv-loop μ-loop
 returns-2 c = sym (c .before .before .before .before .loop .inv .2 ∙ valued-stop (c .before .before .before .before .before .before .args .digits .now) (c .before .before .before .before .loop .i) (c .before .before .before .before .loop .value) (c .before .before .before .loop-test .taken) (no-digit-high _ (c .if2 .taken)))
 
--- src/lib.rt:63:17
 mul-value : tie.Need-mul-value Inv-loop μ-loop
 mul-value c = omega (arith, ten-digits (c .before .before .before .before .loop .value) (c .before .before .before .before .loop .i) (omega (arith, c .before .before .before .before .before .before .pre, c .before .before .before .loop-test .taken)) (c .before .before .before .before .loop .inv .1))
 
--- src/lib.rt:63:30
 wide-requires : tie.Need-wide-requires Inv-loop μ-loop
 wide-requires c κs = tt
 
--- src/lib.rt:63:17
 add-value : tie.Need-add-value Inv-loop μ-loop
 add-value c = omega (arith, c .wide .ensures, c .before .if2 .left, ten-digits (c .before .before .before .before .before .loop .value) (c .before .before .before .before .before .loop .i) (omega (arith, c .before .before .before .before .before .before .before .pre, c .before .before .before .before .loop-test .taken)) (c .before .before .before .before .before .loop .inv .1))
 
--- src/lib.rt:64:9
 add-i : tie.Need-add-i Inv-loop μ-loop
 add-i c = omega arith
 
--- src/lib.rt:55:5
 loop-less : tie.Need-loop-less Inv-loop μ-loop
 loop-less c = omega arith
 
--- src/lib.rt:55:5
 loop-again : tie.Need-loop-again Inv-loop μ-loop
 loop-again c = (omega arith, more-digits (c .before .before .before .before .before .loop .value) (c .wide .result) (c .before .before .before .before .before .loop .i) (c .before .before .before .before .before .loop .inv .1) (omega (arith, c .wide .ensures, c .before .if2 .left)), c .before .before .before .before .before .loop .inv .2 ∙ valued-more (c .before .before .before .before .before .before .before .args .digits .now) (c .before .before .before .before .before .loop .i) (c .before .before .before .before .before .loop .value) (c .before .before .before .before .loop-test .taken) (digit _ (c .before .before .if1 .left) (c .before .if2 .left)) ∙ ap (λ (x : ℕ). valued (10 * c .before .before .before .before .before .loop .value + x) (drop (c .before .before .before .before .before .loop .i + 1) (c .before .before .before .before .before .before .before .args .digits .now))) (sym (c .wide .ensures)))
 
--- src/lib.rt:49:1
 returns-3 : tie.Need-returns-3 Inv-loop μ-loop
 returns-3 c = sym (c .before .loop .inv .2 ∙ valued-end (c .before .before .before .args .digits .now) (c .before .loop .i) (c .before .loop .value) (c .loop-test .left))
 

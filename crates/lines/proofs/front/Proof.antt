@@ -10,23 +10,18 @@ use Rattle.lines.proofs.front.Reads as reads
 use Rattle.lines.proofs.front.Lts as lts
 use Rattle.lines.proofs.place.Reads as place-reads
 
--- src/lib.rt:110:9
 place-requires : tie.Need-place-requires
 place-requires c κs = search needs
 
--- src/lib.rt:111:5
 sub-result : tie.Need-sub-result
 sub-result c = search needs
 
--- src/lib.rt:111:5
 part-result-start : tie.Need-part-result-start
 part-result-start c = search needs
 
--- src/lib.rt:111:5
 part-result-end : tie.Need-part-result-end
 part-result-end c = search needs
 
--- src/lib.rt:107:1
 returns : tie.Need-returns
 returns c =
     let e : c .before .place .result - 0 ≡ place (c .before .before .before .args .b) (c .before .before .before .args .s .now) = omega (arith, c .before .place .ensures .0) in

@@ -15,59 +15,45 @@ use Rattle.lines.proofs.job_with.Reads as job-with-reads
 use Rattle.lines.proofs.number.Reads as number-reads
 use Rattle.lines.proofs.tail.Reads as tail-reads
 
--- src/lib.rt:151:26
 front-requires : tie.Need-front-requires
 front-requires c κs = search needs
 
--- src/lib.rt:151:45
 slice-aggregate-same-bytes : tie.Need-slice-aggregate-same-bytes
 slice-aggregate-same-bytes c = search needs
 
--- src/lib.rt:151:8
 same-bytes-requires : tie.Need-same-bytes-requires
 same-bytes-requires c κs = search needs
 
--- src/lib.rt:152:13
 tail-requires : tie.Need-tail-requires
 tail-requires c κs = search needs
 
--- src/lib.rt:153:26
 front-requires-2 : tie.Need-front-requires-2
 front-requires-2 c κs = search needs
 
--- src/lib.rt:153:13
 number-requires : tie.Need-number-requires
 number-requires c κs = search needs
 
--- src/lib.rt:154:13
 tail-requires-2 : tie.Need-tail-requires-2
 tail-requires-2 c κs = search needs
 
--- src/lib.rt:155:27
 front-requires-3 : tie.Need-front-requires-3
 front-requires-3 c κs = search needs
 
--- src/lib.rt:155:13
 number-requires-2 : tie.Need-number-requires-2
 number-requires-2 c κs = search needs
 
--- src/lib.rt:156:28
 tail-requires-3 : tie.Need-tail-requires-3
 tail-requires-3 c κs = search needs
 
--- src/lib.rt:156:13
 number-requires-3 : tie.Need-number-requires-3
 number-requires-3 c κs = search needs
 
--- src/lib.rt:157:9
 job-with-requires : tie.Need-job-with-requires
 job-with-requires c κs = search needs
 
--- src/lib.rt:157:9
 returns : tie.Need-returns
 returns c = c .job-with .ensures ∙ read-line (c .before .before .before .before .before .before .before .before .before .before .before .before .before .before .args .text) (c .before .before .before .before .before .before .before .before .before .before .before .before .before .before .args .line .now) (c .before .before .before .before .before .before .before .before .tail .result .now) (c .before .before .before .before .before .before .before .front2 .result .now) (c .before .before .before .before .before .tail2 .result .now) (c .before .before .before .before .front3 .result .now) (c .before .before .tail3 .result .now) (c .before .before .before .before .before .before .number .result) (c .before .before .before .number2 .result) (c .before .number3 .result) (ap (λ (k : List ℕ). same k (bytes "job")) (sym (c .before .before .before .before .before .before .before .before .before .before .before .before .front .ensures)) ∙ sym (c .before .before .before .before .before .before .before .before .before .before .same-bytes .ensures) ∙ c .before .before .before .before .before .before .before .before .before .if1 .taken) (c .before .before .before .before .before .before .before .before .tail .ensures) (c .before .before .before .before .before .before .before .front2 .ensures) (c .before .before .before .before .before .before .number .ensures) (c .before .before .before .before .before .tail2 .ensures) (c .before .before .before .before .front3 .ensures) (c .before .before .before .number2 .ensures) (c .before .before .tail3 .ensures) (c .before .number3 .ensures)
 
--- src/lib.rt:148:1
 returns-2 : tie.Need-returns-2
 returns-2 c = sym (no-job (c .before .before .before .before .before .args .text) (c .before .before .before .before .before .args .line .now) (ap (λ (k : List ℕ). same k (bytes "job")) (sym (c .before .before .before .front .ensures)) ∙ sym (c .before .same-bytes .ensures) ∙ c .if1 .left))
 

@@ -12,35 +12,27 @@ use Rattle.lines.proofs.job_line.Lts as lts
 use Rattle.lines.proofs.job_in.Reads as job-in-reads
 use Rattle.lines.proofs.place.Reads as place-reads
 
--- src/lib.rt:166:9
 place-requires : tie.Need-place-requires
 place-requires c κs = search needs
 
--- src/lib.rt:168:9
 returns : tie.Need-returns
 returns c = sym (no-line (c .before .before .before .args .input .now) (sym (c .before .place .ensures .0) ∙ c .if1 .taken))
 
--- src/lib.rt:170:12
 sub-job-in : tie.Need-sub-job-in
 sub-job-in c = search needs
 
--- src/lib.rt:170:12
 part-job-in-start : tie.Need-part-job-in-start
 part-job-in-start c = search needs
 
--- src/lib.rt:170:12
 part-job-in-end : tie.Need-part-job-in-end
 part-job-in-end c = search needs
 
--- src/lib.rt:170:28
 add-job-in : tie.Need-add-job-in
 add-job-in c = search needs
 
--- src/lib.rt:170:5
 job-in-requires : tie.Need-job-in-requires
 job-in-requires c κs = search needs
 
--- src/lib.rt:163:1
 returns-2 : tie.Need-returns-2
 returns-2 c =
     let l = c .before .before .before .before .before .args .input .now in

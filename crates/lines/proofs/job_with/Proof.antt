@@ -13,39 +13,30 @@ use Rattle.lines.proofs.job_with.Reads as reads
 use Rattle.lines.proofs.job_with.Lts as lts
 use Rattle.ints.proofs.signed.Reads as signed-reads
 
--- src/lib.rt:131:9
 returns : tie.Need-returns
 returns c = rw (read-none (c .before .args .low) (c .if1 .taken))
 
--- src/lib.rt:134:9
 returns-2 : tie.Need-returns-2
 returns-2 c = rw (read-none (c .before .before .args .high) (c .if2 .taken)) (sym (no-high (c .before .before .args .text) (read (c .before .before .args .low)) (read (c .before .before .args .steps))))
 
--- src/lib.rt:137:9
 returns-3 : tie.Need-returns-3
 returns-3 c = sym (no-steps (c .before .before .before .args .text) (read (c .before .before .before .args .low)) (read (c .before .before .before .args .high)) (c .before .before .before .args .steps) (c .if3 .taken))
 
--- src/lib.rt:140:27
 cast-signed : tie.Need-cast-signed
 cast-signed c = search needs
 
--- src/lib.rt:140:14
 signed-requires : tie.Need-signed-requires
 signed-requires c κs = search needs
 
--- src/lib.rt:141:28
 cast-signed-2 : tie.Need-cast-signed-2
 cast-signed-2 c = search needs
 
--- src/lib.rt:141:15
 signed-requires-2 : tie.Need-signed-requires-2
 signed-requires-2 c κs = search needs
 
--- src/lib.rt:142:16
 cast-t10 : tie.Need-cast-t10
 cast-t10 c = search needs
 
--- src/lib.rt:127:1
 returns-4 : tie.Need-returns-4
 returns-4 c =
     let low = c .before .before .before .before .before .args .low in

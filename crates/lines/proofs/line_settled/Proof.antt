@@ -12,15 +12,12 @@ use Rattle.lines.proofs.line_settled.Reads as reads
 use Rattle.lines.proofs.line_settled.Lts as lts
 use Rattle.lines.proofs.place.Reads as place-reads
 
--- src/lib.rt:183:9
 returns : tie.Need-returns
 returns c = rw (le-leb _ _ (c .if1 .taken))
 
--- src/lib.rt:185:5
 place-requires : tie.Need-place-requires
 place-requires c κs = search needs
 
--- src/lib.rt:179:1
 returns-2 : tie.Need-returns-2
 returns-2 c = rw (lt-leb _ _ (c .before .if1 .left), c .place .ensures .0)
 

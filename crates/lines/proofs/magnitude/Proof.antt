@@ -10,19 +10,15 @@ use Rattle.lines.proofs.magnitude.Reads as reads
 use Rattle.lines.proofs.magnitude.Lts as lts
 use Rattle.lines.proofs.digits_value.Reads as digits-value-reads
 
--- src/lib.rt:74:9
 returns : tie.Need-returns
 returns c = sym (no-magnitude (c .before .before .args .digits .now) (rw (lt-leb 1 (length (c .before .before .args .digits .now)) (omega (arith, c .if1 .taken)))))
 
--- src/lib.rt:77:9
 returns-2 : tie.Need-returns-2
 returns-2 c = sym (no-magnitude (c .before .before .before .args .digits .now) (rw (le-leb 1 (length (c .before .before .before .args .digits .now)) (omega (arith, c .before .if1 .left)), lt-leb (length (c .before .before .before .args .digits .now)) 10 (c .if2 .taken))))
 
--- src/lib.rt:79:5
 digits-value-requires : tie.Need-digits-value-requires
 digits-value-requires c κs = search needs
 
--- src/lib.rt:70:1
 returns-3 : tie.Need-returns-3
 returns-3 c = c .digits-value .ensures ∙ sym (a-magnitude (c .before .before .before .before .args .digits .now) (rw (le-leb 1 (length (c .before .before .before .before .args .digits .now)) (omega (arith, c .before .before .if1 .left)), le-leb (length (c .before .before .before .before .args .digits .now)) 10 (c .before .if2 .left))))
 

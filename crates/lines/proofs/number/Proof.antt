@@ -10,55 +10,42 @@ use Rattle.lines.proofs.number.Reads as reads
 use Rattle.lines.proofs.number.Lts as lts
 use Rattle.lines.proofs.magnitude.Reads as magnitude-reads
 
--- src/lib.rt:87:9
 returns : tie.Need-returns
 returns c = no-number (c .before .before .args .word .now) (c .if1 .taken)
 
--- src/lib.rt:89:8
 shared-slice-read-if2 : tie.Need-shared-slice-read-if2
 shared-slice-read-if2 c = search needs
 
--- src/lib.rt:90:27
 sub-magnitude : tie.Need-sub-magnitude
 sub-magnitude c = search needs
 
--- src/lib.rt:90:27
 part-magnitude-start : tie.Need-part-magnitude-start
 part-magnitude-start c = search needs
 
--- src/lib.rt:90:27
 part-magnitude-end : tie.Need-part-magnitude-end
 part-magnitude-end c = search needs
 
--- src/lib.rt:90:13
 magnitude-requires : tie.Need-magnitude-requires
 magnitude-requires c κs = search needs
 
--- src/lib.rt:92:13
 returns-2 : tie.Need-returns-2
 returns-2 c = minus-zero (drop 1 (c .before .before .before .before .before .before .before .args .word .now)) (c .before .magnitude .result) (c .before .magnitude .ensures ∙ ap magnitudeOf (whole-rest (c .before .before .before .before .before .before .before .args .word .now) 1)) (c .if3 .taken) ∙ with-minus (c .before .before .before .before .before .before .before .args .word .now) (c .before .before .before .before .before .if1 .left) (c .before .before .before .if2 .taken)
 
--- src/lib.rt:95:20
 sub-result : tie.Need-sub-result
 sub-result c = search needs
 
--- src/lib.rt:95:13
 returns-3 : tie.Need-returns-3
 returns-3 c = minus-good (drop 1 (c .before .before .before .before .before .before .before .before .args .word .now)) (c .before .before .magnitude .result) (c .before .before .magnitude .ensures ∙ ap magnitudeOf (whole-rest (c .before .before .before .before .before .before .before .before .args .word .now) 1)) (c .before .if3 .left) (c .if4 .taken) ∙ with-minus (c .before .before .before .before .before .before .before .before .args .word .now) (c .before .before .before .before .before .before .if1 .left) (c .before .before .before .before .if2 .taken)
 
--- src/lib.rt:97:9
 returns-4 : tie.Need-returns-4
 returns-4 c = minus-none (drop 1 (c .before .before .before .before .before .before .before .before .args .word .now)) (c .before .before .magnitude .result) (c .before .before .magnitude .ensures ∙ ap magnitudeOf (whole-rest (c .before .before .before .before .before .before .before .before .args .word .now) 1)) (c .if4 .left) ∙ with-minus (c .before .before .before .before .before .before .before .before .args .word .now) (c .before .before .before .before .before .before .if1 .left) (c .before .before .before .before .if2 .taken)
 
--- src/lib.rt:99:9
 magnitude-requires-2 : tie.Need-magnitude-requires-2
 magnitude-requires-2 c κs = search needs
 
--- src/lib.rt:101:9
 returns-5 : tie.Need-returns-5
 returns-5 c = plain-good (c .before .before .before .before .before .before .args .word .now) (c .before .magnitude2 .result) (c .before .magnitude2 .ensures) (c .if5 .taken) ∙ without-minus (c .before .before .before .before .before .before .args .word .now) (c .before .before .before .before .if1 .left) (c .before .before .if2 .left)
 
--- src/lib.rt:83:1
 returns-6 : tie.Need-returns-6
 returns-6 c = plain-none (c .before .before .before .before .before .before .args .word .now) (c .before .magnitude2 .result) (c .before .magnitude2 .ensures) (c .if5 .left) ∙ without-minus (c .before .before .before .before .before .before .args .word .now) (c .before .before .before .before .if1 .left) (c .before .before .if2 .left)
 

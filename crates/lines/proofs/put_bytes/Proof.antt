@@ -16,43 +16,33 @@ Inv-loop out₀ at word i₀ out i = (i ≤ length word) × (out ≡ sets out₀
 abbrev μ-loop : tie.MeasureT-loop
 μ-loop out₀ at word i₀ out i = length word - i
 
--- src/lib.rt:179:5
 loop-holds : tie.Need-loop-holds Inv-loop μ-loop
 loop-holds c = (omega arith, refl)
 
--- src/lib.rt:180:23
 shared-slice-read-out : tie.Need-shared-slice-read-out Inv-loop μ-loop
 shared-slice-read-out c = omega arith
 
--- src/lib.rt:180:13
 add-out : tie.Need-add-out Inv-loop μ-loop
 add-out c = omega (arith, c .before .before .before .pre, c .before .loop-test .taken)
 
--- src/lib.rt:180:9
 slice-write-out : tie.Need-slice-write-out Inv-loop μ-loop
 slice-write-out c = omega (arith, c .before .before .before .pre, c .before .loop-test .taken, ap length (c .before .before .loop .inv .1) ∙ length-sets (c .before .before .before .args .out .now) (c .before .before .before .args .at) (take (c .before .before .loop .i) (c .before .before .before .args .word .now)))
 
--- src/lib.rt:181:9
 add-i : tie.Need-add-i Inv-loop μ-loop
 add-i c = omega arith
 
--- src/lib.rt:179:5
 loop-less : tie.Need-loop-less Inv-loop μ-loop
 loop-less c = omega arith
 
--- src/lib.rt:179:5
 loop-again : tie.Need-loop-again Inv-loop μ-loop
 loop-again c = (omega arith, put-copied (c .before .before .before .args .out .now) (c .before .before .before .args .word .now) (c .before .before .before .args .at) (c .before .before .loop .i) (c .before .before .loop .out) (c .before .loop-test .taken) (c .before .before .loop .inv .1))
 
--- src/lib.rt:183:5
 add-result : tie.Need-add-result Inv-loop μ-loop
 add-result c = omega (arith, c .before .before .pre, c .before .loop .inv .0)
 
--- src/lib.rt:174:1
 same-length : tie.Need-same-length Inv-loop μ-loop
 same-length c = ap length (c .before .loop .inv .1) ∙ length-sets (c .before .before .args .out .now) (c .before .before .args .at) (take (c .before .loop .i) (c .before .before .args .word .now))
 
--- src/lib.rt:174:1
 returns : tie.Need-returns Inv-loop μ-loop
 returns c = record { past = omega (arith, c .before .loop .inv .0, c .loop-test .left); kept = c .before .loop .inv .1 ∙ ap (λ (s : List ℕ). sets (c .before .before .args .out .now) (c .before .before .args .at) s) (take-all (c .before .loop .i) (c .before .before .args .word .now) (c .loop-test .left)) }
 

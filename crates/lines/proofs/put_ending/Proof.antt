@@ -13,70 +13,54 @@ use Rattle.lines.proofs.put_ending.Reads as reads
 use Rattle.lines.proofs.put_ending.Lts as lts
 use Rattle.lines.proofs.put_bytes.Reads as put-bytes-reads
 
--- src/lib.rt:273:33
 slice-aggregate-put-bytes : tie.Need-slice-aggregate-put-bytes
 slice-aggregate-put-bytes c = search needs
 
--- src/lib.rt:273:14
 put-bytes-requires : tie.Need-put-bytes-requires
 put-bytes-requires c κs = search needs
 
--- src/lib.rt:274:33
 slice-aggregate-put-bytes-2 : tie.Need-slice-aggregate-put-bytes-2
 slice-aggregate-put-bytes-2 c = search needs
 
--- src/lib.rt:274:14
 put-bytes-requires-2 : tie.Need-put-bytes-requires-2
 put-bytes-requires-2 c κs = search needs
 
--- src/lib.rt:275:33
 slice-aggregate-put-bytes-3 : tie.Need-slice-aggregate-put-bytes-3
 slice-aggregate-put-bytes-3 c = search needs
 
--- src/lib.rt:275:14
 put-bytes-requires-3 : tie.Need-put-bytes-requires-3
 put-bytes-requires-3 c κs = search needs
 
--- src/lib.rt:276:33
 slice-aggregate-put-bytes-4 : tie.Need-slice-aggregate-put-bytes-4
 slice-aggregate-put-bytes-4 c = search needs
 
--- src/lib.rt:276:14
 put-bytes-requires-4 : tie.Need-put-bytes-requires-4
 put-bytes-requires-4 c κs = search needs
 
--- src/lib.rt:268:1
 same-length : tie.Need-same-length
 same-length c = search needs
 
--- src/lib.rt:268:1
 returns : tie.Need-returns
 unfolding ending
 returns c = (put-as (sym (ap (λ (n : ℕ). ending (endingAt n)) (c .before .before .before .before .before .match .keys1))) (c .before .before .put-bytes .ensures), omega (arith, c .before .before .put-bytes .ensures .past))
 
--- src/lib.rt:268:1
 same-length-2 : tie.Need-same-length-2
 same-length-2 c = search needs
 
--- src/lib.rt:268:1
 returns-2 : tie.Need-returns-2
 unfolding ending
 returns-2 c = (put-as (sym (ap (λ (n : ℕ). ending (endingAt n)) (c .before .before .before .before .before .match .keys2))) (c .before .before .put-bytes2 .ensures), omega (arith, c .before .before .put-bytes2 .ensures .past))
 
--- src/lib.rt:268:1
 same-length-3 : tie.Need-same-length-3
 same-length-3 c = search needs
 
--- src/lib.rt:268:1
 returns-3 : tie.Need-returns-3
 unfolding ending
 returns-3 c = (put-as (sym (ap (λ (n : ℕ). ending (endingAt n)) (c .before .before .before .before .before .match .keys3))) (c .before .before .put-bytes3 .ensures), omega (arith, c .before .before .put-bytes3 .ensures .past))
 
--- src/lib.rt:268:1
 same-length-4 : tie.Need-same-length-4
 same-length-4 c = search needs
 
--- src/lib.rt:268:1
 returns-4 : tie.Need-returns-4
 returns-4 c = (put-as (last-ending (c .before .before .before .before .before .before .before .args .number) (c .before .before .before .before .before .match .rest .0 .0 .1) (c .before .before .before .before .before .match .rest .0 .1) (c .before .before .before .before .before .match .rest .1)) (c .before .before .put-bytes4 .ensures), omega (arith, c .before .before .put-bytes4 .ensures .past))
 

@@ -15,19 +15,15 @@ use Rattle.lines.proofs.put_integer.Lts as lts
 use Rattle.ints.proofs.word.Reads as word-reads
 use Rattle.lines.proofs.put_word.Reads as put-word-reads
 
--- src/lib.rt:228:23
 word-requires : tie.Need-word-requires
 word-requires c κs = search needs
 
--- src/lib.rt:228:5
 put-word-requires : tie.Need-put-word-requires
 put-word-requires c κs = search needs
 
--- src/lib.rt:224:1
 same-length : tie.Need-same-length
 same-length c = search needs
 
--- src/lib.rt:224:1
 returns : tie.Need-returns
 returns c =
     let e : integer (toZ w32 (c .before .before .before .word .result)) ≡ integer (c .before .before .before .before .before .before .args .z) = simp (c .before .before .before .word .ensures, toZ-ofZ (c .before .before .before .before .before .before .fits .z)) in

@@ -16,47 +16,36 @@ use Rattle.lines.proofs.put_bytes.Reads as put-bytes-reads
 use Rattle.lines.proofs.put_ending.Reads as put-ending-reads
 use Rattle.lines.proofs.put_natural.Reads as put-natural-reads
 
--- src/lib.rt:284:9
 put-ending-requires : tie.Need-put-ending-requires
 put-ending-requires c κs = search needs
 
--- src/lib.rt:285:31
 slice-aggregate-put-bytes : tie.Need-slice-aggregate-put-bytes
 slice-aggregate-put-bytes c = search needs
 
--- src/lib.rt:285:9
 put-bytes-requires : tie.Need-put-bytes-requires
 put-bytes-requires c κs = search needs
 
--- src/lib.rt:286:9
 put-natural-requires : tie.Need-put-natural-requires
 put-natural-requires c κs = omega (arith, c .before .before .before .before .before .before .before .before .before .before .before .pre, c .before .before .before .before .before .before .before .before .put-ending .ensures .1, put-length (c .before .before .before .before .before .before .before .before .put-ending .ensures .0), c .before .before .before .put-bytes .ensures .past, put-length (c .before .before .before .put-bytes .ensures), word-length (c .before .before .before .before .before .before .before .before .before .before .before .args .rows) (c .before .before .before .before .before .before .before .before .before .before .before .fits .rows .fits))
 
--- src/lib.rt:287:31
 slice-aggregate-put-bytes-2 : tie.Need-slice-aggregate-put-bytes-2
 slice-aggregate-put-bytes-2 c = search needs
 
--- src/lib.rt:287:9
 put-bytes-requires-2 : tie.Need-put-bytes-requires-2
 put-bytes-requires-2 c κs = omega (arith, c .before .before .before .before .before .before .before .before .before .before .before .before .before .before .before .before .pre, c .before .before .before .before .before .before .before .before .before .before .before .before .before .put-ending .ensures .1, put-length (c .before .before .before .before .before .before .before .before .before .before .before .before .before .put-ending .ensures .0), c .before .before .before .before .before .before .before .before .put-bytes .ensures .past, put-length (c .before .before .before .before .before .before .before .before .put-bytes .ensures), word-length (c .before .before .before .before .before .before .before .before .before .before .before .before .before .before .before .before .args .rows) (c .before .before .before .before .before .before .before .before .before .before .before .before .before .before .before .before .fits .rows .fits), c .before .before .before .before .put-natural .ensures .past, put-length (c .before .before .before .before .put-natural .ensures))
 
--- src/lib.rt:288:9
 put-natural-requires-2 : tie.Need-put-natural-requires-2
 put-natural-requires-2 c κs = omega (arith, c .before .before .before .before .before .before .before .before .before .before .before .before .before .before .before .before .before .before .before .before .pre, c .before .before .before .before .before .before .before .before .before .before .before .before .before .before .before .before .before .put-ending .ensures .1, put-length (c .before .before .before .before .before .before .before .before .before .before .before .before .before .before .before .before .before .put-ending .ensures .0), c .before .before .before .before .before .before .before .before .before .before .before .before .put-bytes .ensures .past, put-length (c .before .before .before .before .before .before .before .before .before .before .before .before .put-bytes .ensures), word-length (c .before .before .before .before .before .before .before .before .before .before .before .before .before .before .before .before .before .before .before .before .args .rows) (c .before .before .before .before .before .before .before .before .before .before .before .before .before .before .before .before .before .before .before .before .fits .rows .fits), c .before .before .before .before .before .before .before .before .put-natural .ensures .past, put-length (c .before .before .before .before .before .before .before .before .put-natural .ensures), c .before .before .before .put-bytes2 .ensures .past, put-length (c .before .before .before .put-bytes2 .ensures), word-length (c .before .before .before .before .before .before .before .before .before .before .before .before .before .before .before .before .before .before .before .before .args .moves) (c .before .before .before .before .before .before .before .before .before .before .before .before .before .before .before .before .before .before .before .before .fits .moves .fits))
 
--- src/lib.rt:289:23
 slice-aggregate-put-bytes-3 : tie.Need-slice-aggregate-put-bytes-3
 slice-aggregate-put-bytes-3 c = search needs
 
--- src/lib.rt:289:5
 put-bytes-requires-3 : tie.Need-put-bytes-requires-3
 put-bytes-requires-3 c κs = omega (arith, c .before .before .before .before .before .before .before .before .before .before .before .before .before .before .before .before .before .before .before .before .before .before .before .before .before .pre, c .before .before .before .before .before .before .before .before .before .before .before .before .before .before .before .before .before .before .before .before .before .before .put-ending .ensures .1, put-length (c .before .before .before .before .before .before .before .before .before .before .before .before .before .before .before .before .before .before .before .before .before .before .put-ending .ensures .0), c .before .before .before .before .before .before .before .before .before .before .before .before .before .before .before .before .before .put-bytes .ensures .past, put-length (c .before .before .before .before .before .before .before .before .before .before .before .before .before .before .before .before .before .put-bytes .ensures), word-length (c .before .before .before .before .before .before .before .before .before .before .before .before .before .before .before .before .before .before .before .before .before .before .before .before .before .args .rows) (c .before .before .before .before .before .before .before .before .before .before .before .before .before .before .before .before .before .before .before .before .before .before .before .before .before .fits .rows .fits), c .before .before .before .before .before .before .before .before .before .before .before .before .before .put-natural .ensures .past, put-length (c .before .before .before .before .before .before .before .before .before .before .before .before .before .put-natural .ensures), c .before .before .before .before .before .before .before .before .put-bytes2 .ensures .past, put-length (c .before .before .before .before .before .before .before .before .put-bytes2 .ensures), word-length (c .before .before .before .before .before .before .before .before .before .before .before .before .before .before .before .before .before .before .before .before .before .before .before .before .before .args .moves) (c .before .before .before .before .before .before .before .before .before .before .before .before .before .before .before .before .before .before .before .before .before .before .before .before .before .fits .moves .fits), c .before .before .before .before .put-natural2 .ensures .past, put-length (c .before .before .before .before .put-natural2 .ensures))
 
--- src/lib.rt:280:1
 same-length : tie.Need-same-length
 same-length c = search needs
 
--- src/lib.rt:280:1
 returns : tie.Need-returns
 unfolding lastLine
 returns c = put-as (sym (append-assoc (ending (endingAt (c .before .before .before .before .before .before .before .before .before .before .before .before .before .before .before .before .before .before .before .before .before .before .before .before .before .before .before .before .args .number)) ++ bytes " " ++ natural (c .before .before .before .before .before .before .before .before .before .before .before .before .before .before .before .before .before .before .before .before .before .before .before .before .before .before .before .before .args .rows) ++ bytes " rows " ++ natural (c .before .before .before .before .before .before .before .before .before .before .before .before .before .before .before .before .before .before .before .before .before .before .before .before .before .before .before .before .args .moves)) (bytes " moves") lineEnd)) (and-then (and-then (and-then (and-then (and-then (c .before .before .before .before .before .before .before .before .before .before .before .before .before .before .before .before .before .before .before .before .before .before .before .before .before .put-ending .ensures .0) (c .before .before .before .before .before .before .before .before .before .before .before .before .before .before .before .before .before .before .before .before .put-bytes .ensures)) (c .before .before .before .before .before .before .before .before .before .before .before .before .before .before .before .before .put-natural .ensures)) (c .before .before .before .before .before .before .before .before .before .before .before .put-bytes2 .ensures)) (c .before .before .before .before .before .before .before .put-natural2 .ensures)) (c .before .before .put-bytes3 .ensures))

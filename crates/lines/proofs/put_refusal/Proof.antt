@@ -13,43 +13,33 @@ use Rattle.lines.proofs.put_refusal.Lts as lts
 use Rattle.lines.proofs.put_bytes.Reads as put-bytes-reads
 use Rattle.lines.proofs.put_natural.Reads as put-natural-reads
 
--- src/lib.rt:297:32
 slice-aggregate-put-bytes : tie.Need-slice-aggregate-put-bytes
 slice-aggregate-put-bytes c = search needs
 
--- src/lib.rt:297:9
 put-bytes-requires : tie.Need-put-bytes-requires
 put-bytes-requires c κs = search needs
 
--- src/lib.rt:298:9
 put-natural-requires : tie.Need-put-natural-requires
 put-natural-requires c κs = omega (arith, c .before .before .before .before .before .before .before .pre, c .before .before .before .put-bytes .ensures .past, put-length (c .before .before .before .put-bytes .ensures), word-length (c .before .before .before .before .before .before .before .args .number) (c .before .before .before .before .before .before .before .fits .number .fits))
 
--- src/lib.rt:299:31
 slice-aggregate-put-bytes-2 : tie.Need-slice-aggregate-put-bytes-2
 slice-aggregate-put-bytes-2 c = search needs
 
--- src/lib.rt:299:9
 put-bytes-requires-2 : tie.Need-put-bytes-requires-2
 put-bytes-requires-2 c κs = omega (arith, c .before .before .before .before .before .before .before .before .before .before .before .before .pre, c .before .before .before .before .before .before .before .before .put-bytes .ensures .past, put-length (c .before .before .before .before .before .before .before .before .put-bytes .ensures), word-length (c .before .before .before .before .before .before .before .before .before .before .before .before .args .number) (c .before .before .before .before .before .before .before .before .before .before .before .before .fits .number .fits), c .before .before .before .before .put-natural .ensures .past, put-length (c .before .before .before .before .put-natural .ensures))
 
--- src/lib.rt:300:9
 put-natural-requires-2 : tie.Need-put-natural-requires-2
 put-natural-requires-2 c κs = omega (arith, c .before .before .before .before .before .before .before .before .before .before .before .before .before .before .before .before .pre, c .before .before .before .before .before .before .before .before .before .before .before .before .put-bytes .ensures .past, put-length (c .before .before .before .before .before .before .before .before .before .before .before .before .put-bytes .ensures), word-length (c .before .before .before .before .before .before .before .before .before .before .before .before .before .before .before .before .args .number) (c .before .before .before .before .before .before .before .before .before .before .before .before .before .before .before .before .fits .number .fits), c .before .before .before .before .before .before .before .before .put-natural .ensures .past, put-length (c .before .before .before .before .before .before .before .before .put-natural .ensures), c .before .before .before .put-bytes2 .ensures .past, put-length (c .before .before .before .put-bytes2 .ensures), word-length (c .before .before .before .before .before .before .before .before .before .before .before .before .before .before .before .before .args .place) (c .before .before .before .before .before .before .before .before .before .before .before .before .before .before .before .before .fits .place .fits))
 
--- src/lib.rt:301:23
 slice-aggregate-put-bytes-3 : tie.Need-slice-aggregate-put-bytes-3
 slice-aggregate-put-bytes-3 c = search needs
 
--- src/lib.rt:301:5
 put-bytes-requires-3 : tie.Need-put-bytes-requires-3
 put-bytes-requires-3 c κs = omega (arith, c .before .before .before .before .before .before .before .before .before .before .before .before .before .before .before .before .before .before .before .before .before .pre, c .before .before .before .before .before .before .before .before .before .before .before .before .before .before .before .before .before .put-bytes .ensures .past, put-length (c .before .before .before .before .before .before .before .before .before .before .before .before .before .before .before .before .before .put-bytes .ensures), word-length (c .before .before .before .before .before .before .before .before .before .before .before .before .before .before .before .before .before .before .before .before .before .args .number) (c .before .before .before .before .before .before .before .before .before .before .before .before .before .before .before .before .before .before .before .before .before .fits .number .fits), c .before .before .before .before .before .before .before .before .before .before .before .before .before .put-natural .ensures .past, put-length (c .before .before .before .before .before .before .before .before .before .before .before .before .before .put-natural .ensures), c .before .before .before .before .before .before .before .before .put-bytes2 .ensures .past, put-length (c .before .before .before .before .before .before .before .before .put-bytes2 .ensures), word-length (c .before .before .before .before .before .before .before .before .before .before .before .before .before .before .before .before .before .before .before .before .before .args .place) (c .before .before .before .before .before .before .before .before .before .before .before .before .before .before .before .before .before .before .before .before .before .fits .place .fits), c .before .before .before .before .put-natural2 .ensures .past, put-length (c .before .before .before .before .put-natural2 .ensures))
 
--- src/lib.rt:293:1
 same-length : tie.Need-same-length
 same-length c = search needs
 
--- src/lib.rt:293:1
 returns : tie.Need-returns
 unfolding refusal
 returns c = and-then (and-then (and-then (and-then (c .before .before .before .before .before .before .before .before .before .before .before .before .before .before .before .before .before .before .before .before .put-bytes .ensures) (c .before .before .before .before .before .before .before .before .before .before .before .before .before .before .before .before .put-natural .ensures)) (c .before .before .before .before .before .before .before .before .before .before .before .put-bytes2 .ensures)) (c .before .before .before .before .before .before .before .put-natural2 .ensures)) (c .before .before .put-bytes3 .ensures)

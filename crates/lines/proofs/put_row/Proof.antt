@@ -20,67 +20,51 @@ use Rattle.lines.proofs.put_integer.Reads as put-integer-reads
 use Rattle.lines.proofs.put_values.Reads as put-values-reads
 use Rattle.lines.proofs.value_count.Reads as value-count-reads
 
--- src/lib.rt:309:34
 mul-put-integer : tie.Need-mul-put-integer
 mul-put-integer c = search needs
 
--- src/lib.rt:309:34
 shared-slice-copy-out-put-integer : tie.Need-shared-slice-copy-out-put-integer
 shared-slice-copy-out-put-integer c = search needs
 
--- src/lib.rt:309:9
 put-integer-requires : tie.Need-put-integer-requires
 put-integer-requires c κs = search needs
 
--- src/lib.rt:310:31
 slice-aggregate-put-bytes : tie.Need-slice-aggregate-put-bytes
 slice-aggregate-put-bytes c = search needs
 
--- src/lib.rt:310:9
 put-bytes-requires : tie.Need-put-bytes-requires
 put-bytes-requires c κs = search needs
 
--- src/lib.rt:311:41
 add-word : tie.Need-add-word
 add-word c = search needs
 
--- src/lib.rt:311:36
 mul-word : tie.Need-mul-word
 mul-word c = search needs
 
--- src/lib.rt:311:36
 shared-slice-copy-out-word : tie.Need-shared-slice-copy-out-word
 shared-slice-copy-out-word c = search needs
 
--- src/lib.rt:311:25
 word-requires : tie.Need-word-requires
 word-requires c κs = search needs
 
--- src/lib.rt:311:9
 value-count-requires : tie.Need-value-count-requires
 value-count-requires c κs = search needs
 
--- src/lib.rt:312:38
 add-put-values : tie.Need-add-put-values
 add-put-values c = search needs
 
--- src/lib.rt:312:9
 put-values-requires : tie.Need-put-values-requires
 put-values-requires c κs = search needs
 
--- src/lib.rt:313:23
 slice-aggregate-put-bytes-2 : tie.Need-slice-aggregate-put-bytes-2
 slice-aggregate-put-bytes-2 c = search needs
 
--- src/lib.rt:313:5
 put-bytes-requires-2 : tie.Need-put-bytes-requires-2
 put-bytes-requires-2 c κs = search needs
 
--- src/lib.rt:305:1
 same-length : tie.Need-same-length
 same-length c = search needs
 
--- src/lib.rt:305:1
 returns : tie.Need-returns
 returns c =
     let rows = c .before .before .before .before .before .before .before .before .before .before .before .before .before .before .before .before .before .before .before .before .before .before .before .args .rows .now in

@@ -18,40 +18,31 @@ Inv-loop out₀ at rows from n p₀ k₀ out p k = (k ≤ n) × Put out₀ at (r
 abbrev μ-loop : tie.MeasureT-loop
 μ-loop out₀ at rows from n p₀ k₀ out p k = n - k
 
--- src/lib.rt:323:5
 loop-holds : tie.Need-loop-holds Inv-loop μ-loop
 unfolding rowLines rowsOf
 loop-holds c = (omega arith, put-none (c .before .args .out .now) (c .before .args .at), omega arith)
 
--- src/lib.rt:324:41
 add-put-row : tie.Need-add-put-row Inv-loop μ-loop
 add-put-row c = omega (arith, c .before .before .before .before .pre .1, c .before .loop-test .taken)
 
--- src/lib.rt:324:35
 mul-put-row : tie.Need-mul-put-row Inv-loop μ-loop
 mul-put-row c = omega (arith, c .before .before .before .before .pre .1, c .before .loop-test .taken)
 
--- src/lib.rt:324:9
 put-row-requires : tie.Need-put-row-requires Inv-loop μ-loop
 put-row-requires c κs = (omega (arith, c .before .before .before .before .pre .0, c .before .loop-test .taken, c .before .before .loop .inv .2, put-length (c .before .before .loop .inv .1)), omega (arith, c .before .before .before .before .pre .1, c .before .loop-test .taken))
 
--- src/lib.rt:325:9
 add-k : tie.Need-add-k Inv-loop μ-loop
 add-k c = omega arith
 
--- src/lib.rt:323:5
 loop-less : tie.Need-loop-less Inv-loop μ-loop
 loop-less c = omega arith
 
--- src/lib.rt:323:5
 loop-again : tie.Need-loop-again Inv-loop μ-loop
 loop-again c = (omega arith, put-as (rows-more (c .before .before .before .before .before .before .before .args .rows .now) (c .before .before .before .before .before .before .before .args .from) (c .before .before .before .before .before .loop .k)) (and-then (c .before .before .before .before .before .loop .inv .1) (c .before .before .put-row .ensures .0)), omega (arith, c .before .before .before .before .before .loop .inv .2, c .before .before .put-row .ensures .1))
 
--- src/lib.rt:317:1
 same-length : tie.Need-same-length Inv-loop μ-loop
 same-length c = put-length (c .before .loop .inv .1)
 
--- src/lib.rt:317:1
 returns : tie.Need-returns Inv-loop μ-loop
 returns c =
     let e : c .before .loop .k ≡ c .before .before .before .args .n = omega (arith, c .before .loop .inv .0, c .loop-test .left) in

@@ -12,23 +12,18 @@ use Rattle.lines.proofs.put_value.Lts as lts
 use Rattle.lines.proofs.put_bytes.Reads as put-bytes-reads
 use Rattle.lines.proofs.put_integer.Reads as put-integer-reads
 
--- src/lib.rt:236:32
 slice-aggregate-put-bytes : tie.Need-slice-aggregate-put-bytes
 slice-aggregate-put-bytes c = search needs
 
--- src/lib.rt:236:9
 put-bytes-requires : tie.Need-put-bytes-requires
 put-bytes-requires c κs = search needs
 
--- src/lib.rt:237:5
 put-integer-requires : tie.Need-put-integer-requires
 put-integer-requires c κs = search needs
 
--- src/lib.rt:232:1
 same-length : tie.Need-same-length
 same-length c = search needs
 
--- src/lib.rt:232:1
 returns : tie.Need-returns
 returns c = (and-then (c .before .before .before .before .before .before .put-bytes .ensures) (rw (toZ-ofZ (c .before .before .before .before .before .before .before .before .before .before .fits .z)) at (c .before .before .put-integer .ensures .0)), omega (arith, c .before .before .before .before .before .before .put-bytes .ensures .past, c .before .before .put-integer .ensures .1))
 

@@ -24,36 +24,28 @@ Inv-loop out₀ at rows from n p₀ k₀ out p k = (k ≤ n) × Put out₀ at (s
 abbrev μ-loop : tie.MeasureT-loop
 μ-loop out₀ at rows from n p₀ k₀ out p k = n - k
 
--- src/lib.rt:247:5
 loop-holds : tie.Need-loop-holds Inv-loop μ-loop
 unfolding spaced
 loop-holds c = (omega arith, put-none (c .before .args .out .now) (c .before .args .at), omega arith)
 
--- src/lib.rt:248:36
 add-put-value : tie.Need-add-put-value Inv-loop μ-loop
 add-put-value c = omega (arith, c .before .before .before .before .pre .1, c .before .loop-test .taken)
 
--- src/lib.rt:248:31
 mul-put-value : tie.Need-mul-put-value Inv-loop μ-loop
 mul-put-value c = omega arith
 
--- src/lib.rt:248:31
 shared-slice-copy-out-put-value : tie.Need-shared-slice-copy-out-put-value Inv-loop μ-loop
 shared-slice-copy-out-put-value c = omega arith
 
--- src/lib.rt:248:9
 put-value-requires : tie.Need-put-value-requires Inv-loop μ-loop
 put-value-requires c κs = omega (arith, c .before .before .before .before .before .pre .0, c .before .before .loop-test .taken, c .before .before .before .loop .inv .2, put-length (c .before .before .before .loop .inv .1))
 
--- src/lib.rt:249:9
 add-k : tie.Need-add-k Inv-loop μ-loop
 add-k c = omega arith
 
--- src/lib.rt:247:5
 loop-less : tie.Need-loop-less Inv-loop μ-loop
 loop-less c = omega arith
 
--- src/lib.rt:247:5
 loop-again : tie.Need-loop-again Inv-loop μ-loop
 loop-again c =
     let z = getD (c .before .before .before .before .before .before .before .before .args .rows .now) (c .before .before .before .before .before .before .before .before .args .from + c .before .before .before .before .before .before .loop .k) (pos 0) in
@@ -61,11 +53,9 @@ loop-again c =
     let w = rw (toZ-ofZ f) at (c .before .before .put-value .ensures .0) in
     (omega arith, put-as (spaced-more (c .before .before .before .before .before .before .before .before .args .rows .now) (c .before .before .before .before .before .before .before .before .args .from) (c .before .before .before .before .before .before .loop .k) (omega (arith, c .before .before .before .before .before .before .before .before .pre .1, c .before .before .before .before .before .loop-test .taken))) (and-then (c .before .before .before .before .before .before .loop .inv .1) w), omega (arith, c .before .before .before .before .before .before .loop .inv .2, c .before .before .put-value .ensures .1))
 
--- src/lib.rt:241:1
 same-length : tie.Need-same-length Inv-loop μ-loop
 same-length c = put-length (c .before .loop .inv .1)
 
--- src/lib.rt:241:1
 returns : tie.Need-returns Inv-loop μ-loop
 returns c =
     let e : c .before .loop .k ≡ c .before .before .before .args .n = omega (arith, c .before .loop .inv .0, c .loop-test .left) in

@@ -12,43 +12,33 @@ use Rattle.lines.proofs.put_word.Lts as lts
 use Rattle.lines.proofs.put_bytes.Reads as put-bytes-reads
 use Rattle.lines.proofs.put_natural.Reads as put-natural-reads
 
--- src/lib.rt:217:9
 put-natural-requires : tie.Need-put-natural-requires
 put-natural-requires c κs = omega (arith, c .before .before .before .pre, word-length (c .before .before .before .args .w) (c .before .before .before .fits .w .fits))
 
--- src/lib.rt:217:9
 same-length : tie.Need-same-length
 same-length c = search needs
 
--- src/lib.rt:217:9
 returns : tie.Need-returns
 returns c = (put-as (sym (integer-plain (c .before .before .before .before .before .before .args .w) (c .before .before .before .before .if1 .taken))) (c .before .before .put-natural .ensures), omega (arith, c .before .before .put-natural .ensures .past, word-length (c .before .before .before .before .before .before .args .w) (c .before .before .before .before .before .before .fits .w .fits)))
 
--- src/lib.rt:219:32
 slice-aggregate-put-bytes : tie.Need-slice-aggregate-put-bytes
 slice-aggregate-put-bytes c = search needs
 
--- src/lib.rt:219:9
 put-bytes-requires : tie.Need-put-bytes-requires
 put-bytes-requires c κs = search needs
 
--- src/lib.rt:220:26
 sub-put-natural : tie.Need-sub-put-natural
 sub-put-natural c = search needs
 
--- src/lib.rt:220:25
 cast-put-natural : tie.Need-cast-put-natural
 cast-put-natural c = search needs
 
--- src/lib.rt:220:5
 put-natural-requires-2 : tie.Need-put-natural-requires-2
 put-natural-requires-2 c κs = omega (arith, c .before .before .before .before .before .before .before .before .pre, c .before .before .before .put-bytes .ensures .past, put-length (c .before .before .before .put-bytes .ensures), word-length (4294967296 - c .before .before .before .before .before .before .before .before .args .w) (omega (arith, c .before .before .before .before .before .before .if1 .left)))
 
--- src/lib.rt:212:1
 same-length-2 : tie.Need-same-length-2
 same-length-2 c = search needs
 
--- src/lib.rt:212:1
 returns-2 : tie.Need-returns-2
 returns-2 c = (put-as (sym (integer-minus (c .before .before .before .before .before .before .before .before .before .before .before .args .w) (c .before .before .before .before .before .before .before .before .before .if1 .left) (c .before .before .before .before .before .before .before .before .before .before .before .fits .w .fits))) (and-then (c .before .before .before .before .before .before .put-bytes .ensures) (c .before .before .put-natural2 .ensures)), omega (arith, c .before .before .before .before .before .before .put-bytes .ensures .past, c .before .before .put-natural2 .ensures .past, word-length (4294967296 - c .before .before .before .before .before .before .before .before .before .before .before .args .w) (omega (arith, c .before .before .before .before .before .before .before .before .before .if1 .left))))
 

@@ -10,15 +10,12 @@ use Rattle.lines.proofs.value_count.Tie as tie
 use Rattle.lines.proofs.value_count.Reads as reads
 use Rattle.lines.proofs.value_count.Lts as lts
 
--- src/lib.rt:259:9
 returns : tie.Need-returns
 returns c = sym (count-minus (c .before .args .w) (c .if1 .taken) (c .before .fits .w .fits))
 
--- src/lib.rt:262:9
 returns-2 : tie.Need-returns-2
 returns-2 c = sym (count-plain (c .before .before .args .w) (c .before .if1 .left) ∙ omega (arith, c .if2 .taken))
 
--- src/lib.rt:255:1
 returns-3 : tie.Need-returns-3
 returns-3 c = sym (count-plain (c .before .before .args .w) (c .before .if1 .left) ∙ omega (arith, c .if2 .left))
 

@@ -9,47 +9,36 @@ use Rattle.io.proofs.write_all.Reads as write-all-reads
 use Rattle.lister.proofs.print_output.Reads as print-output-reads
 use Rattle.lister.proofs.read_input.Reads as read-input-reads
 
--- src/main.rt:46:22
 slice-aggregate-read-input : tie.Need-slice-aggregate-read-input
 slice-aggregate-read-input c = search needs
 
--- src/main.rt:46:11
 read-input-requires : tie.Need-read-input-requires
 read-input-requires c κs = search needs
 
--- src/main.rt:47:22
 enum-known-n : tie.Need-enum-known-n
 enum-known-n c = search needs
 
--- src/main.rt:47:41
 array-share-prefix-buffer : tie.Need-array-share-prefix-buffer
 array-share-prefix-buffer c = rw (c .before .n .given .1) at (c .before .before .before .before .read-input .ensures)
 
--- src/main.rt:47:41
 slice-aggregate-print-output : tie.Need-slice-aggregate-print-output
 slice-aggregate-print-output c = sym (length-take-le _ _ (rw (c .before .before .n .given .1) at (c .before .before .before .before .before .read-input .ensures)))
 
--- src/main.rt:47:28
 print-output-requires : tie.Need-print-output-requires
 print-output-requires c κs = search needs
 
--- src/main.rt:49:42
 enum-told : tie.Need-enum-told
 enum-told c = search needs
 
--- src/main.rt:49:42
 slice-aggregate-write-all : tie.Need-slice-aggregate-write-all
 slice-aggregate-write-all c = search needs
 
--- src/main.rt:49:13
 write-all-requires : tie.Need-write-all-requires
 write-all-requires c κs = search needs
 
--- src/main.rt:44:1
 returns : tie.Need-returns
 returns c = search needs
 
--- src/main.rt:44:1
 returns-2 : tie.Need-returns-2
 returns-2 c = search needs
 

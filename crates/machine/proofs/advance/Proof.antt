@@ -21,300 +21,240 @@ use Rattle.machine.proofs.pair.Reads as pair-reads
 use Rattle.machine.proofs.store.Reads as store-reads
 use Rattle.machine.proofs.take.Reads as take-reads
 
--- src/lib.rt:464:9
 returns : tie.Need-returns
 returns c =
     let a = c .before .before .before .before .args in
     (adv-out (a .code .now) (a .size) (a .mem .now) (a .run) (c .if1 .taken), refl)
 
--- src/lib.rt:466:21
 mul-kind : tie.Need-mul-kind
 mul-kind c = search needs
 
--- src/lib.rt:466:16
 mul-kind-2 : tie.Need-mul-kind-2
 mul-kind-2 c = search needs
 
--- src/lib.rt:466:16
 shared-slice-read-kind : tie.Need-shared-slice-read-kind
 shared-slice-read-kind c = search needs
 
--- src/lib.rt:467:18
 mul-w : tie.Need-mul-w
 mul-w c = search needs
 
--- src/lib.rt:467:18
 add-w : tie.Need-add-w
 add-w c = search needs
 
--- src/lib.rt:467:13
 mul-w-2 : tie.Need-mul-w-2
 mul-w-2 c = search needs
 
--- src/lib.rt:467:13
 shared-slice-read-w : tie.Need-shared-slice-read-w
 shared-slice-read-w c = search needs
 
--- src/lib.rt:467:13
 cast-w : tie.Need-cast-w
 cast-w c = omega (arith, c .shared-slice-known3 .given (2 * c .before .before .before .before .before .before .before .before .args .run .pc + 1))
 
--- src/lib.rt:487:17
 returns-2 : tie.Need-returns-2
 returns-2 c =
     let a = c .before .before .before .before .before .before .before .before .before .before .before .args in
     (adv-cut (a .code .now) (a .size) (a .mem .now) (a .run) (c .before .before .before .before .before .before .before .if1 .left) (c .before .before .match .keys1) (c .if2 .taken), refl)
 
--- src/lib.rt:489:23
 enter-requires : tie.Need-enter-requires
 enter-requires c κs =
     let s = c .before .before .before .before .before .before .before .before .before .before .before .before in
     (s .pre .0, s .pre .2, omega (arith, c .before .if2 .left, s .pre .2 .deep), c .before .before .before .before .before .before .before .before .if1 .left, s .pre .1, omega arith)
 
--- src/lib.rt:491:27
 flagged-requires : tie.Need-flagged-requires
 flagged-requires c κs = search needs
 
--- src/lib.rt:492:27
 flagged-requires-2 : tie.Need-flagged-requires-2
 flagged-requires-2 c κs = search needs
 
--- src/lib.rt:493:38
 landing-requires : tie.Need-landing-requires
 landing-requires c κs =
     let s = c .before .before .before .before .before .before .before .before .before in
     (omega (arith, c .before .before .before .before .before .if1 .left, s .pre .1), omega (arith, c .before .shared-slice-known3 .given (2 * s .args .run .pc + 1)))
 
--- src/lib.rt:493:27
 moved-requires : tie.Need-moved-requires
 moved-requires c κs = search needs
 
--- src/lib.rt:494:38
 landing-requires-2 : tie.Need-landing-requires-2
 landing-requires-2 c κs =
     let s = c .before .before .before .before .before .before .before .before .before in
     (omega (arith, c .before .before .before .before .before .if1 .left, s .pre .1), omega (arith, c .before .shared-slice-known3 .given (2 * s .args .run .pc + 1)))
 
--- src/lib.rt:494:27
 moved-requires-2 : tie.Need-moved-requires-2
 moved-requires-2 c κs = search needs
 
--- src/lib.rt:495:38
 add-moved : tie.Need-add-moved
 add-moved c = search needs
 
--- src/lib.rt:495:38
 add-moved-2 : tie.Need-add-moved-2
 add-moved-2 c =
     let s = c .before .before .before .before .before .before .before .before .before .before in
     record { fits = omega (arith, c .before .before .shared-slice-known3 .given (2 * s .args .run .pc + 1), c .before .before .before .before .before .before .if1 .left, s .pre .1) }
 
--- src/lib.rt:495:27
 moved-requires-3 : tie.Need-moved-requires-3
 moved-requires-3 c κs = search needs
 
--- src/lib.rt:496:36
 less-requires : tie.Need-less-requires
 less-requires c κs = search needs
 
--- src/lib.rt:496:25
 moved-requires-4 : tie.Need-moved-requires-4
 moved-requires-4 c κs = search needs
 
--- src/lib.rt:497:36
 add-moved-3 : tie.Need-add-moved-3
 add-moved-3 c = search needs
 
--- src/lib.rt:497:25
 moved-requires-5 : tie.Need-moved-requires-5
 moved-requires-5 c κs = search needs
 
--- src/lib.rt:498:25
 clear-requires : tie.Need-clear-requires
 clear-requires c κs = search needs
 
--- src/lib.rt:499:25
 ask-requires : tie.Need-ask-requires
 ask-requires c κs = search needs
 
--- src/lib.rt:500:27
 store-requires : tie.Need-store-requires
 store-requires c κs = search needs
 
--- src/lib.rt:503:21
 take-requires : tie.Need-take-requires
 take-requires c κs = search needs
 
--- src/lib.rt:505:17
 same-length : tie.Need-same-length
 same-length c = search needs
 
--- src/lib.rt:505:17
 returns-3 : tie.Need-returns-3
 returns-3 c =
     let a = c .before .before .before .before .before .before .before .before .before .before .before .before .before .args in
     adv-returned (a .code .now) (a .size) (a .mem .now) (a .run) (c .before .before .before .before .before .before .before .before .before .if1 .left) (c .before .before .before .before .match .keys12) (c .before .before .if3 .taken) (c .take .result .value) (c .take .result .top) (c .take .ensures)
 
--- src/lib.rt:507:25
 leave-requires : tie.Need-leave-requires
 leave-requires c κs = search needs
 
--- src/lib.rt:469:41
 add-moved-4 : tie.Need-add-moved-4
 add-moved-4 c = search needs
 
--- src/lib.rt:469:30
 moved-requires-6 : tie.Need-moved-requires-6
 moved-requires-6 c κs = search needs
 
--- src/lib.rt:470:28
 operate-requires : tie.Need-operate-requires
 operate-requires c κs =
     let s = c .before .before .before .before .before .before .before .before .before .before .before .before .before in
     (omega (arith, s .pre .0), s .pre .2, omega (arith, c .before .if6 .taken, c .before .before .if5 .left), c .before .before .before .before .before .before .before .before .before .if1 .left, s .pre .3, s .pre .4)
 
--- src/lib.rt:472:17
 pair-requires : tie.Need-pair-requires
 pair-requires c κs = search needs
 
--- src/lib.rt:476:21
 add-t71 : tie.Need-add-t71
 add-t71 c = search needs
 
--- src/lib.rt:459:1
 same-length-2 : tie.Need-same-length-2
 same-length-2 c = search needs
 
--- src/lib.rt:459:1
 returns-4 : tie.Need-returns-4
 returns-4 c =
     let a = c .before .before .before .before .before .before .before .before .before .before .before .before .before .before .before .args in
     goes-from (adv-call (a .code .now) (a .size) (a .mem .now) (a .run) (c .before .before .before .before .before .before .before .before .before .before .before .if1 .left) (c .before .before .before .before .before .before .match .keys1)) (c .before .before .enter .ensures)
 
--- src/lib.rt:459:1
 returns-5 : tie.Need-returns-5
 returns-5 c =
     let s = c .before .before .before .before .before .before .before .before .before .before in
     let a = s .args in
     goes-run (c .flagged .ensures) (adv-false (a .code .now) (a .size) (a .mem .now) (a .run) (c .before .before .before .before .before .before .if1 .left) (c .before .match .keys2) (s .pre .2))
 
--- src/lib.rt:459:1
 returns-6 : tie.Need-returns-6
 returns-6 c =
     let s = c .before .before .before .before .before .before .before .before .before .before in
     let a = s .args in
     goes-run (c .flagged2 .ensures) (adv-true (a .code .now) (a .size) (a .mem .now) (a .run) (c .before .before .before .before .before .before .if1 .left) (c .before .match .keys3) (s .pre .2))
 
--- src/lib.rt:459:1
 returns-7 : tie.Need-returns-7
 returns-7 c =
     let s = c .before .before .before .before .before .before .before .before .before .before .before in
     let a = s .args in
     goes-run (c .moved .ensures) (adv-jump-false (a .code .now) (a .size) (a .mem .now) (a .run) (c .before .before .before .before .before .before .before .if1 .left) (c .before .before .match .keys4) (c .before .landing .result) (c .before .landing .ensures) (s .pre .2))
 
--- src/lib.rt:459:1
 returns-8 : tie.Need-returns-8
 returns-8 c =
     let s = c .before .before .before .before .before .before .before .before .before .before .before in
     let a = s .args in
     goes-run (c .moved2 .ensures) (adv-jump-true (a .code .now) (a .size) (a .mem .now) (a .run) (c .before .before .before .before .before .before .before .if1 .left) (c .before .before .match .keys5) (c .before .landing2 .result) (c .before .landing2 .ensures) (s .pre .2))
 
--- src/lib.rt:459:1
 returns-9 : tie.Need-returns-9
 returns-9 c =
     let s = c .before .before .before .before .before .before .before .before .before .before .before in
     let a = s .args in
     goes-run (c .moved3 .ensures) (adv-skip (a .code .now) (a .size) (a .mem .now) (a .run) (c .before .before .before .before .before .before .before .if1 .left) (c .before .before .match .keys6) (s .pre .2))
 
--- src/lib.rt:459:1
 returns-10 : tie.Need-returns-10
 returns-10 c =
     let s = c .before .before .before .before .before .before .before .before .before .before .before in
     let a = s .args in
     goes-run (c .moved4 .ensures) (adv-again (a .code .now) (a .size) (a .mem .now) (a .run) (c .before .before .before .before .before .before .before .if1 .left) (c .before .before .match .keys7) (c .before .less .result) (c .before .less .ensures) (s .pre .2))
 
--- src/lib.rt:459:1
 returns-11 : tie.Need-returns-11
 returns-11 c =
     let s = c .before .before .before .before .before .before .before .before .before .before .before in
     let a = s .args in
     goes-run (c .moved5 .ensures) (adv-begin (a .code .now) (a .size) (a .mem .now) (a .run) (c .before .before .before .before .before .before .before .if1 .left) (c .before .before .match .keys8) (s .pre .2))
 
--- src/lib.rt:459:1
 same-length-3 : tie.Need-same-length-3
 same-length-3 c = search needs
 
--- src/lib.rt:459:1
 returns-12 : tie.Need-returns-12
 returns-12 c =
     let a = c .before .before .before .before .before .before .before .before .before .before .before .before .before .args in
     adv-clear (a .code .now) (a .size) (a .mem .now) (a .run) (c .before .before .before .before .before .before .before .before .before .if1 .left) (c .before .before .before .before .match .keys9) _ _ (c .before .before .clear .ensures)
 
--- src/lib.rt:459:1
 same-length-4 : tie.Need-same-length-4
 same-length-4 c = search needs
 
--- src/lib.rt:459:1
 returns-13 : tie.Need-returns-13
 returns-13 c =
     let a = c .before .before .before .before .before .before .before .before .before .before .before .before .before .args in
     adv-ask (a .code .now) (a .size) (a .mem .now) (a .run) (c .before .before .before .before .before .before .before .before .before .if1 .left) (c .before .before .before .before .match .keys10) _ (a .k) _ (c .before .before .ask .ensures)
 
--- src/lib.rt:459:1
 same-length-5 : tie.Need-same-length-5
 same-length-5 c = search needs
 
--- src/lib.rt:459:1
 returns-14 : tie.Need-returns-14
 returns-14 c =
     let a = c .before .before .before .before .before .before .before .before .before .before .before .before .before .args in
     goes-from (adv-store (a .code .now) (a .size) (a .mem .now) (a .run) (c .before .before .before .before .before .before .before .before .before .if1 .left) (c .before .before .before .before .match .keys11)) (c .before .before .store .ensures)
 
--- src/lib.rt:459:1
 same-length-6 : tie.Need-same-length-6
 same-length-6 c = search needs
 
--- src/lib.rt:459:1
 returns-15 : tie.Need-returns-15
 returns-15 c =
     let a = c .before .before .before .before .before .before .before .before .before .before .before .before .before .before .before .args in
     goes-from (adv-return (a .code .now) (a .size) (a .mem .now) (a .run) (c .before .before .before .before .before .before .before .before .before .before .before .if1 .left) (c .before .before .before .before .before .before .match .keys12)) (c .before .before .leave .ensures)
 
--- src/lib.rt:459:1
 returns-16 : tie.Need-returns-16
 returns-16 c =
     let s = c .before .before .before .before .before .before .before .before .before .before .before .before .before in
     let a = s .args in
     goes-run (c .moved6 .ensures) (adv-leaf (a .code .now) (a .size) (a .mem .now) (a .run) (c .before .before .before .before .before .before .before .before .before .if1 .left) (c .before .before .before .if4 .left) (c .before .before .if5 .taken) (s .pre .2))
 
--- src/lib.rt:459:1
 same-length-7 : tie.Need-same-length-7
 same-length-7 c = search needs
 
--- src/lib.rt:459:1
 returns-17 : tie.Need-returns-17
 returns-17 c =
     let a = c .before .before .before .before .before .before .before .before .before .before .before .before .before .before .before .before .args in
     goes-from (adv-op (a .code .now) (a .size) (a .mem .now) (a .run) (c .before .before .before .before .before .before .before .before .before .before .before .before .if1 .left) (c .before .before .before .before .before .if5 .left) (c .before .before .before .before .if6 .taken)) (c .before .before .operate .ensures)
 
--- src/lib.rt:459:1
 same-length-8 : tie.Need-same-length-8
 same-length-8 c = search needs
 
--- src/lib.rt:459:1
 returns-18 : tie.Need-returns-18
 returns-18 c =
     let s = c .before .before .before .before .before .before .before .before .before .before .before .before .before .before .before .before in
     let a = s .args in
     adv-cmp (a .code .now) (a .size) (a .mem .now) (a .run) (c .before .before .before .before .before .before .before .before .before .before .before .before .if1 .left) (c .before .before .before .before .if6 .left) (c .before .before .before .if7 .taken) (c .before .pair .result .left) (c .before .pair .result .right) (c .before .pair .result .top) (s .pre .2) (c .before .pair .ensures)
 
--- src/lib.rt:459:1
 returns-19 : tie.Need-returns-19
 returns-19 c =
     let a = c .before .before .before .before .before .before .before .before .before .before .args in
     (adv-fail (a .code .now) (a .size) (a .mem .now) (a .run) (c .before .before .before .before .before .before .if1 .left) (c .if4 .taken), refl)
 
--- src/lib.rt:459:1
 returns-20 : tie.Need-returns-20
 returns-20 c =
     let a = c .before .before .before .before .before .before .before .before .before .before .before .before .before .args in

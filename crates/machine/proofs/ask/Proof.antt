@@ -8,39 +8,30 @@ use Rattle.machine.proofs.ask.Lts as lts
 use Rattle.machine.proofs.node.Reads as node-reads
 use Rattle.machine.proofs.put.Reads as put-reads
 
--- src/lib.rt:291:5
 node-requires : tie.Need-node-requires
 node-requires c κs = search needs
 
--- src/lib.rt:292:14
 mul-put : tie.Need-mul-put
 mul-put c = search needs
 
--- src/lib.rt:292:31
 mul-put-2 : tie.Need-mul-put-2
 mul-put-2 c = search needs
 
--- src/lib.rt:292:14
 add-put : tie.Need-add-put
 add-put c = search needs
 
--- src/lib.rt:292:5
 put-requires : tie.Need-put-requires
 put-requires c κs = search needs
 
--- src/lib.rt:294:13
 add-t10 : tie.Need-add-t10
 add-t10 c = search needs
 
--- src/lib.rt:299:16
 add-t11 : tie.Need-add-t11
 add-t11 c = search needs
 
--- src/lib.rt:287:1
 same-length : tie.Need-same-length
 same-length c = search needs
 
--- src/lib.rt:287:1
 returns : tie.Need-returns
 returns c =
     let s = c .before .before .before .before .before .before .before .before .before .before .before .before .before in

@@ -17,31 +17,24 @@ Inv-loop mem₀ at i₀ mem i = Blank mem₀ mem at i × (i ≤ 16) × (length m
 abbrev μ-loop : tie.MeasureT-loop
 μ-loop mem₀ at i₀ mem i = 16 - i
 
--- src/lib.rt:330:5
 loop-holds : tie.Need-loop-holds Inv-loop μ-loop
 loop-holds c = (blank-none _ _, omega arith, refl)
 
--- src/lib.rt:331:23
 mul-put : tie.Need-mul-put Inv-loop μ-loop
 mul-put c = search needs
 
--- src/lib.rt:331:18
 add-put : tie.Need-add-put Inv-loop μ-loop
 add-put c = search needs
 
--- src/lib.rt:331:9
 put-requires : tie.Need-put-requires Inv-loop μ-loop
 put-requires c κs = search needs
 
--- src/lib.rt:332:9
 add-i : tie.Need-add-i Inv-loop μ-loop
 add-i c = search needs
 
--- src/lib.rt:330:5
 loop-less : tie.Need-loop-less Inv-loop μ-loop
 loop-less c = search needs
 
--- src/lib.rt:330:5
 loop-again : tie.Need-loop-again Inv-loop μ-loop
 loop-again c =
     let s = c .before .before .before .before .before .before .before in
@@ -49,11 +42,9 @@ loop-again c =
     let p = c .before .before .put in
     (blank-more (s .args .mem .now) (l .mem) (p .last .0) (s .args .at) (l .i) (c .before .before .before .before .loop-test .taken) (l .inv .0) (p .ensures), omega arith, omega (arith, p .kept .0, l .inv .2))
 
--- src/lib.rt:325:1
 same-length : tie.Need-same-length Inv-loop μ-loop
 same-length c = search needs
 
--- src/lib.rt:325:1
 returns : tie.Need-returns Inv-loop μ-loop
 returns c =
     let s = c .before .before .before in

@@ -7,31 +7,24 @@ use Rattle.machine.proofs.clear.Reads as reads
 use Rattle.machine.proofs.clear.Lts as lts
 use Rattle.machine.proofs.put.Reads as put-reads
 
--- src/lib.rt:276:14
 mul-put : tie.Need-mul-put
 mul-put c = search needs
 
--- src/lib.rt:276:31
 mul-put-2 : tie.Need-mul-put-2
 mul-put-2 c = search needs
 
--- src/lib.rt:276:14
 add-put : tie.Need-add-put
 add-put c = search needs
 
--- src/lib.rt:276:5
 put-requires : tie.Need-put-requires
 put-requires c κs = search needs
 
--- src/lib.rt:278:13
 add-t7 : tie.Need-add-t7
 add-t7 c = search needs
 
--- src/lib.rt:272:1
 same-length : tie.Need-same-length
 same-length c = search needs
 
--- src/lib.rt:272:1
 returns : tie.Need-returns
 returns c =
     let s = c .before .before .before .before .before .before .before .before in

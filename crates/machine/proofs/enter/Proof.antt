@@ -9,88 +9,68 @@ use Rattle.machine.proofs.enter.Reads as reads
 use Rattle.machine.proofs.enter.Lts as lts
 use Rattle.machine.proofs.gather.Reads as gather-reads
 
--- src/lib.rt:388:9
 gather-requires : tie.Need-gather-requires
 gather-requires c κs = search needs
 
--- src/lib.rt:389:34
 add-mem : tie.Need-add-mem
 add-mem c = search needs
 
--- src/lib.rt:389:33
 cast-mem : tie.Need-cast-mem
 cast-mem c = search needs
 
--- src/lib.rt:389:16
 mul-mem : tie.Need-mul-mem
 mul-mem c = search needs
 
--- src/lib.rt:389:9
 add-mem-2 : tie.Need-add-mem-2
 add-mem-2 c = search needs
 
--- src/lib.rt:389:5
 mul-mem-2 : tie.Need-mul-mem-2
 mul-mem-2 c = search needs
 
--- src/lib.rt:389:5
 slice-write-mem : tie.Need-slice-write-mem
 slice-write-mem c = search needs
 
--- src/lib.rt:390:33
 cast-mem-2 : tie.Need-cast-mem-2
 cast-mem-2 c = search needs
 
--- src/lib.rt:390:16
 mul-mem-3 : tie.Need-mul-mem-3
 mul-mem-3 c = search needs
 
--- src/lib.rt:390:9
 add-mem-3 : tie.Need-add-mem-3
 add-mem-3 c = search needs
 
--- src/lib.rt:390:5
 mul-mem-4 : tie.Need-mul-mem-4
 mul-mem-4 c = search needs
 
--- src/lib.rt:390:5
 slice-write-mem-2 : tie.Need-slice-write-mem-2
 slice-write-mem-2 c =
     let s = c .before .before .before .before .before .before .before .before .before .before in
     let g = c .before .before .before .before .before .before .gather in
     simp length-set (omega (arith, g .ensures .ready .tops .words, s .pre .2))
 
--- src/lib.rt:392:18
 mul-t14 : tie.Need-mul-t14
 mul-t14 c = search needs
 
--- src/lib.rt:392:18
 add-t12 : tie.Need-add-t12
 add-t12 c = search needs
 
--- src/lib.rt:392:13
 mul-t13 : tie.Need-mul-t13
 mul-t13 c = search needs
 
--- src/lib.rt:392:13
 shared-slice-read-t11 : tie.Need-shared-slice-read-t11
 shared-slice-read-t11 c = search needs
 
--- src/lib.rt:392:13
 cast-t10 : tie.Need-cast-t10
 cast-t10 c =
     let a = c .before .before .before .before .before .before .before .before .before .before .before .args in
     omega (arith, c .shared-slice-known2 .given (2 * a .size + a .g))
 
--- src/lib.rt:396:16
 add-t18 : tie.Need-add-t18
 add-t18 c = search needs
 
--- src/lib.rt:384:1
 same-length : tie.Need-same-length
 same-length c = search needs
 
--- src/lib.rt:384:1
 returns : tie.Need-returns
 returns c =
     let s = c .before .before .before .before .before .before .before .before .before .before .before .before in

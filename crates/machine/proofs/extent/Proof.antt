@@ -7,51 +7,40 @@ use Rattle.machine.proofs.extent.Tie as tie
 use Rattle.machine.proofs.extent.Reads as reads
 use Rattle.machine.proofs.extent.Lts as lts
 
--- src/lib.rt:342:17
 mul-if2 : tie.Need-mul-if2
 mul-if2 c = search needs
 
--- src/lib.rt:342:12
 mul-if2-2 : tie.Need-mul-if2-2
 mul-if2-2 c = search needs
 
--- src/lib.rt:342:12
 shared-slice-read-if2 : tie.Need-shared-slice-read-if2
 shared-slice-read-if2 c = search needs
 
--- src/lib.rt:343:25
 mul-result : tie.Need-mul-result
 mul-result c = search needs
 
--- src/lib.rt:343:25
 add-result : tie.Need-add-result
 add-result c = search needs
 
--- src/lib.rt:343:20
 mul-result-2 : tie.Need-mul-result-2
 mul-result-2 c = search needs
 
--- src/lib.rt:343:20
 shared-slice-read-result : tie.Need-shared-slice-read-result
 shared-slice-read-result c = search needs
 
--- src/lib.rt:343:20
 cast-result : tie.Need-cast-result
 cast-result c = omega (arith, c .shared-slice-known2 .given (2 * c .before .before .before .before .args .e + 1))
 
--- src/lib.rt:343:13
 returns : tie.Need-returns
 returns c =
     let a = c .before .before .before .before .args in
     extent-is (a .code .now) (a .size) (a .e) (c .before .before .before .if1 .taken) (c .before .if2 .taken)
 
--- src/lib.rt:337:1
 returns-2 : tie.Need-returns-2
 returns-2 c =
     let a = c .before .before .before .args in
     extent-other (a .code .now) (a .size) (a .e) (c .before .before .if1 .taken) (c .if2 .left)
 
--- src/lib.rt:337:1
 returns-3 : tie.Need-returns-3
 returns-3 c =
     let a = c .before .args in

@@ -22,19 +22,15 @@ Inv-loop code size mem₀ run n at k₀ j₀ top₀ mem k j top = Gathering (cod
 abbrev μ-loop : tie.MeasureT-loop
 μ-loop code size mem₀ run n at k₀ j₀ top₀ mem k j top = k
 
--- src/lib.rt:355:20
 add-at : tie.Need-add-at Inv-loop μ-loop
 add-at c = search needs
 
--- src/lib.rt:355:14
 mul-at : tie.Need-mul-at Inv-loop μ-loop
 mul-at c = search needs
 
--- src/lib.rt:356:5
 blank-requires : tie.Need-blank-requires Inv-loop μ-loop
 blank-requires c κs = search needs
 
--- src/lib.rt:360:5
 loop-holds : tie.Need-loop-holds Inv-loop μ-loop
 loop-holds c =
     let s = c .before .before .before .before .before .before .before in
@@ -42,35 +38,27 @@ loop-holds c =
     let k = c .before .before .blank in
     (gathering-none (a .code .now) (a .size) (a .mem .now) (a .run) (a .n) (s .pre .2) (k .last .0) (s .pre .1) (omega (arith, k .kept .0)) (k .ensures), refl)
 
--- src/lib.rt:361:9
 sub-k : tie.Need-sub-k Inv-loop μ-loop
 sub-k c = search needs
 
--- src/lib.rt:362:13
 less-requires : tie.Need-less-requires Inv-loop μ-loop
 less-requires c κs = search needs
 
--- src/lib.rt:371:13
 take-requires : tie.Need-take-requires Inv-loop μ-loop
 take-requires c κs = (c .before .before .before .before .before .before .before .before .before .before .before .pre .0, c .before .before .before .loop .inv .0 .ready)
 
--- src/lib.rt:372:13
 extent-requires : tie.Need-extent-requires Inv-loop μ-loop
 extent-requires c κs = search needs
 
--- src/lib.rt:373:9
 less-requires-2 : tie.Need-less-requires-2 Inv-loop μ-loop
 less-requires-2 c κs = search needs
 
--- src/lib.rt:377:27
 mul-put : tie.Need-mul-put Inv-loop μ-loop
 mul-put c = search needs
 
--- src/lib.rt:377:22
 add-put : tie.Need-add-put Inv-loop μ-loop
 add-put c = search needs
 
--- src/lib.rt:377:13
 put-requires : tie.Need-put-requires Inv-loop μ-loop
 put-requires c κs =
     let s = c .before .before .before .before .before .before .before .before .before .before .before .before .before .before .before .before in
@@ -78,11 +66,9 @@ put-requires c κs =
     let t = c .before .before .before .before .take in
     (omega (arith, l .inv .0 .ready .tops .words, s .pre .2, c .before .if1 .taken), t .ensures .sized)
 
--- src/lib.rt:360:5
 loop-less : tie.Need-loop-less Inv-loop μ-loop
 loop-less c = search needs
 
--- src/lib.rt:360:5
 loop-again : tie.Need-loop-again Inv-loop μ-loop
 loop-again c =
     let s = c .before .before .before .before .before .before .before .before .before .before .before .before .before .before .before .before .before .before .before in
@@ -99,11 +85,9 @@ loop-again c =
       omega (arith, p .kept .0, l .inv .1),
     )
 
--- src/lib.rt:360:5
 loop-less-2 : tie.Need-loop-less-2 Inv-loop μ-loop
 loop-less-2 c = search needs
 
--- src/lib.rt:360:5
 loop-again-2 : tie.Need-loop-again-2 Inv-loop μ-loop
 loop-again-2 c =
     let s = c .before .before .before .before .before .before .before .before .before .before .before .before .before .before .before in
@@ -119,11 +103,9 @@ loop-again-2 c =
       l .inv .1,
     )
 
--- src/lib.rt:351:1
 same-length : tie.Need-same-length Inv-loop μ-loop
 same-length c = search needs
 
--- src/lib.rt:351:1
 returns : tie.Need-returns Inv-loop μ-loop
 returns c =
     let s = c .before .before .before .before .before .before .before .before .before in

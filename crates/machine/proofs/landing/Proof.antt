@@ -6,25 +6,20 @@ use Rattle.machine.proofs.landing.Tie as tie
 use Rattle.machine.proofs.landing.Reads as reads
 use Rattle.machine.proofs.landing.Lts as lts
 
--- src/lib.rt:436:9
 add-result : tie.Need-add-result
 add-result c = search needs
 
--- src/lib.rt:436:9
 add-result-2 : tie.Need-add-result-2
 add-result-2 c = search needs
 
--- src/lib.rt:438:9
 add-result-3 : tie.Need-add-result-3
 add-result-3 c = search needs
 
--- src/lib.rt:431:1
 returns : tie.Need-returns
 returns c =
     let a = c .before .before .before .args in
     sym (land-over (a .flag) (a .run .flag) (a .w) (a .run .pc) (c .before .if1 .taken))
 
--- src/lib.rt:431:1
 returns-2 : tie.Need-returns-2
 returns-2 c =
     let a = c .before .before .before .args in

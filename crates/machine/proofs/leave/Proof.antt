@@ -9,75 +9,57 @@ use Rattle.machine.proofs.leave.Lts as lts
 use Rattle.machine.proofs.put.Reads as put-reads
 use Rattle.machine.proofs.take.Reads as take-reads
 
--- src/lib.rt:308:9
 take-requires : tie.Need-take-requires
 take-requires c κs = search needs
 
--- src/lib.rt:310:13
 sub-d : tie.Need-sub-d
 sub-d c = search needs
 
--- src/lib.rt:311:25
 mul-pc : tie.Need-mul-pc
 mul-pc c = search needs
 
--- src/lib.rt:311:18
 add-pc : tie.Need-add-pc
 add-pc c = search needs
 
--- src/lib.rt:311:14
 mul-pc-2 : tie.Need-mul-pc-2
 mul-pc-2 c = search needs
 
--- src/lib.rt:311:14
 slice-read-pc : tie.Need-slice-read-pc
 slice-read-pc c = search needs
 
--- src/lib.rt:311:14
 cast-pc : tie.Need-cast-pc
 cast-pc c = omega (arith, c .slice-known2 .given (1056 + 2 * (c .before .before .before .before .before .before .args .run .depth - 1)))
 
--- src/lib.rt:312:27
 mul-base : tie.Need-mul-base
 mul-base c = search needs
 
--- src/lib.rt:312:20
 add-base : tie.Need-add-base
 add-base c = search needs
 
--- src/lib.rt:312:16
 mul-base-2 : tie.Need-mul-base-2
 mul-base-2 c = search needs
 
--- src/lib.rt:312:16
 slice-read-base : tie.Need-slice-read-base
 slice-read-base c = search needs
 
--- src/lib.rt:312:16
 cast-base : tie.Need-cast-base
 cast-base c = omega (arith, c .slice-known3 .given (1057 + 2 * (c .before .before .before .before .before .before .before .args .run .depth - 1)))
 
--- src/lib.rt:313:21
 mul-put : tie.Need-mul-put
 mul-put c = search needs
 
--- src/lib.rt:313:14
 add-put : tie.Need-add-put
 add-put c = search needs
 
--- src/lib.rt:313:5
 put-requires : tie.Need-put-requires
 put-requires c κs = search needs
 
--- src/lib.rt:318:14
 add-t14 : tie.Need-add-t14
 add-t14 c = search needs
 
--- src/lib.rt:304:1
 same-length : tie.Need-same-length
 same-length c = search needs
 
--- src/lib.rt:304:1
 returns : tie.Need-returns
 returns c =
     let s = c .before .before .before .before .before .before .before .before .before .before .before .before .before in

@@ -16,53 +16,41 @@ cell-open : (n x : ℕ) → (n ≡ 0 → ⊥) → Open x ≡ cellAs n x
 cell-open zero x h = absurd (h refl)
 cell-open (suc n) x h = refl
 
--- src/lib.rt:73:8
 mul-if1 : tie.Need-mul-if1
 mul-if1 c = search needs
 
--- src/lib.rt:73:8
 shared-slice-read-if1 : tie.Need-shared-slice-read-if1
 shared-slice-read-if1 c = search needs
 
--- src/lib.rt:75:50
 add-signed : tie.Need-add-signed
 add-signed c = search needs
 
--- src/lib.rt:75:46
 mul-signed : tie.Need-mul-signed
 mul-signed c = search needs
 
--- src/lib.rt:75:46
 shared-slice-read-signed : tie.Need-shared-slice-read-signed
 shared-slice-read-signed c = search needs
 
--- src/lib.rt:75:33
 signed-requires : tie.Need-signed-requires
 signed-requires c κs = search needs
 
--- src/lib.rt:79:36
 add-t14 : tie.Need-add-t14
 add-t14 c = search needs
 
--- src/lib.rt:79:32
 mul-t15 : tie.Need-mul-t15
 mul-t15 c = search needs
 
--- src/lib.rt:79:32
 shared-slice-read-t17 : tie.Need-shared-slice-read-t17
 shared-slice-read-t17 c = search needs
 
--- src/lib.rt:79:32
 cast-t18 : tie.Need-cast-t18
 cast-t18 c = omega (arith, c .shared-slice-known4 .given (c .before .before .before .before .args .at + 1))
 
--- src/lib.rt:69:1
 returns : tie.Need-returns
 returns c =
     let s = c .before .before .before .before .before .args in
     (ap Known (toZ-ofZ (record { sfits = c .signed .ok }) ∙ c .signed .ensures) ∙ ap (λ (n : ℕ). cellAs n (getD (s .mem .now) (s .at + 1) 0)) (sym (c .before .before .if1 .taken)), search needs)
 
--- src/lib.rt:69:1
 returns-2 : tie.Need-returns-2
 returns-2 c = (cell-open _ _ (c .before .if1 .left), omega (arith, c .shared-slice-known4 .given (c .before .before .before .before .args .at + 1)))
 

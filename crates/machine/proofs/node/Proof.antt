@@ -7,51 +7,39 @@ use Rattle.machine.proofs.node.Tie as tie
 use Rattle.machine.proofs.node.Reads as reads
 use Rattle.machine.proofs.node.Lts as lts
 
--- src/lib.rt:107:21
 mul-at : tie.Need-mul-at
 mul-at c = search needs
 
--- src/lib.rt:107:14
 add-at : tie.Need-add-at
 add-at c = search needs
 
--- src/lib.rt:108:5
 mul-mem : tie.Need-mul-mem
 mul-mem c = search needs
 
--- src/lib.rt:108:5
 slice-write-mem : tie.Need-slice-write-mem
 slice-write-mem c = search needs
 
--- src/lib.rt:109:9
 add-mem : tie.Need-add-mem
 add-mem c = search needs
 
--- src/lib.rt:109:5
 mul-mem-2 : tie.Need-mul-mem-2
 mul-mem-2 c = search needs
 
--- src/lib.rt:109:5
 slice-write-mem-2 : tie.Need-slice-write-mem-2
 slice-write-mem-2 c = simp length-set (omega arith)
 
--- src/lib.rt:110:9
 add-mem-2 : tie.Need-add-mem-2
 add-mem-2 c = search needs
 
--- src/lib.rt:110:5
 mul-mem-3 : tie.Need-mul-mem-3
 mul-mem-3 c = search needs
 
--- src/lib.rt:110:5
 slice-write-mem-3 : tie.Need-slice-write-mem-3
 slice-write-mem-3 c = simp length-set (omega arith)
 
--- src/lib.rt:103:1
 same-length : tie.Need-same-length
 same-length c = search needs
 
--- src/lib.rt:103:1
 returns : tie.Need-returns
 returns c = noded (c .args .mem .now) (c .args .nodes) (c .args .k) (c .args .x) (c .args .y) (c .pre)
 

@@ -10,23 +10,18 @@ use Rattle.machine.proofs.pair.Reads as pair-reads
 use Rattle.machine.proofs.put.Reads as put-reads
 use Rattle.machine.proofs.work.Reads as work-reads
 
--- src/lib.rt:236:9
 pair-requires : tie.Need-pair-requires
 pair-requires c κs = search needs
 
--- src/lib.rt:239:9
 work-requires : tie.Need-work-requires
 work-requires c κs = search needs
 
--- src/lib.rt:241:21
 mul-put : tie.Need-mul-put
 mul-put c = search needs
 
--- src/lib.rt:241:14
 add-put : tie.Need-add-put
 add-put c = search needs
 
--- src/lib.rt:241:5
 put-requires : tie.Need-put-requires
 put-requires c κs =
     let s = c .before .before .before .before .before .before .before .before .before .before in
@@ -34,19 +29,15 @@ put-requires c κs =
     let w = c .before .before .before .before .work in
     (omega (arith, w .kept .0, p .ensures .high, s .pre .4 .words), w .ensures .sized)
 
--- src/lib.rt:243:13
 add-t19 : tie.Need-add-t19
 add-t19 c = search needs
 
--- src/lib.rt:246:14
 add-t20 : tie.Need-add-t20
 add-t20 c = search needs
 
--- src/lib.rt:232:1
 same-length : tie.Need-same-length
 same-length c = search needs
 
--- src/lib.rt:232:1
 returns : tie.Need-returns
 returns c =
     let s = c .before .before .before .before .before .before .before .before .before .before .before .before .before .before .before in

@@ -12,22 +12,18 @@ use Rattle.machine.proofs.pair.Lts as lts
 use Rattle.machine.proofs.less.Reads as less-reads
 use Rattle.machine.proofs.take.Reads as take-reads
 
--- src/lib.rt:212:9
 take-requires : tie.Need-take-requires
 take-requires c κs = search needs
 
--- src/lib.rt:221:41
 less-requires : tie.Need-less-requires
 less-requires c κs = search needs
 
--- src/lib.rt:221:9
 take-requires-2 : tie.Need-take-requires-2
 take-requires-2 c κs =
     let s = c .before .before .before .before in
     let t = c .before .take in
     (s .pre .0, topped-ready (s .args .mem .now) (s .args .run) (t .result .top) (s .pre .1) (t .ensures .low) (t .ensures .high))
 
--- src/lib.rt:208:1
 returns : tie.Need-returns
 returns c =
     let s = c .before .before .before .before .before in

@@ -15,69 +15,53 @@ use Rattle.machine.proofs.put.Reads as reads
 use Rattle.machine.proofs.put.Lts as lts
 use Rattle.ints.proofs.word.Reads as word-reads
 
--- src/lib.rt:91:22
 enum-known-v : tie.Need-enum-known-v
 enum-known-v c = search needs
 
--- src/lib.rt:92:13
 mul-mem : tie.Need-mul-mem
 mul-mem c = search needs
 
--- src/lib.rt:92:13
 slice-write-mem : tie.Need-slice-write-mem
 slice-write-mem c = search needs
 
--- src/lib.rt:93:27
 word-requires : tie.Need-word-requires
 word-requires c κs = search needs
 
--- src/lib.rt:93:17
 add-mem : tie.Need-add-mem
 add-mem c = search needs
 
--- src/lib.rt:93:13
 mul-mem-2 : tie.Need-mul-mem-2
 mul-mem-2 c = search needs
 
--- src/lib.rt:93:13
 slice-write-mem-2 : tie.Need-slice-write-mem-2
 slice-write-mem-2 c = search needs
 
--- src/lib.rt:95:21
 enum-known-v-2 : tie.Need-enum-known-v-2
 enum-known-v-2 c = search needs
 
--- src/lib.rt:96:13
 mul-mem-3 : tie.Need-mul-mem-3
 mul-mem-3 c = search needs
 
--- src/lib.rt:96:13
 slice-write-mem-3 : tie.Need-slice-write-mem-3
 slice-write-mem-3 c = search needs
 
--- src/lib.rt:97:27
 cast-mem : tie.Need-cast-mem
 cast-mem c =
     let w : Sized (Open (c .before .v2 .given .0 .0)) = subst (λ (v : Value). Sized v) (c .before .v2 .given .1) (c .before .before .before .before .pre .1) in
     record { fits = w }
 
--- src/lib.rt:97:17
 add-mem-2 : tie.Need-add-mem-2
 add-mem-2 c = search needs
 
--- src/lib.rt:97:13
 mul-mem-4 : tie.Need-mul-mem-4
 mul-mem-4 c = search needs
 
--- src/lib.rt:97:13
 slice-write-mem-4 : tie.Need-slice-write-mem-4
 slice-write-mem-4 c = search needs
 
--- src/lib.rt:85:1
 same-length : tie.Need-same-length
 same-length c = search needs
 
--- src/lib.rt:85:1
 returns : tie.Need-returns
 returns c =
     let s = c .before .before .before .before .before in
@@ -87,11 +71,9 @@ returns c =
     let e : c .word .result ≡ ofZ w32 z = simp (toZ-ofZ f) at (c .word .ensures) in
     put-two (s .args .mem .now) (s .args .at) 0 (c .word .result) (s .pre .0) (cellOf (s .args .c .value)) (ap nodes.Known (ap (toZ w32) e ∙ toZ-ofZ f) ∙ ap cellOf (sym (g .1)))
 
--- src/lib.rt:85:1
 same-length-2 : tie.Need-same-length-2
 same-length-2 c = search needs
 
--- src/lib.rt:85:1
 returns-2 : tie.Need-returns-2
 returns-2 c =
     let s = c .before .before .before .before in

@@ -7,15 +7,12 @@ use Rattle.machine.proofs.start.Reads as reads
 use Rattle.machine.proofs.start.Lts as lts
 use Rattle.machine.proofs.blank.Reads as blank-reads
 
--- src/lib.rt:402:5
 blank-requires : tie.Need-blank-requires
 blank-requires c κs = search needs
 
--- src/lib.rt:398:1
 same-length : tie.Need-same-length
 same-length c = search needs
 
--- src/lib.rt:398:1
 returns : tie.Need-returns
 returns c =
     let s = c .before .before .before .before .before in

@@ -8,35 +8,27 @@ use Rattle.machine.proofs.store.Lts as lts
 use Rattle.machine.proofs.put.Reads as put-reads
 use Rattle.machine.proofs.take.Reads as take-reads
 
--- src/lib.rt:257:9
 take-requires : tie.Need-take-requires
 take-requires c κs = search needs
 
--- src/lib.rt:259:14
 mul-put : tie.Need-mul-put
 mul-put c = search needs
 
--- src/lib.rt:259:31
 mul-put-2 : tie.Need-mul-put-2
 mul-put-2 c = search needs
 
--- src/lib.rt:259:14
 add-put : tie.Need-add-put
 add-put c = search needs
 
--- src/lib.rt:259:5
 put-requires : tie.Need-put-requires
 put-requires c κs = search needs
 
--- src/lib.rt:261:13
 add-t13 : tie.Need-add-t13
 add-t13 c = search needs
 
--- src/lib.rt:253:1
 same-length : tie.Need-same-length
 same-length c = search needs
 
--- src/lib.rt:253:1
 returns : tie.Need-returns
 returns c =
     let s = c .before .before .before .before .before .before .before .before .before .before .before in

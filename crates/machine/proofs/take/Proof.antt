@@ -14,67 +14,52 @@ use Rattle.ints.proofs.signed.Reads as signed-reads
 use Rattle.machine.proofs.load.Reads as load-reads
 use Rattle.machine.proofs.pop.Reads as pop-reads
 
--- src/lib.rt:176:9
 pop-requires : tie.Need-pop-requires
 pop-requires c κs = search needs
 
--- src/lib.rt:176:9
 returns : tie.Need-returns
 returns c =
     let a = c .before .before .before .before .args in
     taking-out (a .code .now) (a .size) (a .mem .now) (a .run) (a .j) (c .pop .result .value) (c .pop .result .top) (inl (c .before .if1 .taken)) (c .pop .ensures)
 
--- src/lib.rt:179:9
 pop-requires-2 : tie.Need-pop-requires-2
 pop-requires-2 c κs = search needs
 
--- src/lib.rt:179:9
 returns-2 : tie.Need-returns-2
 returns-2 c =
     let a = c .before .before .before .before .before .args in
     taking-out (a .code .now) (a .size) (a .mem .now) (a .run) (a .j) (c .pop2 .result .value) (c .pop2 .result .top) (inr (c .before .if2 .taken)) (c .pop2 .ensures)
 
--- src/lib.rt:181:23
 sub-k : tie.Need-sub-k
 sub-k c = search needs
 
--- src/lib.rt:181:18
 mul-k : tie.Need-mul-k
 mul-k c = search needs
 
--- src/lib.rt:181:13
 mul-k-2 : tie.Need-mul-k-2
 mul-k-2 c = search needs
 
--- src/lib.rt:181:13
 shared-slice-read-k : tie.Need-shared-slice-read-k
 shared-slice-read-k c = search needs
 
--- src/lib.rt:182:23
 sub-w : tie.Need-sub-w
 sub-w c = search needs
 
--- src/lib.rt:182:18
 mul-w : tie.Need-mul-w
 mul-w c = search needs
 
--- src/lib.rt:182:18
 add-w : tie.Need-add-w
 add-w c = search needs
 
--- src/lib.rt:182:13
 mul-w-2 : tie.Need-mul-w-2
 mul-w-2 c = search needs
 
--- src/lib.rt:182:13
 shared-slice-read-w : tie.Need-shared-slice-read-w
 shared-slice-read-w c = search needs
 
--- src/lib.rt:185:33
 signed-requires : tie.Need-signed-requires
 signed-requires c κs = search needs
 
--- src/lib.rt:184:9
 returns-3 : tie.Need-returns-3
 returns-3 c =
     let s = c .before .before .before .before .before .before .before .before in
@@ -85,27 +70,21 @@ returns-3 c =
     let w : ℕ = getD (a .code .now) (2 * (a .j - 1) + 1) 0 in
     taking-number (a .code .now) (a .size) (a .mem .now) (a .run) (a .j) k w h (λ q. omega arith) refl refl _ (search needs) (toZ-ofZ (record { sfits = c .signed .ok }) ∙ c .signed .ensures) (c .before .if3 .taken) (s .pre .1 .low)
 
--- src/lib.rt:190:27
 mul-load : tie.Need-mul-load
 mul-load c = search needs
 
--- src/lib.rt:190:49
 cast-load : tie.Need-cast-load
 cast-load c = omega (arith, c .before .before .before .shared-slice-known4 .given (2 * (c .before .before .before .before .before .before .before .before .before .args .j - 1) + 1))
 
--- src/lib.rt:190:44
 mul-load-2 : tie.Need-mul-load-2
 mul-load-2 c = search needs
 
--- src/lib.rt:190:27
 add-load : tie.Need-add-load
 add-load c = search needs
 
--- src/lib.rt:190:13
 load-requires : tie.Need-load-requires
 load-requires c κs = search needs
 
--- src/lib.rt:192:9
 returns-4 : tie.Need-returns-4
 returns-4 c =
     let s = c .before .before .before .before .before .before .before .before .before .before in
@@ -116,11 +95,9 @@ returns-4 c =
     let w : ℕ = getD (a .code .now) (2 * (a .j - 1) + 1) 0 in
     taking-name (a .code .now) (a .size) (a .mem .now) (a .run) (a .j) k w h (λ q. omega arith) refl refl (c .load .result .value) (s .pre .1) (c .load .ensures .0) (c .load .ensures .1) (c .before .before .if4 .taken)
 
--- src/lib.rt:197:5
 pop-requires-3 : tie.Need-pop-requires-3
 pop-requires-3 c κs = search needs
 
--- src/lib.rt:171:1
 returns-5 : tie.Need-returns-5
 returns-5 c =
     let s = c .before .before .before .before .before .before .before .before .before in

@@ -35,95 +35,72 @@ known-word v x z e f q = ap nodes.Known (ap (toZ w32) q ∙ toZ-ofZ f) ∙ ap ce
 open-word : (v : Value) (j : ℕ) → v ≡ Open j → cellAs 1 j ≡ cellOf v
 open-word v j e = ap cellOf (sym e)
 
--- src/lib.rt:119:22
 enum-known-v : tie.Need-enum-known-v
 enum-known-v c = search needs
 
--- src/lib.rt:120:26
 enum-known-w : tie.Need-enum-known-w
 enum-known-w c = search needs
 
--- src/lib.rt:121:37
 operate-requires : tie.Need-operate-requires
 operate-requires c κs = search needs
 
--- src/lib.rt:124:25
 enum-known-w-2 : tie.Need-enum-known-w-2
 enum-known-w-2 c = search needs
 
--- src/lib.rt:125:34
 add-node : tie.Need-add-node
 add-node c = search needs
 
--- src/lib.rt:125:42
 word-requires : tie.Need-word-requires
 word-requires c κs = search needs
 
--- src/lib.rt:125:57
 cast-node : tie.Need-cast-node
 cast-node c = fits-open (c .before .before .before .before .before .before .before .before .before .args .w) _ (c .before .before .before .w2 .given .1) (c .before .before .before .before .before .before .before .before .before .pre .3)
 
--- src/lib.rt:125:17
 node-requires : tie.Need-node-requires
 node-requires c κs = search needs
 
--- src/lib.rt:128:28
 add-t23 : tie.Need-add-t23
 add-t23 c = search needs
 
--- src/lib.rt:132:21
 enum-known-v-2 : tie.Need-enum-known-v-2
 enum-known-v-2 c = search needs
 
--- src/lib.rt:133:26
 enum-known-w-3 : tie.Need-enum-known-w-3
 enum-known-w-3 c = search needs
 
--- src/lib.rt:134:34
 add-node-2 : tie.Need-add-node-2
 add-node-2 c = search needs
 
--- src/lib.rt:134:42
 cast-node-2 : tie.Need-cast-node-2
 cast-node-2 c = fits-open (c .before .before .before .before .before .before .before .before .args .v) _ (c .before .before .before .before .before .v2 .given .1) (c .before .before .before .before .before .before .before .before .pre .2)
 
--- src/lib.rt:134:52
 word-requires-2 : tie.Need-word-requires-2
 word-requires-2 c κs = search needs
 
--- src/lib.rt:134:17
 node-requires-2 : tie.Need-node-requires-2
 node-requires-2 c κs = search needs
 
--- src/lib.rt:137:28
 add-t32 : tie.Need-add-t32
 add-t32 c = search needs
 
--- src/lib.rt:140:25
 enum-known-w-4 : tie.Need-enum-known-w-4
 enum-known-w-4 c = search needs
 
--- src/lib.rt:141:34
 add-node-3 : tie.Need-add-node-3
 add-node-3 c = search needs
 
--- src/lib.rt:141:43
 cast-node-3 : tie.Need-cast-node-3
 cast-node-3 c = fits-open (c .before .before .before .before .before .before .before .before .args .v) _ (c .before .before .before .before .before .v2 .given .1) (c .before .before .before .before .before .before .before .before .pre .2)
 
--- src/lib.rt:141:53
 cast-node-4 : tie.Need-cast-node-4
 cast-node-4 c = fits-open (c .before .before .before .before .before .before .before .before .args .w) _ (c .before .before .w4 .given .1) (c .before .before .before .before .before .before .before .before .pre .3)
 
--- src/lib.rt:141:17
 node-requires-3 : tie.Need-node-requires-3
 node-requires-3 c κs = search needs
 
--- src/lib.rt:144:28
 add-t40 : tie.Need-add-t40
 add-t40 c = search needs
 
--- src/lib.rt:114:1
 returns : tie.Need-returns
 returns c =
     let s = c .before .before .before .before .before .before .before .before in
@@ -136,11 +113,9 @@ returns c =
     let o : toZ w32 (ofZ w32 (c .operate .result)) ≡ int.arith (operation (s .args .op)) x y = toZ-ofZ (record { sfits = c .operate .ok }) ∙ simp (toZ-ofZ fx, toZ-ofZ fy) at (c .operate .ensures) in
     worked-both (s .args .mem .now) (s .args .nodes) (operation (s .args .op)) (s .args .v) (s .args .w) x y _ (search needs) (gv .1) (gw .1) o
 
--- src/lib.rt:114:1
 same-length : tie.Need-same-length
 same-length c = search needs
 
--- src/lib.rt:114:1
 returns-2 : tie.Need-returns-2
 returns-2 c =
     let s = c .before .before .before .before .before .before .before .before .before .before .before .before in
@@ -155,11 +130,9 @@ returns-2 c =
     ∙ (λ i. nodes.operation (operation (s .args .op)) (known-word (s .args .v) (d .result) (gv .0 .0) (gv .1) f (simp (toZ-ofZ f) at (d .ensures)) i) (open-word (s .args .w) (gw .0 .0) (gw .1) i)))
     (omega (arith, s .pre .0 .small)) (gv .0 .0) (gw .0 .0) (gv .1) (gw .1)
 
--- src/lib.rt:114:1
 same-length-2 : tie.Need-same-length-2
 same-length-2 c = search needs
 
--- src/lib.rt:114:1
 returns-3 : tie.Need-returns-3
 returns-3 c =
     let s = c .before .before .before .before .before .before .before .before .before .before .before .before in
@@ -174,11 +147,9 @@ returns-3 c =
     ∙ (λ i. nodes.operation (operation (s .args .op)) (open-word (s .args .v) (gv .0 .0) (gv .1) i) (known-word (s .args .w) (d .result) (gw .0 .0) (gw .1) f (simp (toZ-ofZ f) at (d .ensures)) i)))
     (omega (arith, s .pre .0 .small)) (gv .0 .0) (gv .1)
 
--- src/lib.rt:114:1
 same-length-3 : tie.Need-same-length-3
 same-length-3 c = search needs
 
--- src/lib.rt:114:1
 returns-4 : tie.Need-returns-4
 returns-4 c =
     let s = c .before .before .before .before .before .before .before .before .before .before .before in

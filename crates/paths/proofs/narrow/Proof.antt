@@ -7,7 +7,7 @@ use lib.ListN.{length}
 use Rattle.semantics.specs.Search.{decided}
 use Rattle.ints.specs.Numbers.{comparison}
 use Rattle.intervals.specs.Meaning.{ofPairs}
-use Rattle.windows.specs.Meaning.{rangeOf}
+use Rattle.narrowing.specs.Meaning.{rangeOf}
 use Rattle.machine.proofs.Tables.{room-same}
 use Rattle.paths.proofs.Narrowing.{ends, side-placed, sides-undecided, narrowed-none, put-some, narrowed-so}
 use borrow.Author.Needs.{needs}

@@ -5,10 +5,10 @@ use mathlib.Core.List.{[], _∷_}
 use native.Mathlib.Numerals.{add-one}
 use borrow.Author.Needs.{needs}
 use types.Run.{OneOf}
-use Rattle.rules.proofs.Items.{number, not-one}
-use Rattle.rules.specs.declared.item.Item.{Item}
-use Rattle.rules.specs.declared.item.Item.the-variants.{Function, Parameter, Thing, Opens, Closes, Declares, Uses, Calls, Ends}
-use Rattle.rules.specs.Answers.{event}
+use Rattle.text_rules.proofs.Items.{number, not-one}
+use Rattle.text_rules.specs.declared.item.Item.{Item}
+use Rattle.text_rules.specs.declared.item.Item.the-variants.{Function, Parameter, Thing, Opens, Closes, Declares, Uses, Calls, Ends}
+use Rattle.text_rules.specs.Answers.{event}
 use Rattle.remarks.specs.Remarks.{begun}
 use Rattle.remarks.proofs.begin.Statement.{statement}
 use Rattle.remarks.proofs.begin.Tie as tie

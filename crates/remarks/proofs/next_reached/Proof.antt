@@ -3,8 +3,8 @@ use Prim.Native.Nat.{_-_, _≤_}
 use mathlib.Core.Path.{_≡_, sym, ap, _∙_}
 use native.Mathlib.Omega.{arith}
 use borrow.Author.Needs.{needs}
-use Rattle.rules.specs.Spelling.{sameName}
-use Rattle.rules.specs.Answers.{event, found, storedHeads}
+use Rattle.text_rules.specs.Spelling.{sameName}
+use Rattle.text_rules.specs.Answers.{event, found, storedHeads}
 use Rattle.remarks.specs.Steps.{fresh, callsIn}
 use Rattle.remarks.proofs.Marking.{freshFrom, fresh-start, fresh-turn, fresh-found, fresh-end, begun-less}
 use Rattle.remarks.proofs.next_reached.Statement.{statement}

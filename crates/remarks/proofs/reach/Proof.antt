@@ -3,8 +3,8 @@ use mathlib.Core.Path.{sym, ap, _∙_}
 use native.Mathlib.Omega.{arith}
 use lib.ListN.{length-set}
 use borrow.Author.Needs.{needs}
-use Rattle.rules.specs.Spelling.{sameName}
-use Rattle.rules.specs.Answers.{found}
+use Rattle.text_rules.specs.Spelling.{sameName}
+use Rattle.text_rules.specs.Answers.{found}
 use Rattle.remarks.specs.Steps.{callsIn}
 use Rattle.remarks.proofs.Marking.{Marking, zeros, fewer, follows, marking-start, marking-turn, marking-end}
 use Rattle.remarks.proofs.reach.Statement.{statement}

@@ -13,35 +13,27 @@ use Rattle.lines.proofs.job_line.Reads as job-line-reads
 use Rattle.lines.proofs.line_settled.Reads as line-settled-reads
 use Rattle.respond.proofs.is_job_enough.Reads as is-job-enough-reads
 
--- src/lib.rt:83:9
 line-settled-requires : tie.Need-line-settled-requires
 line-settled-requires c κs = search needs
 
--- src/lib.rt:84:9
 returns : tie.Need-returns
 returns c = enough-not _ (sym (c .before .line-settled .ensures) ∙ not-true _ (c .if1 .taken))
 
--- src/lib.rt:86:11
 job-line-requires : tie.Need-job-line-requires
 job-line-requires c κs = search needs
 
--- src/lib.rt:87:25
 enum-told : tie.Need-enum-told
 enum-told c = search needs
 
--- src/lib.rt:88:23
 enum-known-job : tie.Need-enum-known-job
 enum-known-job c = search needs
 
--- src/lib.rt:88:31
 is-job-enough-requires : tie.Need-is-job-enough-requires
 is-job-enough-requires c κs = omega (arith, good-holds _ _ (sym (c .before .before .before .before .before .job-line .ensures) ∙ c .before .before .before .job .given .1) .near)
 
--- src/lib.rt:80:1
 returns-2 : tie.Need-returns-2
 returns-2 c = enough-line _ _ (sym (c .before .before .before .before .line-settled .ensures) ∙ not-false _ (c .before .before .before .if1 .left)) (sym (c .before .before .job-line .ensures) ∙ c .enum-told .given .1)
 
--- src/lib.rt:80:1
 returns-3 : tie.Need-returns-3
 returns-3 c =
     let good = sym (c .before .before .before .before .before .before .job-line .ensures) ∙ c .before .before .before .before .job .given .1 in

@@ -10,29 +10,23 @@ use Rattle.respond.proofs.is_job_enough.Statement.{statement}
 use Rattle.respond.proofs.is_job_enough.Tie as tie
 use Rattle.respond.proofs.is_job_enough.Reads as reads
 use Rattle.respond.proofs.is_job_enough.Lts as lts
-use Rattle.search.proofs.refusal.Reads as refusal-reads
+use Rattle.list.proofs.refusal.Reads as refusal-reads
 
--- src/lib.rt:73:11
 refusal-requires : tie.Need-refusal-requires
 refusal-requires c κs = search needs
 
--- src/lib.rt:74:28
 enum-told : tie.Need-enum-told
 enum-told c = search needs
 
--- src/lib.rt:74:28
 add-result : tie.Need-add-result
 add-result c = search needs
 
--- src/lib.rt:75:30
 enum-told-2 : tie.Need-enum-told-2
 enum-told-2 c = search needs
 
--- src/lib.rt:69:1
 returns : tie.Need-returns
 returns c = ap (λ (g : Option ℕ). isSome g || ltb (c .before .before .before .args .text + 2048) (c .before .before .before .args .read)) (rw (c .enum-told .given .1, toZ-ofZ (c .before .before .before .fits .low), toZ-ofZ (c .before .before .before .fits .high)) at (c .before .before .refusal .ensures))
 
--- src/lib.rt:69:1
 returns-2 : tie.Need-returns-2
 returns-2 c = ap (λ (g : Option ℕ). isSome g || ltb (c .before .before .before .args .text + 2048) (c .before .before .before .args .read)) (rw (c .enum-told2 .given .1, toZ-ofZ (c .before .before .before .fits .low), toZ-ofZ (c .before .before .before .fits .high)) at (c .before .before .refusal .ensures))
 

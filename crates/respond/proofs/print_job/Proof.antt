@@ -10,33 +10,26 @@ use Rattle.respond.proofs.print_job.Tie as tie
 use Rattle.respond.proofs.print_job.Reads as reads
 use Rattle.respond.proofs.print_job.Lts as lts
 use Rattle.respond.proofs.print_listed.Reads as print-listed-reads
-use Rattle.search.proofs.list.Reads as list-reads
+use Rattle.list.proofs.list.Reads as list-reads
 
--- src/lib.rt:44:67
 slice-aggregate-list : tie.Need-slice-aggregate-list
 slice-aggregate-list c = search needs
 
--- src/lib.rt:44:78
 slice-aggregate-list-2 : tie.Need-slice-aggregate-list-2
 slice-aggregate-list-2 c = search needs
 
--- src/lib.rt:44:9
 list-requires : tie.Need-list-requires
 list-requires c κs = search needs
 
--- src/lib.rt:45:23
 slice-aggregate-print-listed : tie.Need-slice-aggregate-print-listed
 slice-aggregate-print-listed c = search needs
 
--- src/lib.rt:45:5
 print-listed-requires : tie.Need-print-listed-requires
 print-listed-requires c κs = (small-answer _ _ _ _ _ _ (toZ-ofZ (c .before .before .before .before .before .before .before .before .before .fits .low)) (toZ-ofZ (c .before .before .before .before .before .before .before .before .before .fits .high)) (c .before .before .before .before .list .ensures), omega (arith, c .before .before .before .rows2 .given, length-replicate 10000 (pos 0)), search needs)
 
--- src/lib.rt:38:1
 same-length : tie.Need-same-length
 same-length c = search needs
 
--- src/lib.rt:38:1
 returns : tie.Need-returns
 returns c = (put-as (same-lines _ _ _ _ _ _ (toZ-ofZ (c .before .before .before .before .before .before .before .before .before .before .before .before .fits .low)) (toZ-ofZ (c .before .before .before .before .before .before .before .before .before .before .before .before .fits .high)) (c .before .before .before .before .before .before .before .list .ensures)) (c .before .before .print-listed .ensures .0), c .before .before .print-listed .ensures .1)
 

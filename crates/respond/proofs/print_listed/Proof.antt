@@ -9,99 +9,78 @@ use Rattle.respond.proofs.print_listed.Lts as lts
 use Rattle.lines.proofs.put_refusal.Reads as put-refusal-reads
 use Rattle.respond.proofs.print_rows.Reads as print-rows-reads
 
--- src/lib.rt:28:25
 enum-known-listed : tie.Need-enum-known-listed
 enum-known-listed c = search needs
 
--- src/lib.rt:28:78
 cast-put-refusal : tie.Need-cast-put-refusal
 cast-put-refusal c = omega (arith, (rw (c .before .before .listed .given .1) at (c .before .before .before .before .before .pre .0)) .near)
 
--- src/lib.rt:28:43
 put-refusal-requires : tie.Need-put-refusal-requires
 put-refusal-requires c κs = search needs
 
--- src/lib.rt:29:23
 enum-known-listed-2 : tie.Need-enum-known-listed-2
 enum-known-listed-2 c = search needs
 
--- src/lib.rt:29:40
 print-rows-requires : tie.Need-print-rows-requires
 print-rows-requires c κs =
     let s = rw (c .before .before .listed2 .given .1) at (c .before .before .before .before .before .pre .0) in
     (s .few, omega (arith, s .few, c .before .before .before .before .before .pre .1), c .before .before .before .before .before .pre .2)
 
--- src/lib.rt:30:21
 enum-known-listed-3 : tie.Need-enum-known-listed-3
 enum-known-listed-3 c = search needs
 
--- src/lib.rt:30:38
 print-rows-requires-2 : tie.Need-print-rows-requires-2
 print-rows-requires-2 c κs =
     let s = rw (c .before .before .listed3 .given .1) at (c .before .before .before .before .before .pre .0) in
     (s .few, omega (arith, s .few, c .before .before .before .before .before .pre .1), c .before .before .before .before .before .pre .2)
 
--- src/lib.rt:31:22
 enum-known-listed-4 : tie.Need-enum-known-listed-4
 enum-known-listed-4 c = search needs
 
--- src/lib.rt:31:39
 print-rows-requires-3 : tie.Need-print-rows-requires-3
 print-rows-requires-3 c κs =
     let s = rw (c .before .before .listed4 .given .1) at (c .before .before .before .before .before .pre .0) in
     (s .few, omega (arith, s .few, c .before .before .before .before .before .pre .1), c .before .before .before .before .before .pre .2)
 
--- src/lib.rt:32:23
 enum-known-listed-5 : tie.Need-enum-known-listed-5
 enum-known-listed-5 c = search needs
 
--- src/lib.rt:32:40
 print-rows-requires-4 : tie.Need-print-rows-requires-4
 print-rows-requires-4 c κs =
     let s = rw (c .before .before .listed5 .given .1) at (c .before .before .before .before .before .pre .0) in
     (s .few, omega (arith, s .few, c .before .before .before .before .before .pre .1), c .before .before .before .before .before .pre .2)
 
--- src/lib.rt:23:1
 same-length : tie.Need-same-length
 same-length c = search needs
 
--- src/lib.rt:23:1
 returns : tie.Need-returns
 unfolding shown
 returns c = rw (c .before .before .before .before .before .listed .given .1) (put-refused _ _ (search needs) (omega (arith, (rw (c .before .before .before .before .before .listed .given .1) at (c .before .before .before .before .before .before .before .before .pre .0)) .near)) (c .before .before .put-refusal .ensures))
 
--- src/lib.rt:23:1
 same-length-2 : tie.Need-same-length-2
 same-length-2 c = search needs
 
--- src/lib.rt:23:1
 returns-2 : tie.Need-returns-2
 unfolding shown
 returns-2 c = rw (c .before .before .before .before .before .listed2 .given .1) (c .before .before .print-rows .ensures)
 
--- src/lib.rt:23:1
 same-length-3 : tie.Need-same-length-3
 same-length-3 c = search needs
 
--- src/lib.rt:23:1
 returns-3 : tie.Need-returns-3
 unfolding shown
 returns-3 c = rw (c .before .before .before .before .before .listed3 .given .1) (c .before .before .print-rows2 .ensures)
 
--- src/lib.rt:23:1
 same-length-4 : tie.Need-same-length-4
 same-length-4 c = search needs
 
--- src/lib.rt:23:1
 returns-4 : tie.Need-returns-4
 unfolding shown
 returns-4 c = rw (c .before .before .before .before .before .listed4 .given .1) (c .before .before .print-rows3 .ensures)
 
--- src/lib.rt:23:1
 same-length-5 : tie.Need-same-length-5
 same-length-5 c = search needs
 
--- src/lib.rt:23:1
 returns-5 : tie.Need-returns-5
 unfolding shown
 returns-5 c = rw (c .before .before .before .before .before .listed5 .given .1) (c .before .before .print-rows4 .ensures)

@@ -8,23 +8,18 @@ use Rattle.respond.proofs.print_rows.Lts as lts
 use Rattle.lines.proofs.put_last_line.Reads as put-last-line-reads
 use Rattle.lines.proofs.put_rows.Reads as put-rows-reads
 
--- src/lib.rt:18:9
 put-rows-requires : tie.Need-put-rows-requires
 put-rows-requires c κs = search needs
 
--- src/lib.rt:19:42
 cast-put-last-line : tie.Need-cast-put-last-line
 cast-put-last-line c = search needs
 
--- src/lib.rt:19:5
 put-last-line-requires : tie.Need-put-last-line-requires
 put-last-line-requires c κs = search needs
 
--- src/lib.rt:14:1
 same-length : tie.Need-same-length
 same-length c = search needs
 
--- src/lib.rt:14:1
 returns : tie.Need-returns
 returns c = put-listed _ _ _ (c .before .before .before .before .before .before .before .before .before .pre .0) (c .before .before .before .before .before .before .before .before .before .fits .moves .fits) (c .before .before .before .before .before .before .put-rows .ensures .0) (omega (arith, c .before .before .before .before .before .before .put-rows .ensures .1)) (c .before .before .put-last-line .ensures)
 

@@ -17,48 +17,38 @@ use Rattle.lines.proofs.job_line.Reads as job-line-reads
 use Rattle.lines.proofs.put_refusal.Reads as put-refusal-reads
 use Rattle.respond.proofs.print_job.Reads as print-job-reads
 
--- src/lib.rt:55:11
 job-line-requires : tie.Need-job-line-requires
 job-line-requires c κs = search needs
 
--- src/lib.rt:56:44
 enum-told : tie.Need-enum-told
 enum-told c = search needs
 
--- src/lib.rt:56:25
 put-refusal-requires : tie.Need-put-refusal-requires
 put-refusal-requires c κs = search needs
 
--- src/lib.rt:57:23
 enum-known-job : tie.Need-enum-known-job
 enum-known-job c = search needs
 
--- src/lib.rt:59:28
 sub-print-job : tie.Need-sub-print-job
 sub-print-job c = good-holds _ _ (sym (c .before .before .before .before .job-line .ensures) ∙ c .before .before .job .given .1) .inside
 
--- src/lib.rt:59:28
 part-print-job-start : tie.Need-part-print-job-start
 part-print-job-start c =
     let h = good-holds _ _ (sym (c .before .before .before .before .job-line .ensures) ∙ c .before .before .job .given .1) .inside in
     search needs
 
--- src/lib.rt:59:28
 part-print-job-end : tie.Need-part-print-job-end
 part-print-job-end c = search needs
 
--- src/lib.rt:59:13
 print-job-requires : tie.Need-print-job-requires
 print-job-requires c κs = search needs
 
--- src/lib.rt:52:1
 returns : tie.Need-returns
 returns c =
     let x = put-refused 16 0 (omega arith) (omega arith) (c .put-refusal .ensures) in
     let h : 110039 ≤ length (c .before .before .before .before .before .before .args .out .now) = search needs in
     (put-as (sym (bad-line _ (sym (c .before .before .before .before .job-line .ensures) ∙ c .before .before .enum-told .given .1))) (x .0), omega (arith, x .1, put-length (x .0)))
 
--- src/lib.rt:52:1
 returns-2 : tie.Need-returns-2
 returns-2 c =
     let good = sym (c .before .before .before .before .before .before .before .before .job-line .ensures) ∙ c .before .before .before .before .before .before .job .given .1 in

@@ -6,103 +6,78 @@ use Rattle.syntax.proofs.put.Tie as tie
 use Rattle.syntax.proofs.put.Reads as reads
 use Rattle.syntax.proofs.put.Lts as lts
 
--- src/lib.rt:45:11
 mul-nodes : tie.Need-mul-nodes
 mul-nodes c = search needs
 
--- src/lib.rt:45:5
 mul-nodes-2 : tie.Need-mul-nodes-2
 mul-nodes-2 c = search needs
 
--- src/lib.rt:45:5
 slice-write-nodes : tie.Need-slice-write-nodes
 slice-write-nodes c = search needs
 
--- src/lib.rt:46:24
 cast-nodes : tie.Need-cast-nodes
 cast-nodes c = search needs
 
--- src/lib.rt:46:11
 mul-nodes-3 : tie.Need-mul-nodes-3
 mul-nodes-3 c = search needs
 
--- src/lib.rt:46:11
 add-nodes : tie.Need-add-nodes
 add-nodes c = search needs
 
--- src/lib.rt:46:5
 mul-nodes-4 : tie.Need-mul-nodes-4
 mul-nodes-4 c = search needs
 
--- src/lib.rt:46:5
 slice-write-nodes-2 : tie.Need-slice-write-nodes-2
 slice-write-nodes-2 c = simp length-set (omega arith)
 
--- src/lib.rt:47:24
 cast-nodes-2 : tie.Need-cast-nodes-2
 cast-nodes-2 c = search needs
 
--- src/lib.rt:47:11
 mul-nodes-5 : tie.Need-mul-nodes-5
 mul-nodes-5 c = search needs
 
--- src/lib.rt:47:11
 add-nodes-2 : tie.Need-add-nodes-2
 add-nodes-2 c = search needs
 
--- src/lib.rt:47:5
 mul-nodes-6 : tie.Need-mul-nodes-6
 mul-nodes-6 c = search needs
 
--- src/lib.rt:47:5
 slice-write-nodes-3 : tie.Need-slice-write-nodes-3
 slice-write-nodes-3 c = simp length-set (omega arith)
 
--- src/lib.rt:48:24
 cast-nodes-3 : tie.Need-cast-nodes-3
 cast-nodes-3 c = search needs
 
--- src/lib.rt:48:11
 mul-nodes-7 : tie.Need-mul-nodes-7
 mul-nodes-7 c = search needs
 
--- src/lib.rt:48:11
 add-nodes-3 : tie.Need-add-nodes-3
 add-nodes-3 c = search needs
 
--- src/lib.rt:48:5
 mul-nodes-8 : tie.Need-mul-nodes-8
 mul-nodes-8 c = search needs
 
--- src/lib.rt:48:5
 slice-write-nodes-4 : tie.Need-slice-write-nodes-4
 slice-write-nodes-4 c = simp length-set (omega arith)
 
--- src/lib.rt:49:24
 cast-nodes-4 : tie.Need-cast-nodes-4
 cast-nodes-4 c = search needs
 
--- src/lib.rt:49:11
 mul-nodes-9 : tie.Need-mul-nodes-9
 mul-nodes-9 c = search needs
 
--- src/lib.rt:49:11
 add-nodes-4 : tie.Need-add-nodes-4
 add-nodes-4 c = search needs
 
--- src/lib.rt:49:5
 mul-nodes-10 : tie.Need-mul-nodes-10
 mul-nodes-10 c = search needs
 
--- src/lib.rt:49:5
 slice-write-nodes-5 : tie.Need-slice-write-nodes-5
 slice-write-nodes-5 c = simp length-set (omega arith)
 
--- src/lib.rt:41:1
 same-length : tie.Need-same-length
 same-length c = search needs
 
--- src/lib.rt:41:1
 returns : tie.Need-returns
 returns c = search needs
 

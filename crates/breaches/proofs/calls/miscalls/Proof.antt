@@ -3,11 +3,11 @@ use Prim.Native.Nat.{_≤_, _-_}
 use mathlib.Core.Path.{_≡_, sym, _∙_}
 use borrow.Author.Needs.{needs}
 use Rattle.events.specs.Stored.{stored}
-use Rattle.rules.specs.Scan.{on, least}
-use Rattle.rules.specs.Rules.{miscounted}
-use Rattle.rules.specs.Spelling.{sameName}
-use Rattle.rules.specs.Answers.{place, storedHeads}
-use Rattle.rules.proofs.Scans.{onAhead, on-start, on-turn, on-end}
+use Rattle.text_rules.specs.Scan.{on, least}
+use Rattle.text_rules.specs.Rules.{miscounted}
+use Rattle.text_rules.specs.Spelling.{sameName}
+use Rattle.text_rules.specs.Answers.{place, storedHeads}
+use Rattle.text_rules.proofs.Scans.{onAhead, on-start, on-turn, on-end}
 use Rattle.breaches.proofs.calls.miscalls.Statement.{statement}
 use Rattle.breaches.proofs.calls.miscalls.Tie as tie
 

@@ -6,11 +6,11 @@ use mathlib.Core.List.{List, [], _∷_}
 use borrow.Author.Needs.{needs}
 use borrow.Author.Tests.{eq-eqb, ne-eqb}
 use types.Run.{OneOf}
-use Rattle.rules.proofs.Items.{number, not-one}
-use Rattle.rules.specs.declared.item.Item.{Item}
-use Rattle.rules.specs.declared.item.Item.the-variants.{Function, Parameter, Thing, Opens, Closes, Declares, Uses, Calls, Ends}
-use Rattle.rules.specs.Rules.{Head, wrong, miscounted}
-use Rattle.rules.specs.Answers.{leastWith, event, found}
+use Rattle.text_rules.proofs.Items.{number, not-one}
+use Rattle.text_rules.specs.declared.item.Item.{Item}
+use Rattle.text_rules.specs.declared.item.Item.the-variants.{Function, Parameter, Thing, Opens, Closes, Declares, Uses, Calls, Ends}
+use Rattle.text_rules.specs.Rules.{Head, wrong, miscounted}
+use Rattle.text_rules.specs.Answers.{leastWith, event, found}
 use Rattle.breaches.proofs.calls.miscount.Statement.{statement}
 use Rattle.breaches.proofs.calls.miscount.Tie as tie
 

@@ -5,11 +5,11 @@ use borrow.Author.Needs.{needs}
 use native.Mathlib.Omega.{arith}
 use Rattle.events.specs.Event.{Event, function, parameter, thing, opens, closes, declares, uses, calls, ends}
 use Rattle.events.specs.Stored.{stored}
-use Rattle.rules.specs.Scan.{least}
-use Rattle.rules.specs.Rules.{Tally, tally, counted, over, tooMany}
-use Rattle.rules.specs.Answers.{place}
+use Rattle.text_rules.specs.Scan.{least}
+use Rattle.text_rules.specs.Rules.{Tally, tally, counted, over, tooMany}
+use Rattle.text_rules.specs.Answers.{place}
 use Rattle.breaches.specs.Answers.{tallied}
-use Rattle.rules.proofs.Scans.{ahead, ahead-start, ahead-turn, ahead-end}
+use Rattle.text_rules.proofs.Scans.{ahead, ahead-start, ahead-turn, ahead-end}
 use Rattle.breaches.proofs.counts.too_many.Statement.{statement}
 use Rattle.breaches.proofs.counts.too_many.Tie as tie
 

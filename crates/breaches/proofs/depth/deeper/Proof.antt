@@ -5,11 +5,11 @@ use native.Mathlib.Omega.{arith}
 use borrow.Author.Needs.{needs}
 use borrow.Author.Tests.{lt-ltb, le-ltb}
 use types.Run.{OneOf}
-use Rattle.rules.proofs.Items.{number, not-one}
-use Rattle.rules.specs.declared.item.Item.{Item}
-use Rattle.rules.specs.declared.item.Item.the-variants.{Function, Parameter, Thing, Opens, Closes, Declares, Uses, Calls, Ends}
-use Rattle.rules.specs.Rules.{deep}
-use Rattle.rules.specs.Answers.{leastWith, event}
+use Rattle.text_rules.proofs.Items.{number, not-one}
+use Rattle.text_rules.specs.declared.item.Item.{Item}
+use Rattle.text_rules.specs.declared.item.Item.the-variants.{Function, Parameter, Thing, Opens, Closes, Declares, Uses, Calls, Ends}
+use Rattle.text_rules.specs.Rules.{deep}
+use Rattle.text_rules.specs.Answers.{leastWith, event}
 use Rattle.breaches.proofs.depth.deeper.Statement.{statement}
 use Rattle.breaches.proofs.depth.deeper.Tie as tie
 

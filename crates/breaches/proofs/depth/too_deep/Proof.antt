@@ -3,10 +3,10 @@ use Prim.Native.Nat.{_≤_, _-_}
 use mathlib.Core.Path.{_≡_, sym, _∙_}
 use borrow.Author.Needs.{needs}
 use Rattle.events.specs.Stored.{stored}
-use Rattle.rules.specs.Scan.{least}
-use Rattle.rules.specs.Rules.{deep, tooDeep}
-use Rattle.rules.specs.Answers.{place}
-use Rattle.rules.proofs.Scans.{onAhead, on-start, on-turn, on-end}
+use Rattle.text_rules.specs.Scan.{least}
+use Rattle.text_rules.specs.Rules.{deep, tooDeep}
+use Rattle.text_rules.specs.Answers.{place}
+use Rattle.text_rules.proofs.Scans.{onAhead, on-start, on-turn, on-end}
 use Rattle.breaches.proofs.depth.too_deep.Statement.{statement}
 use Rattle.breaches.proofs.depth.too_deep.Tie as tie
 

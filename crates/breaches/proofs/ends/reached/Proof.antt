@@ -3,11 +3,11 @@ use mathlib.Core.Path.{_≡_, refl}
 use mathlib.Core.List.{[], _∷_}
 use borrow.Author.Needs.{needs}
 use types.Run.{OneOf}
-use Rattle.rules.proofs.Items.{number, not-one}
-use Rattle.rules.specs.declared.item.Item.{Item}
-use Rattle.rules.specs.declared.item.Item.the-variants.{Function, Parameter, Thing, Opens, Closes, Declares, Uses, Calls, Ends}
-use Rattle.rules.specs.Rules.{unended}
-use Rattle.rules.specs.Answers.{leastWith, event}
+use Rattle.text_rules.proofs.Items.{number, not-one}
+use Rattle.text_rules.specs.declared.item.Item.{Item}
+use Rattle.text_rules.specs.declared.item.Item.the-variants.{Function, Parameter, Thing, Opens, Closes, Declares, Uses, Calls, Ends}
+use Rattle.text_rules.specs.Rules.{unended}
+use Rattle.text_rules.specs.Answers.{leastWith, event}
 use Rattle.breaches.proofs.ends.reached.Statement.{statement}
 use Rattle.breaches.proofs.ends.reached.Tie as tie
 

@@ -3,8 +3,8 @@ use Prim.Native.Nat.{_-_}
 use mathlib.Core.Path.{sym, ap, _∙_}
 use borrow.Author.Needs.{needs}
 use native.Mathlib.Omega.{arith}
-use Rattle.rules.specs.Scan.{least, lesser}
-use Rattle.rules.proofs.Functions.{bad-some, bad-none}
+use Rattle.text_rules.specs.Scan.{least, lesser}
+use Rattle.text_rules.proofs.Functions.{bad-some, bad-none}
 use Rattle.breaches.proofs.mains.main_rule.Statement.{statement}
 use Rattle.breaches.proofs.mains.main_rule.Tie as tie
 

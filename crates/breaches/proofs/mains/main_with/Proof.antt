@@ -3,8 +3,8 @@ use mathlib.Core.Path.{sym, _∙_}
 use native.Mathlib.Omega.{arith}
 use borrow.Author.Needs.{needs}
 use borrow.Author.Tests.{lt-ltb, le-ltb}
-use Rattle.rules.specs.Rules.{mains, withParameters}
-use Rattle.rules.specs.Answers.{leastWith}
+use Rattle.text_rules.specs.Rules.{mains, withParameters}
+use Rattle.text_rules.specs.Answers.{leastWith}
 use Rattle.breaches.proofs.mains.main_with.Statement.{statement}
 use Rattle.breaches.proofs.mains.main_with.Tie as tie
 

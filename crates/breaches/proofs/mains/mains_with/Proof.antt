@@ -2,11 +2,11 @@
 use Prim.Native.Nat.{_-_, _≤_}
 use mathlib.Core.Path.{_≡_, sym, _∙_}
 use borrow.Author.Needs.{needs}
-use Rattle.rules.specs.Scan.{least}
-use Rattle.rules.specs.Rules.{mains, withParameters}
-use Rattle.rules.specs.Spelling.{isMain}
-use Rattle.rules.specs.Answers.{place, storedHeads}
-use Rattle.rules.proofs.Functions.{mainAhead, main-start, main-turn, main-end}
+use Rattle.text_rules.specs.Scan.{least}
+use Rattle.text_rules.specs.Rules.{mains, withParameters}
+use Rattle.text_rules.specs.Spelling.{isMain}
+use Rattle.text_rules.specs.Answers.{place, storedHeads}
+use Rattle.text_rules.proofs.Functions.{mainAhead, main-start, main-turn, main-end}
 use Rattle.breaches.proofs.mains.mains_with.Statement.{statement}
 use Rattle.breaches.proofs.mains.mains_with.Tie as tie
 

@@ -5,8 +5,8 @@ use mathlib.Core.List.{List, _∷_}
 use mathlib.Core.Option.{Option, none, some}
 use native.Mathlib.Omega.{arith}
 use borrow.Author.Needs.{needs}
-use Rattle.rules.specs.Spelling.{sameName}
-use Rattle.rules.specs.Names.{sought}
+use Rattle.text_rules.specs.Spelling.{sameName}
+use Rattle.text_rules.specs.Names.{sought}
 use Rattle.scopes.specs.Memory.{from, blocksOf, Ordered}
 use Rattle.scopes.specs.Answers.{slotOf}
 use Rattle.scopes.specs.declared.lookup.Sought.{Sought}

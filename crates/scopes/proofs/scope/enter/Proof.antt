@@ -2,11 +2,11 @@ use mathlib.Core.Path.{_≡_, refl}
 use mathlib.Core.List.{[], _∷_}
 use types.Run.{OneOf}
 use borrow.Author.Needs.{needs}
-use Rattle.rules.proofs.Items.{number, not-one}
-use Rattle.rules.specs.declared.item.Item.{Item}
-use Rattle.rules.specs.declared.item.Item.the-variants.{Function, Parameter, Thing, Opens, Closes, Declares, Uses, Calls, Ends}
-use Rattle.rules.specs.Answers.{event}
-use Rattle.rules.specs.Names.{Scope, entered}
+use Rattle.text_rules.proofs.Items.{number, not-one}
+use Rattle.text_rules.specs.declared.item.Item.{Item}
+use Rattle.text_rules.specs.declared.item.Item.the-variants.{Function, Parameter, Thing, Opens, Closes, Declares, Uses, Calls, Ends}
+use Rattle.text_rules.specs.Answers.{event}
+use Rattle.text_rules.specs.Names.{Scope, entered}
 use Rattle.scopes.specs.Memory.{tokenOf}
 use Rattle.scopes.proofs.Blocks.{as-parameter, stays}
 use Rattle.scopes.proofs.scope.enter.Statement.{statement}

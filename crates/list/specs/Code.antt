@@ -1,0 +1,47 @@
+-- The code of a text: what its analysis leaves, and what is compiled from that.
+use Prim.Native.Nat.{ℕ, _+_, _*_, _≤_, _<_}
+use mathlib.Core.Path.{_≡_}
+use mathlib.Core.List.{List}
+use lib.ListN.{length, replicate}
+use lib.IntN.{ℤ}
+use Rattle.lexer.specs.Lex as L
+use Rattle.lexer.specs.Lex.{Token, lexed}
+use Rattle.grammar.specs.Text.{Tokens}
+use Rattle.checker.specs.Check.{Verdict, accepted, refused, kinds, places, values}
+use Rattle.checker.specs.Analysis.{Known}
+use Rattle.simulation.specs.Words.{codeIn}
+use Rattle.simulation.specs.Placed.{Placed}
+use Rattle.list.specs.List.{program, Left, lists, found}
+use Rattle.list.specs.Parts.{leaves}
+use Rattle.list.specs.declared.Listed.{Listed}
+use Rattle.list.specs.declared.Coded.{Coded}
+use Rattle.list.specs.declared.Coded.the-variants.{Refused, Entries}
+
+-- an accepted text: ps and vs are the places and values of its tokens, its tree stands at node root, its h functions in heads, and what each token means in slots, which held only zeros
+pub record Understood (text ps vs nodes : List ℕ) (root : ℕ) (heads : List ℕ) (h : ℕ) (slots : List ℕ) : Type 0 where
+  pub tokens : List Token
+  pub lexes : lexed text ≡ L.tokens tokens
+  pub placed : places tokens ≡ ps
+  pub valued : values tokens ≡ vs
+  pub ended : Tokens (kinds tokens)
+  pub few : length tokens ≤ 2049
+  pub items : List ℕ
+  pub events : ℕ
+  pub named : 2049 ≤ length slots
+  pub functions : 8192 ≤ length heads
+  pub known : Known text (kinds tokens) ps vs nodes items heads (replicate 2049 0) slots root events h
+
+-- n entries in these words are the code of the text's program
+pub record Codes (text code : List ℕ) (n : ℕ) : Type 0 where
+  pub placed : Placed (codeIn code n) (program text)
+  pub room : 2 * n + 16 ≤ length code
+  pub few : n < 65536
+
+-- the code of an accepted text; or the text is refused as check refuses it
+pub data Translates (text code : List ℕ) : Coded → Verdict → Type 0 where
+  refuses : {n p : ℕ} → Translates text code (Refused n p) (refused n p)
+  has : {n : ℕ} → Codes text code n → Translates text code (Entries n) accepted
+
+-- on the code of any text, what is answered and left is what list answers and leaves for it
+pub record Searches (code : List ℕ) (n : ℕ) (low high : ℤ) (steps skip budget : ℕ) (rows : List ℤ) (scratch : List ℕ) (left : Left) : Type 0 where
+  pub is : (text : List ℕ) → Placed (codeIn code n) (program text) → left ≡ lists text low high steps skip budget rows scratch (found text low high steps skip budget rows scratch)

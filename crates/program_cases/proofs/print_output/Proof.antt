@@ -1,0 +1,34 @@
+use mathlib.Core.Path.{sym}
+use lib.Seq.{length-take-le}
+use borrow.Author.Needs.{needs}
+use Rattle.program_cases.proofs.print_output.Statement.{statement}
+use Rattle.program_cases.proofs.print_output.Tie as tie
+use Rattle.program_cases.proofs.print_output.Reads as reads
+use Rattle.program_cases.proofs.print_output.Lts as lts
+use Rattle.io.proofs.write_all.Reads as write-all-reads
+use Rattle.respond.proofs.respond.Reads as respond-reads
+
+respond-requires : tie.Need-respond-requires
+respond-requires c κs = search needs
+
+array-share-prefix-out : tie.Need-array-share-prefix-out
+array-share-prefix-out c = c .respond .ensures .1
+
+slice-aggregate-write-all : tie.Need-slice-aggregate-write-all
+slice-aggregate-write-all c = sym (length-take-le _ _ (c .before .respond .ensures .1))
+
+write-all-requires : tie.Need-write-all-requires
+write-all-requires c κs = search needs
+
+returns : tie.Need-returns
+returns c = search needs
+
+pub print-output-spec : {M : Type 1} → statement M
+print-output-spec =
+    tie.close
+    (tie.spec
+    respond-requires
+    array-share-prefix-out
+    slice-aggregate-write-all
+    write-all-requires
+    returns)
