@@ -22,7 +22,7 @@ use Rattle.text_rules.specs.Spelling.{sameName, isMain}
 use Rattle.text_rules.specs.Rules.{tooDeep, miscalls, mainless, openEnds, tooMany}
 use Rattle.text_rules.specs.Names.{badNames}
 use Rattle.checker.specs.Check.{Verdict, accepted, refused, Fault, fault, Rule, rule, orElse, rules, firstBroken, verdict, rulesOf, checkedTokens, checked, kinds, places, values}
-use Rattle.checker.specs.Accepted.{Keeps}
+use Rattle.checker.specs.Accepted.{KeepsRules}
 use Rattle.checker.proofs.Analysing.{ends-in}
 
 pub least-none : (is : List ℕ) → least is ≡ none → is ≡ []
@@ -71,31 +71,31 @@ pub token-list : (text : List ℕ) (ts : List Token) → lexed text ≡ L.tokens
 token-list text ts l = ends-in (end-last (lexed-tokens text ts l .1))
 
 -- the tokens of a tree are read back as this tree
-pub read-so : (ks : List ℕ) (t : Tree prog) → G.Keeps ks t → parsed ks ≡ ok t (width t)
+pub read-so : (ks : List ℕ) (t : Tree prog) → G.KeepsGrammar ks t → parsed ks ≡ ok t (width t)
 read-so ks t k = Q.accepts ks t (k .tokens) ∙ ap (λ (x : Tree prog). ok x (width t)) (sym (k .numbers))
 
 module _ (text : List ℕ) where
-  to : checked text ≡ accepted → Keeps text
+  to : checked text ≡ accepted → KeepsRules text
   unfolding checked checkedTokens
   to e = go (lexed text) refl e
     where
-      kept : (ts : List Token) → lexed text ≡ L.tokens ts → (t : Tree prog) (m : ℕ) → parsed (kinds ts) ≡ ok t m → firstBroken (rulesOf text (places ts) (values ts) (length (kinds ts)) (events (ast t))) ≡ none → Keeps text
+      kept : (ts : List Token) → lexed text ≡ L.tokens ts → (t : Tree prog) (m : ℕ) → parsed (kinds ts) ≡ ok t m → firstBroken (rulesOf text (places ts) (values ts) (length (kinds ts)) (events (ast t))) ≡ none → KeepsRules text
       kept ts l t m p f =
           let u = unbroken (sameName text (places ts) (values ts)) (isMain text (places ts) (values ts)) (length (kinds ts) - 1) (events (ast t)) f in
           record { tokens = ts; tree = t; lexes = l; grammar = Q.kept (kinds ts) (token-list text ts l) p; depth = u .depth; names = u .names; calls = u .calls; main = u .main; ends = u .ends; counts = u .counts }
 
       read : (ts : List Token) → lexed text ≡ L.tokens ts → (r : Res prog) → parsed (kinds ts) ≡ r
-          → elim r [ bad m ↦ refused 4 (getD (places ts) m 0) | ok t m ↦ verdict (places ts) (firstBroken (rulesOf text (places ts) (values ts) (length (kinds ts)) (events (ast t)))) ] ≡ accepted → Keeps text
+          → elim r [ bad m ↦ refused 4 (getD (places ts) m 0) | ok t m ↦ verdict (places ts) (firstBroken (rulesOf text (places ts) (values ts) (length (kinds ts)) (events (ast t)))) ] ≡ accepted → KeepsRules text
       read ts l (bad m) p q = let z : _≡_ {A = ℕ} 0 1 = cc in absurd (omega arith)
       read ts l (ok t m) p q = kept ts l t m p (is-accepted (places ts) (firstBroken (rulesOf text (places ts) (values ts) (length (kinds ts)) (events (ast t)))) q)
 
-      go : (a : L.Answer) → lexed text ≡ a → elim a [ L.refused n p ↦ refused n p | L.tokens ts ↦ checkedTokens text (kinds ts) (places ts) (values ts) ] ≡ accepted → Keeps text
+      go : (a : L.Lexing) → lexed text ≡ a → elim a [ L.refused n p ↦ refused n p | L.tokens ts ↦ checkedTokens text (kinds ts) (places ts) (values ts) ] ≡ accepted → KeepsRules text
       go (L.refused n p) l q = let z : _≡_ {A = ℕ} 0 1 = cc in absurd (omega arith)
       go (L.tokens ts) l q = read ts l (parsed (kinds ts)) refl q
 
-  from : Keeps text → checked text ≡ accepted
+  from : KeepsRules text → checked text ≡ accepted
   unfolding checked checkedTokens rules firstBroken least
   from k = rw (k .lexes, checked) (rw (read-so (kinds (k .tokens)) (k .tree) (k .grammar), checkedTokens) (rw (k .depth, k .names, k .calls, k .main, k .ends, k .counts)))
 
-  pub exactly : (checked text ≡ accepted) ↔ Keeps text
+  pub exactly : (checked text ≡ accepted) ↔ KeepsRules text
   exactly = (to, from)

@@ -14,7 +14,7 @@ use Rattle.text_rules.specs.declared.broken.Broken as B
 use Rattle.text_rules.specs.declared.broken.Broken.the-variants as b
 use Rattle.names.specs.Steps.{Named}
 use Rattle.checker.specs.Check.{Fault, fault, orElse, rules, firstBroken}
-use Rattle.checker.specs.Judge.{faultOf, Known, unless, chosen, Ruled, Judges}
+use Rattle.checker.specs.Judge.{faultOf, Understands, unless, chosen, Ruled, Judges}
 use Rattle.checker.specs.declared.Judged.{Judged}
 use Rattle.checker.specs.declared.Judged.the-variants.{Broken, Kept}
 
@@ -23,7 +23,7 @@ fault-unless n b.Nowhere later = refl
 fault-unless n (b.At i) later = refl
 
 module _ (same : ℕ → ℕ → Bool) (es : List Event) (slots slots′ heads′ : List ℕ) where
-  known-unless : (n : ℕ) (x : B.Broken) (later : Judged) → Known same es slots slots′ heads′ later → Known same es slots slots′ heads′ (unless n x later)
+  known-unless : (n : ℕ) (x : B.Broken) (later : Judged) → Understands same es slots slots′ heads′ later → Understands same es slots slots′ heads′ (unless n x later)
   known-unless n b.Nowhere later k = k
   known-unless n (b.At i) later k = tt
 
@@ -46,9 +46,9 @@ unfolding rules firstBroken
 judges same isMain end es slots slots′ heads′ h misnamed r hs named ruled =
     let e : faultOf r ≡ orElse 5 (place (ruled .deep)) (orElse 6 (place misnamed) (orElse 7 (place (ruled .miscalled)) (orElse 8 (place (ruled .mainless)) (orElse 9 (place (ruled .unended)) (orElse 10 (place (ruled .many)) none))))) =
     ap faultOf (ruled .is) ∙ fault-chosen (ruled .deep) misnamed (ruled .miscalled) (ruled .mainless) (ruled .unended) (ruled .many) h in
-    let k : (n : ℕ) (x : B.Broken) (later : Judged) → Known same es slots slots′ heads′ later → Known same es slots slots′ heads′ (unless n x later) = known-unless same es slots slots′ heads′ in
+    let k : (n : ℕ) (x : B.Broken) (later : Judged) → Understands same es slots slots′ heads′ later → Understands same es slots slots′ heads′ (unless n x later) = known-unless same es slots slots′ heads′ in
     record {
       fault = rw (e, ruled .rule5, named .least, ruled .rule7, ruled .rule8, ruled .rule9, ruled .rule10, hs);
-      known = subst (Known same es slots slots′ heads′) (sym (ruled .is))
+      known = subst (Understands same es slots slots′ heads′) (sym (ruled .is))
           (k 5 (ruled .deep) _ (k 6 misnamed _ (k 7 (ruled .miscalled) _ (k 8 (ruled .mainless) _ (k 9 (ruled .unended) _ (k 10 (ruled .many) (Kept h) (hs, named .means)))))));
     }

@@ -217,14 +217,14 @@ rules-low m same isMain end es e l =
     (also (low-scan m counted over (low-over m) (tally 0 0 0) l) done)))))
 
 -- the events of a tree name tokens of its text
-events-low : (ks : List ℕ) (t : Tree prog) → G.Keeps ks t → Each (length ks) (events (ast t))
+events-low : (ks : List ℕ) (t : Tree prog) → G.KeepsGrammar ks t → Each (length ks) (events (ast t))
 unfolding events
 events-low ks t k =
     let w : length ks ≡ width t + 1 = ap length (k .tokens) ∙ onto-length t (kEnd ∷ []) in
     let b : Below (length ks) (ast (numbered 0 t)) = numbered-below 0 (length ks) t (omega (arith, w)) in
     events-within (length ks) 1 (ast t) (subst (λ (x : Tree prog). Below (length ks) (ast x)) (sym (k .numbers)) b)
 
-pub broken-low : (ks : List ℕ) (t : Tree prog) → G.Keeps ks t → (same : ℕ → ℕ → Bool) (isMain : ℕ → Bool) → Lows (length ks) (rules same isMain (length ks - 1) (events (ast t)))
+pub broken-low : (ks : List ℕ) (t : Tree prog) → G.KeepsGrammar ks t → (same : ℕ → ℕ → Bool) (isMain : ℕ → Bool) → Lows (length ks) (rules same isMain (length ks - 1) (events (ast t)))
 broken-low ks t k same isMain =
     let w : length ks ≡ width t + 1 = ap length (k .tokens) ∙ onto-length t (kEnd ∷ []) in
     rules-low (length ks) same isMain (length ks - 1) (events (ast t)) (omega (arith, w)) (events-low ks t k)

@@ -27,7 +27,7 @@ few-events h w = omega (arith, h .space, w .total (h .rooted .tree) (h .rooted .
 module _ (text ps vs nodes items heads before slots : List ℕ) (n root e : ℕ) where
   by-cases : (p : Ast A.prog) → e ≡ length (E.events p) → stored items e ≡ E.events p → (j : Judged)
       → faultOf j ≡ firstBroken (rulesOf text ps vs n (E.events p))
-      → J.Known (sameName text ps vs) (E.events p) before slots heads j
+      → J.Understands (sameName text ps vs) (E.events p) before slots heads j
       → Inspects text ps vs items heads before slots n root p (concluded ps n root e j) (verdict ps (firstBroken (rulesOf text ps vs n (E.events p))))
   by-cases p t l (Broken c i) f k = subst (λ (o : Option Fault). Inspects text ps vs items heads before slots n root p (concluded ps n root e (Broken c i)) (verdict ps o)) f refuses
   by-cases p t l (Kept h) f k =

@@ -120,7 +120,7 @@ Says text accepted = Unit
 Says text (refused n p) = Refusal text n p
 
 -- and what the lexer's says
-abbrev Lexes : List ℕ → L.Answer → Type 0
+abbrev Lexes : List ℕ → L.Lexing → Type 0
 Lexes text (L.tokens ts) = Unit
 Lexes text (L.refused n p) = Refusal text n p
 
@@ -130,14 +130,14 @@ length-kinds (t ∷ ts) = ap suc (length-kinds ts)
 
 module _ (text : List ℕ) where
   -- numbers 1 to 3
-  by-lexer : (a : L.Answer) → Right text a → Lexes text a
+  by-lexer : (a : L.Lexing) → Right text a → Lexes text a
   by-lexer a (X.has-tokens h s m) = tt
   by-lexer a (X.too-long h) = too-long h
   by-lexer a (X.no-token h s) = no-token h s
   by-lexer a (X.too-large h s f) = too-large h s f
 
   -- numbers 5 to 10
-  by-rules : (ts : List Token) → lexed text ≡ L.tokens ts → (t : Tree prog) → G.Keeps (kinds ts) t
+  by-rules : (ts : List Token) → lexed text ≡ L.tokens ts → (t : Tree prog) → G.KeepsGrammar (kinds ts) t
       → Says text (verdict (places ts) (firstBroken (rulesOf text (places ts) (values ts) (length (kinds ts)) (events (ast t)))))
   by-rules ts l t k = go (firstBroken rs) (first-found ts (ascending (lexed-tokens text ts l .1)) rs low)
     where
@@ -161,7 +161,7 @@ module _ (text : List ℕ) where
       read ts l (bad m) e = no-program l (Q.first-bad (kinds ts) (token-list text ts l) e)
       read ts l (ok t m) e = by-rules ts l t (Q.kept (kinds ts) (token-list text ts l) e)
 
-      go : (a : L.Answer) → lexed text ≡ a → Right text a → Says text (elim a [ L.refused n p ↦ refused n p | L.tokens ts ↦ checkedTokens text (kinds ts) (places ts) (values ts) ])
+      go : (a : L.Lexing) → lexed text ≡ a → Right text a → Says text (elim a [ L.refused n p ↦ refused n p | L.tokens ts ↦ checkedTokens text (kinds ts) (places ts) (values ts) ])
       go (L.refused n p) l r = by-lexer (L.refused n p) r
       go (L.tokens ts) l r = read ts l (parsed (kinds ts)) refl
 

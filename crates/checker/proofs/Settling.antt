@@ -25,11 +25,11 @@ use Rattle.checker.specs.Analysis as N
 use Rattle.checker.specs.declared.Analysed.{Analysed}
 use Rattle.checker.specs.declared.Analysed.the-variants.{Refused, Fine}
 
-pub can-parse : {ks nodes items heads scope : List ℕ} → Lent ks nodes items heads scope → G.Lent ks nodes
+pub can-parse : {ks nodes items heads scope : List ℕ} → Lent ks nodes items heads scope → G.Tabled ks nodes
 can-parse h = record { filled = h .tokens .filled; few = omega (arith, h .few); room = omega (arith, h .few, h .table); ends = h .tokens .ends }
 
 -- number 4
-pub is-bad : {l : List ℕ} {m : ℕ} {v : Res T.prog} → G.Answers l (P.Bad m) v → v ≡ bad m
+pub is-bad : {l : List ℕ} {m : ℕ} {v : Res T.prog} → G.Parses l (P.Bad m) v → v ≡ bad m
 is-bad G.none = refl
 
 -- a tree
@@ -40,7 +40,7 @@ pub record Read (l : List ℕ) (root : ℕ) (v : Res T.prog) : Type 0 where
   pub holds : Holds l root (ast tree)
   pub room : 5 * root + 5 ≤ length l
 
-pub is-tree : {l : List ℕ} {root count : ℕ} {v : Res T.prog} → G.Answers l (P.Tree root count) v → Read l root v
+pub is-tree : {l : List ℕ} {root count : ℕ} {v : Res T.prog} → G.Parses l (P.Tree root count) v → Read l root v
 is-tree (G.tree {t = t} {m = m} {k = k} p q a) = record { tree = t; after = m; is = refl; holds = record { kind = k; at = a }; room = omega (arith, p, q) }
 
 -- the tree can be walked

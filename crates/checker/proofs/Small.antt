@@ -54,14 +54,14 @@ pub checked-low : (text : List ℕ) → Within 2048 (checked text)
 unfolding checked
 checked-low text = go (lexed text) (lexed-right text)
   where
-    go : (a : L.Answer) → Right text a → Within 2048 (elim a [ L.refused n p ↦ refused n p | L.tokens ts ↦ checkedTokens text (kinds ts) (places ts) (values ts) ])
+    go : (a : L.Lexing) → Right text a → Within 2048 (elim a [ L.refused n p ↦ refused n p | L.tokens ts ↦ checkedTokens text (kinds ts) (places ts) (values ts) ])
     go (L.tokens ts) (has-tokens h s m) = tokens-low 2048 text (kinds ts) (places ts) (values ts) (λ i. omega (arith, place-low s i, h))
     go (L.refused c p) r = low (first r)
       where
         first : Right text (L.refused c p) → p ≤ 2048
         first r = wide (L.refused c p) r refl
           where
-            wide : (a : L.Answer) → Right text a → a ≡ L.refused c p → p ≤ 2048
+            wide : (a : L.Lexing) → Right text a → a ≡ L.refused c p → p ≤ 2048
             wide a (has-tokens h s m) e = let z : _≡_ {A = ℕ} 0 1 = cc in absurd (omega arith)
             wide a (too-long h) e = let z : 2048 ≡ p = cc in omega arith
             wide a (no-token {p = q} h s) e = let z : q ≡ p = cc in omega (arith, h, stray-low s)

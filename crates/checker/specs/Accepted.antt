@@ -15,12 +15,12 @@ use Rattle.text_rules.specs.Names.{badNames}
 use Rattle.checker.specs.Check.{kinds, places, values}
 
 -- "a text is accepted exactly if it keeps the grammar and every other rule": it has tokens, they are the tokens of a tree, and nothing in the tree breaks a rule
-pub record Keeps (text : List ℕ) : Type 0 where
+pub record KeepsRules (text : List ℕ) : Type 0 where
   pub tokens : List Token
   pub tree : Tree prog
   pub lexes : lexed text ≡ L.tokens tokens
   -- it keeps the grammar: its tokens are those of the tree, and then the end
-  pub grammar : G.Keeps (kinds tokens) tree
+  pub grammar : G.KeepsGrammar (kinds tokens) tree
   pub depth : tooDeep (events (ast tree)) ≡ []
   pub names : badNames (sameName text (places tokens) (values tokens)) (events (ast tree)) ≡ []
   pub calls : miscalls (sameName text (places tokens) (values tokens)) (events (ast tree)) ≡ []

@@ -22,9 +22,9 @@ faultOf (Broken n i) = some (fault n i)
 faultOf (Kept h) = none
 
 -- where no rule is broken: the functions stand in `heads′`, and each token's meaning in `slots′`
-abbrev pub Known : (same : ℕ → ℕ → Bool) → List Event → (slots slots′ heads′ : List ℕ) → Judged → Type 0
-Known same es slots slots′ heads′ (Broken n i) = Unit
-Known same es slots slots′ heads′ (Kept h) =
+abbrev pub Understands : (same : ℕ → ℕ → Bool) → List Event → (slots slots′ heads′ : List ℕ) → Judged → Type 0
+Understands same es slots slots′ heads′ (Broken n i) = Unit
+Understands same es slots slots′ heads′ (Kept h) =
     (storedHeads heads′ h ≡ heads es) × ((i : ℕ) → i < length slots → getD slots′ i 0 ≡ meant (λ j. getD slots j 0) (meanings same es) i)
 
 -- a rule's number and what breaks it, before what the later rules say
@@ -52,4 +52,4 @@ pub record Ruled (same : ℕ → ℕ → Bool) (isMain : ℕ → Bool) (end : �
 
 pub record Judges (same : ℕ → ℕ → Bool) (isMain : ℕ → Bool) (end : ℕ) (es : List Event) (slots slots′ heads′ : List ℕ) (r : Judged) : Type 0 where
   pub fault : faultOf r ≡ firstBroken (rules same isMain end es)
-  pub known : Known same es slots slots′ heads′ r
+  pub known : Understands same es slots slots′ heads′ r

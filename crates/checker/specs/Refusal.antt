@@ -42,6 +42,6 @@ pub data Refusal (text : List ℕ) : (number place : ℕ) → Type 0 where
   -- "4 the first token that no program could have there, the end being a token at the text's length"
   no-program : {ts : List Token} {m : ℕ} → lexed text ≡ L.tokens ts → First-bad (kinds ts) m → Refusal text 4 (getD (places ts) m 0)
   -- numbers 5 to 10: the text keeps the grammar, its tokens being those of a tree, which breaks one of the rules
-  breaks-rule : {ts : List Token} {t : Tree prog} {n p : ℕ} → lexed text ≡ L.tokens ts → G.Keeps (kinds ts) t
+  breaks-rule : {ts : List Token} {t : Tree prog} {n p : ℕ} → lexed text ≡ L.tokens ts → G.KeepsGrammar (kinds ts) t
       → Breaks ts (rulesOf text (places ts) (values ts) (length (kinds ts)) (events (ast t))) n p
       → Refusal text n p

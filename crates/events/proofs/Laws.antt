@@ -12,7 +12,7 @@ use Rattle.syntax.specs.Table.{Holds}
 use Rattle.events.specs.Event.{Event, opens, closes, eventsAt}
 use Rattle.events.specs.Stored.{eventOf, from, stored}
 use Rattle.events.specs.Walk.{Below, Rooted}
-use Rattle.events.specs.Visit.{Grown, level, Placed}
+use Rattle.events.specs.Visit.{Grown, level, Located}
 
 -- event k
 abbrev pub at : List ℕ → ℕ → Event
@@ -138,13 +138,13 @@ grown-as {l} {m} {n} {r} e g = subst (λ (x : List Event). Grown l m n r x) (sym
 
 -- ---- parts of a tree
 
-pub due : {v : ℕ} {l : List ℕ} {i d : ℕ} {out : List ℕ} {n : ℕ} {es : List Event} (p : Placed v l i d out n) → eventsAt d (p .rooted .tree) ≡ es → Due out n es
+pub due : {v : ℕ} {l : List ℕ} {i d : ℕ} {out : List ℕ} {n : ℕ} {es : List Event} (p : Located v l i d out n) → eventsAt d (p .rooted .tree) ≡ es → Due out n es
 due p e = record { space = omega (arith, p .space, ap (λ (x : List Event). length x) e) }
 
 abbrev pub rooted-child : {l : List ℕ} {s s₁ : Sort} {i a : ℕ} {x : Ast s₁} → Rooted s l i → a < i → Holds l a x → Rooted s₁ l a
 rooted-child {x = x} r p h = record { tree = x; holds = h; room = omega (arith, r .room); few = omega (arith, r .few) }
 
-pub placed : {v : ℕ} {l : List ℕ} {s s₁ : Sort} {i a d : ℕ} {out : List ℕ} {n : ℕ} {x : Ast s₁} → level s₁ ≡ v → Rooted s l i → a < i → Holds l a x → Below 65536 x → d + a < 131072 → Due out n (eventsAt d x) → Placed v l a d out n
+pub placed : {v : ℕ} {l : List ℕ} {s s₁ : Sort} {i a d : ℕ} {out : List ℕ} {n : ℕ} {x : Ast s₁} → level s₁ ≡ v → Rooted s l i → a < i → Holds l a x → Below 65536 x → d + a < 131072 → Due out n (eventsAt d x) → Located v l a d out n
 placed {s₁ = s₁} e r p h b q t = record { sort = s₁; rooted = rooted-child r p h; part = e; tokens = b; deep = q; space = t .space }
 
 -- an arm, followed by more events or by none

@@ -31,7 +31,7 @@ level fun = 2
 level prog = 2
 
 -- the tree at node i has the level v, and out has room after n events for its events at the depth d
-pub record Placed (v : ℕ) (l : List ℕ) (i d : ℕ) (out : List ℕ) (n : ℕ) : Type 0 where
+pub record Located (v : ℕ) (l : List ℕ) (i d : ℕ) (out : List ℕ) (n : ℕ) : Type 0 where
   pub sort : Sort
   pub rooted : Rooted sort l i
   pub part : level sort ≡ v

@@ -6,7 +6,7 @@ ghost use lib.ListN.{length};
 ghost use Rattle.syntax.specs.Ast.{expr, args, stmt, body};
 ghost use Rattle.events.specs.Stored.{eventOf};
 ghost use Rattle.events.specs.Walk.{Rooted, Ready, Walked};
-ghost use Rattle.events.specs.Visit.{Stands, Placed, First, Count, Stops, Grown, Visited, Enclosed};
+ghost use Rattle.events.specs.Visit.{Stands, Located, First, Count, Stops, Grown, Visited, Enclosed};
 use syntax::fetch;
 use syntax::kind;
 
@@ -83,7 +83,7 @@ fn stops(nodes: &[u32], i: usize) -> bool
 
 // The events of an expression, a condition or arguments.
 fn expression(nodes: &[u32], i: usize, depth: usize, out: &mut [u32], n: usize) -> usize
-    requires { ⌜ Placed 0 (now nodes) i depth (now out) n ⌝ }
+    requires { ⌜ Located 0 (now nodes) i depth (now out) n ⌝ }
     ensures { λ r. ⌜ Visited (now (nodes .entry)) i depth (now (out .entry)) (now (out .exit)) n r ⌝ }
 {
     let node = fetch(nodes, i);
@@ -116,7 +116,7 @@ fn expression(nodes: &[u32], i: usize, depth: usize, out: &mut [u32], n: usize) 
 
 // The events of an arm, which is a block.
 fn arm(nodes: &[u32], i: usize, depth: usize, out: &mut [u32], n: usize) -> usize
-    requires { ⌜ Placed 1 (now nodes) i depth (now out) (n + 2) ⌝ }
+    requires { ⌜ Located 1 (now nodes) i depth (now out) (n + 2) ⌝ }
     ensures { λ r. ⌜ Enclosed (now (nodes .entry)) i depth (now (out .entry)) (now (out .exit)) n r ⌝ }
 {
     let m = emit(out, n, event::OPENS, 0, 0);
@@ -126,7 +126,7 @@ fn arm(nodes: &[u32], i: usize, depth: usize, out: &mut [u32], n: usize) -> usiz
 
 // The events of a statement, of statements, or of these in braces.
 fn statement(nodes: &[u32], i: usize, depth: usize, out: &mut [u32], n: usize) -> usize
-    requires { ⌜ Placed 1 (now nodes) i depth (now out) n ⌝ }
+    requires { ⌜ Located 1 (now nodes) i depth (now out) n ⌝ }
     ensures { λ r. ⌜ Visited (now (nodes .entry)) i depth (now (out .entry)) (now (out .exit)) n r ⌝ }
 {
     let node = fetch(nodes, i);
@@ -177,7 +177,7 @@ fn statement(nodes: &[u32], i: usize, depth: usize, out: &mut [u32], n: usize) -
 
 // The events of a program, a function or parameters.
 fn program(nodes: &[u32], i: usize, out: &mut [u32], n: usize) -> usize
-    requires { ⌜ Placed 2 (now nodes) i 1 (now out) n ⌝ }
+    requires { ⌜ Located 2 (now nodes) i 1 (now out) n ⌝ }
     ensures { λ r. ⌜ Visited (now (nodes .entry)) i 1 (now (out .entry)) (now (out .exit)) n r ⌝ }
 {
     let node = fetch(nodes, i);

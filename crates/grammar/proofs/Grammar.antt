@@ -13,7 +13,7 @@ use Rattle.syntax.specs.Token.{kEnd}
 use Rattle.syntax.specs.Tree.{Tree, prog, onto, width, numbered}
 use Rattle.syntax.specs.Abstract.{ast}
 use Rattle.grammar.specs.Parse.{Res, ok, bad, parsed}
-use Rattle.grammar.specs.Text.{Tokens, Keeps, First-bad, Leaves}
+use Rattle.grammar.specs.Text.{Tokens, KeepsGrammar, First-bad, Leaves}
 use Rattle.grammar.proofs.Place as P
 use Rattle.grammar.proofs.Back.{read-back}
 use Rattle.grammar.proofs.Leaves.{leaves}
@@ -34,10 +34,10 @@ module _ (ks : List ℕ) (h : Tokens ks) where
   text : P.Text ks (h .ends) (h .only) (h .filled) (parsed ks)
   text = P.text-right ks (h .ends) (h .only) (h .filled) (8 * length ks + 8) (omega arith)
 
-  pub kept : {t : Tree prog} {m : ℕ} → parsed ks ≡ ok t m → Keeps ks t
+  pub kept : {t : Tree prog} {m : ℕ} → parsed ks ≡ ok t m → KeepsGrammar ks t
   kept {t} {m} e = go (subst (λ (v : Res prog). P.Text ks (h .ends) (h .only) (h .filled) v) e text)
     where
-      go : P.Text ks (h .ends) (h .only) (h .filled) (ok t m) → Keeps ks t
+      go : P.Text ks (h .ends) (h .only) (h .filled) (ok t m) → KeepsGrammar ks t
       go (P.kept q) = let z : ok t m ≡ ok (numbered 0 t) (width t) = sym e ∙ accepts ks t q in record { tokens = q; numbers = cc }
 
   pub leaf : {t : Tree prog} {m : ℕ} → parsed ks ≡ ok t m → Leaves ks (ast t)

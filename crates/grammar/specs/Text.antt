@@ -15,7 +15,7 @@ pub record Tokens (ks : List ℕ) : Type 0 where
   pub only : (a : ℕ) → a < length ks → getD ks a 0 ≡ kEnd → suc a ≡ length ks
 
 -- the text is the program t, and each number in t is that of its token
-pub record Keeps (ks : List ℕ) (t : Tree prog) : Type 0 where
+pub record KeepsGrammar (ks : List ℕ) (t : Tree prog) : Type 0 where
   pub tokens : ks ≡ onto t (kEnd ∷ [])
   pub numbers : t ≡ numbered 0 t
 

@@ -4,7 +4,7 @@ ghost use Prim.Native.Nat.{ℕ, _+_, _*_, _≤_, _<_};
 ghost use lib.ListN.{length};
 ghost use Rattle.grammar.specs.Parse.{readOperand, readBracket, readCall, readArgs, moreArgs, readTerm, moreTerm, readSum, moreSum, readAtom, readConj, moreConj, readCond, moreCond, readGuard, readDecl, readNamed, readFail, readStmt, readBlock, readIf, readWhile, moreBody, readParams, moreParams, readFun, moreProg, parsed};
 ghost use Rattle.grammar.specs.Readers.{Stored, Ready, Fresh, Rest, Ended, Bodies, signOf, comparisonOf};
-ghost use Rattle.grammar.specs.Answer.{Lent, Answers};
+ghost use Rattle.grammar.specs.Answer.{Tabled, Parses};
 use syntax::Node;
 use syntax::kind;
 use syntax::put;
@@ -671,8 +671,8 @@ fn functions(kinds: &[u8], at: usize, nodes: &mut [u32], n: usize, left: usize) 
 
 // A whole text: functions, and then the end.
 pub fn parse(kinds: &[u8], nodes: &mut [u32]) -> Parsed
-    requires { ⌜ Lent (now kinds) (now nodes) ⌝ }
-    ensures { λ r. ⌜ Answers (now (nodes .exit)) r (parsed (now (kinds .entry))) ⌝ }
+    requires { ⌜ Tabled (now kinds) (now nodes) ⌝ }
+    ensures { λ r. ⌜ Parses (now (nodes .exit)) r (parsed (now (kinds .entry))) ⌝ }
 {
     store(nodes, 0, 0, kind::NO_FUNS, 0, 0, 0, 0);
     match functions(kinds, 0, nodes, 1, 0) {

@@ -16,7 +16,7 @@ use Rattle.lexer.specs.Lex.{
   Token,
   front,
   scan,
-  Answer,
+  Lexing,
   tokens,
   refused,
   noneLarge,
@@ -28,7 +28,7 @@ tok k p v = record { kind = k; place = p; value = v }
 
 -- a text and the answer to it
 abbrev Vector : Type 0
-Vector = List ℕ × Answer
+Vector = List ℕ × Lexing
 
 abbrev vectors : List Vector
 vectors =

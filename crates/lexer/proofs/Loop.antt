@@ -30,7 +30,7 @@ use Rattle.lexer.specs.Lex.{
   stray,
   before,
   scan,
-  Answer,
+  Lexing,
   tokens,
   refused,
   noneLarge,
@@ -168,7 +168,7 @@ held-small k v s = go (eqb k kNumber) refl
     go false e = refl
 
 -- what the answer is, from the tokens stored, the first large one and what is still to be scanned
-unfoldable pub outcome : List Token → ℕ → Scanned → Answer
+unfoldable pub outcome : List Token → ℕ → Scanned → Lexing
 outcome pre large (stray ts p) = refused 2 p
 outcome pre large (found ts) = elim (ltb large 2048) [ true ↦ refused 3 large | false ↦ noneLarge (pre ++ ts) ts ]
 

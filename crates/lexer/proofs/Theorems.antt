@@ -30,7 +30,7 @@ use Rattle.lexer.specs.Lex.{
   stray,
   before,
   scan,
-  Answer,
+  Lexing,
   tokens,
   refused,
   noneLarge,
@@ -121,7 +121,7 @@ pub data FirstLarge : List Token → ℕ → Type 0 where
   there : {t : Token} {ts : List Token} {p : ℕ} → isLarge t ≡ false → FirstLarge ts p → FirstLarge (t ∷ ts) p
 
 -- THEOREM. What the answer of the definition says of a text, in each of its cases.
-pub data Right (text : List ℕ) : Answer → Type 0 where
+pub data Right (text : List ℕ) : Lexing → Type 0 where
   has-tokens : {ts : List Token} → length text ≤ 2048 → Scans text 0 (found ts) → Small ts → Right text (tokens ts)
   too-long : 2048 < length text → Right text (refused 1 2048)
   no-token : {ts : List Token} {p : ℕ} → length text ≤ 2048 → Scans text 0 (stray ts p) → Right text (refused 2 p)
@@ -230,7 +230,7 @@ pub right-tokens : {text : List ℕ} {ts : List Token} → Right text (tokens ts
 right-tokens (has-tokens h s m) = (h, s, m)
 
 pub lexed-tokens : (text : List ℕ) (ts : List Token) → lexed text ≡ tokens ts → (length text ≤ 2048) × Scans text 0 (found ts) × Small ts
-lexed-tokens text ts e = right-tokens (subst (λ (a : Answer). Right text a) e (lexed-right text))
+lexed-tokens text ts e = right-tokens (subst (λ (a : Lexing). Right text a) e (lexed-right text))
 
 pub small-at : {ts : List Token} → Small ts → (i : ℕ) (d : Token) → i < length ts → isLarge (getD ts i d) ≡ false
 small-at none i d h = absurd (omega arith)

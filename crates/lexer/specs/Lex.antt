@@ -197,17 +197,17 @@ abbrev pub isLarge : Token → Bool
 isLarge t = eqb (t .kind) kName && ltb 16 (t .value) || eqb (t .kind) kNumber && ltb 2147483647 (t .value)
 
 -- the tokens of a text, or a refusal: its number and its place
-pub data Answer : Type 0 where
-  tokens : List Token → Answer
-  refused : (number place : ℕ) → Answer
+pub data Lexing : Type 0 where
+  tokens : List Token → Lexing
+  refused : (number place : ℕ) → Lexing
 
 -- number 3 at the first large one of the tokens ts, else all the tokens (their places ascend, so the first is the smallest place)
-unfoldable pub noneLarge : List Token → List Token → Answer
+unfoldable pub noneLarge : List Token → List Token → Lexing
 noneLarge every [] = tokens every
 noneLarge every (t ∷ ts) = elim (isLarge t) [ true ↦ refused 3 (t .place) | false ↦ noneLarge every ts ]
 
 -- "each over the whole text before the next": 1 over 2,048 bytes (place 2,048); 2 a byte that begins no token; 3
-unfoldable pub lexed : List ℕ → Answer
+unfoldable pub lexed : List ℕ → Lexing
 lexed text =
     elim (ltb 2048 (length text)) [
       | true ↦ refused 1 2048

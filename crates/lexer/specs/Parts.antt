@@ -7,7 +7,7 @@ use lib.ListN.{length, getD}
 use lib.Seq.{sets}
 use lib.Dec.{eqb, leb, ltb}
 use Rattle.syntax.specs.Token.{kNumber}
-use Rattle.lexer.specs.Lex.{isDigit, isLetter, isBlank, Token, isLarge, Front, blank, nothing, token, Scanned, found, stray, scan, Answer, tokens, refused, lexed}
+use Rattle.lexer.specs.Lex.{isDigit, isLetter, isBlank, Token, isLarge, Front, blank, nothing, token, Scanned, found, stray, scan, Lexing, tokens, refused, lexed}
 use Rattle.lexer.specs.declared.Piece.{Piece}
 use Rattle.lexer.specs.declared.Piece.the-variants as piece
 use Rattle.lexer.specs.declared.Lexed.{Lexed}
@@ -58,7 +58,7 @@ stored zero ks ps vs = []
 stored (suc n) ks ps vs = stored n ks ps vs ++ (record { kind = getD ks n 0; place = getD ps n 0; value = getD vs n 0 } ∷ [])
 
 -- what the lexer's answer means: the first n tokens of the three slices, or a refusal's number and place
-abbrev pub answerOf : List ℕ → List ℕ → List ℕ → Lexed → Answer
+abbrev pub answerOf : List ℕ → List ℕ → List ℕ → Lexed → Lexing
 answerOf ks ps vs (Tokens n) = tokens (stored n ks ps vs)
 answerOf ks ps vs (Refused c p) = refused c p
 

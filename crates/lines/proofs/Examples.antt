@@ -9,12 +9,12 @@ use Rattle.semantics.specs.Run.{Row}
 use Rattle.semantics.specs.Search.{whole, cuts, full, spent}
 use Rattle.lines.specs.declared.JobLine.{JobLine}
 use Rattle.lines.specs.declared.JobLine.the-variants.{Bad, Good}
-use Rattle.lines.specs.JobLine.{plain, minus, numberOf, place, jobIn, jobOf}
+use Rattle.lines.specs.JobLine.{plain, minus, numberOf, place, jobIn, lineJob}
 use Rattle.lines.specs.Print.{digits, natural, integer, refusal, spaced, rowLine, rowLines, ending, lastLine, printed}
 
 -- a line ended by LF, then a text
 abbrev line : List ℕ → JobLine
-line l = jobOf (l ++ 10 ∷ bytes "text")
+line l = lineJob (l ++ 10 ∷ bytes "text")
 
 abbrev job : ℤ → ℤ → ℕ → ℕ → JobLine
 job l h s t = Good (record { low = l; high = h; steps = s; text = t })
@@ -26,7 +26,7 @@ lines-good : map line (
     ∷ []
     )
     ≡ job (pos 0) (pos 3) 100 12 ∷ job (negsuc 2147483647) (pos 2147483647) 0 30 ∷ job (pos 7) (pos 0) 1001 23 ∷ []
-unfolding jobOf jobIn place numberOf plain minus all same decimal
+unfolding lineJob jobIn place numberOf plain minus all same decimal
 lines-good = refl
 
 lines-bad : map line (
@@ -52,16 +52,16 @@ lines-bad : map line (
     ∷ []
     )
     ≡ Bad ∷ Bad ∷ Bad ∷ Bad ∷ Bad ∷ Bad ∷ Bad ∷ Bad ∷ Bad ∷ Bad ∷ Bad ∷ Bad ∷ Bad ∷ Bad ∷ Bad ∷ Bad ∷ Bad ∷ Bad ∷ Bad ∷ []
-unfolding jobOf jobIn place numberOf plain minus all same decimal
+unfolding lineJob jobIn place numberOf plain minus all same decimal
 lines-bad = refl
 
 -- no LF at all, and no text
-no-end : jobOf (bytes "job 0 3 100") ≡ Bad
-unfolding jobOf jobIn place numberOf plain minus all same decimal
+no-end : lineJob (bytes "job 0 3 100") ≡ Bad
+unfolding lineJob jobIn place numberOf plain minus all same decimal
 no-end = refl
 
-no-text : jobOf (bytes "job 0 3 100" ++ 10 ∷ []) ≡ job (pos 0) (pos 3) 100 12
-unfolding jobOf jobIn place numberOf plain minus all same decimal
+no-text : lineJob (bytes "job 0 3 100" ++ 10 ∷ []) ≡ job (pos 0) (pos 3) 100 12
+unfolding lineJob jobIn place numberOf plain minus all same decimal
 no-text = refl
 
 -- ---- printing

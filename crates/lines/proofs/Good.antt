@@ -15,7 +15,7 @@ use Rattle.lexer.specs.Lex.{decimal, same, bytes}
 use Rattle.lines.specs.declared.Job.{Job}
 use Rattle.lines.specs.declared.JobLine.{JobLine}
 use Rattle.lines.specs.declared.JobLine.the-variants.{Bad, Good}
-use Rattle.lines.specs.JobLine.{isNatural, plain, minus, numberOf, place, before, after, blank, jobWith, jobIn, jobOf}
+use Rattle.lines.specs.JobLine.{isNatural, plain, minus, numberOf, place, before, after, blank, jobWith, jobIn, lineJob}
 use Rattle.lines.proofs.Words.{no-job, a-job, no-line, a-line}
 use Rattle.lines.proofs.Reach.{place-le, no-early-end}
 
@@ -96,7 +96,7 @@ in-good t l j = go (same (before blank l) (bytes "job")) refl
         let p = with-good t _ _ _ j (sym (a-job t l q) ∙ e) in
         (number-fits _ (j .low) (p .0), number-fits _ (j .high) (p .1), p .2)
 
-pub good-holds : (input : List ℕ) (j : Job) → jobOf input ≡ Good j → Holds input j
+pub good-holds : (input : List ℕ) (j : Job) → lineJob input ≡ Good j → Holds input j
 good-holds l j e = go (ltb (place 10 l) (length l)) refl (ltb (place 10 l) 40) refl
   where
     go : (b : Bool) → ltb (place 10 l) (length l) ≡ b → (d : Bool) → ltb (place 10 l) 40 ≡ d → Holds l j

@@ -7,14 +7,14 @@ use lib.ListN.{length, take, replicate}
 use lib.Seq.{take-append-seam}
 use lib.IntN.{ℤ, pos}
 use Rattle.semantics.specs.Run.{Row, clamp}
-use Rattle.lines.specs.Written.{rowOf}
+use Rattle.lines.specs.Written.{rowFrom}
 
 -- "A row is 10 signed 32-bit words: result, count of values, eight values, unused ones 0."
 abbrev pub wordsOf : Row → List ℤ
 wordsOf r = r .result ∷ pos (length (r .values)) ∷ (r .values ++ replicate (8 - length (r .values)) (pos 0))
 
-pub read-back : (r : Row) (rest : List ℤ) → length (r .values) ≤ 8 → rowOf (wordsOf r ++ rest) ≡ r
-unfolding rowOf clamp
+pub read-back : (r : Row) (rest : List ℤ) → length (r .values) ≤ 8 → rowFrom (wordsOf r ++ rest) ≡ r
+unfolding rowFrom clamp
 read-back r rest h =
     let e : min (length (r .values)) 8 ≡ length (r .values) = omega arith in
     let v : take (min (length (r .values)) 8) ((r .values ++ replicate (8 - length (r .values)) (pos 0)) ++ rest) ≡ r .values =

@@ -13,7 +13,7 @@ use mir.Facts.{toZ-ofZ}
 use Rattle.lexer.specs.Lex.{bytes}
 use Rattle.semantics.specs.Run.{Row, clamp}
 use Rattle.lines.specs.Print.{integer, spaced, rowLine, rowLines, lineEnd, ending}
-use Rattle.lines.specs.Written.{countOf, endingAt, rowOf, rowsOf}
+use Rattle.lines.specs.Written.{countOf, endingAt, rowFrom, rowsFrom}
 
 -- ---- endings
 
@@ -60,8 +60,8 @@ spaced-more ws from k h =
 -- ---- rows
 
 pub row-line : (ws : List ℤ) (base n : ℕ) → n ≡ countOf (getD ws (base + 1) (pos 0))
-    → integer (getD ws base (pos 0)) ++ bytes " :" ++ spaced (take n (drop (base + 2) ws)) ++ lineEnd ≡ rowLine (rowOf (drop base ws))
-unfolding rowLine rowOf
+    → integer (getD ws base (pos 0)) ++ bytes " :" ++ spaced (take n (drop (base + 2) ws)) ++ lineEnd ≡ rowLine (rowFrom (drop base ws))
+unfolding rowLine rowFrom
 row-line ws base n e =
     let z : base + 0 ≡ base = omega arith in
     let r : getD ws base (pos 0) ≡ getD (drop base ws) 0 (pos 0) = sym (getD-drop base ws 0 (pos 0) ∙ ap (λ (i : ℕ). getD ws i (pos 0)) z) in
@@ -70,18 +70,18 @@ row-line ws base n e =
     ap (λ (x : ℤ). integer x ++ bytes " :" ++ spaced (take n (drop (base + 2) ws)) ++ lineEnd) r
     ∙ ap (λ (l : List ℤ). integer (getD (drop base ws) 0 (pos 0)) ++ bytes " :" ++ spaced l ++ lineEnd) v
 
-rows-suc : (k : ℕ) (ws : List ℤ) → rowLines (rowsOf k ws) ++ rowLine (rowOf (drop (10 * k) ws)) ≡ rowLines (rowsOf (suc k) ws)
-unfolding rowLines rowsOf
-rows-suc zero ws = sym (append-nil (rowLine (rowOf ws)))
+rows-suc : (k : ℕ) (ws : List ℤ) → rowLines (rowsFrom k ws) ++ rowLine (rowFrom (drop (10 * k) ws)) ≡ rowLines (rowsFrom (suc k) ws)
+unfolding rowLines rowsFrom
+rows-suc zero ws = sym (append-nil (rowLine (rowFrom ws)))
 rows-suc (suc k) ws =
     let e : 10 + 10 * k ≡ 10 * suc k = omega arith in
-    append-assoc (rowLine (rowOf ws)) (rowLines (rowsOf k (drop 10 ws))) (rowLine (rowOf (drop (10 * suc k) ws)))
-    ∙ ap (λ (i : List ℤ). rowLine (rowOf ws) ++ (rowLines (rowsOf k (drop 10 ws)) ++ rowLine (rowOf i))) (sym (drop-drop (10 * k) 10 ws ∙ ap (λ (i : ℕ). drop i ws) e))
-    ∙ ap (λ (l : List ℕ). rowLine (rowOf ws) ++ l) (rows-suc k (drop 10 ws))
+    append-assoc (rowLine (rowFrom ws)) (rowLines (rowsFrom k (drop 10 ws))) (rowLine (rowFrom (drop (10 * suc k) ws)))
+    ∙ ap (λ (i : List ℤ). rowLine (rowFrom ws) ++ (rowLines (rowsFrom k (drop 10 ws)) ++ rowLine (rowFrom i))) (sym (drop-drop (10 * k) 10 ws ∙ ap (λ (i : ℕ). drop i ws) e))
+    ∙ ap (λ (l : List ℕ). rowLine (rowFrom ws) ++ l) (rows-suc k (drop 10 ws))
 
-pub rows-more : (ws : List ℤ) (from k : ℕ) → rowLines (rowsOf k (drop (10 * from) ws)) ++ rowLine (rowOf (drop (10 * (from + k)) ws)) ≡ rowLines (rowsOf (k + 1) (drop (10 * from) ws))
+pub rows-more : (ws : List ℤ) (from k : ℕ) → rowLines (rowsFrom k (drop (10 * from) ws)) ++ rowLine (rowFrom (drop (10 * (from + k)) ws)) ≡ rowLines (rowsFrom (k + 1) (drop (10 * from) ws))
 rows-more ws from k =
     let e : 10 * from + 10 * k ≡ 10 * (from + k) = omega arith in
-    ap (λ (i : List ℤ). rowLines (rowsOf k (drop (10 * from) ws)) ++ rowLine (rowOf i)) (sym (drop-drop (10 * k) (10 * from) ws ∙ ap (λ (i : ℕ). drop i ws) e))
+    ap (λ (i : List ℤ). rowLines (rowsFrom k (drop (10 * from) ws)) ++ rowLine (rowFrom i)) (sym (drop-drop (10 * k) (10 * from) ws ∙ ap (λ (i : ℕ). drop i ws) e))
     ∙ rows-suc k (drop (10 * from) ws)
-    ∙ ap (λ (i : ℕ). rowLines (rowsOf i (drop (10 * from) ws))) (sym (add-one k))
+    ∙ ap (λ (i : ℕ). rowLines (rowsFrom i (drop (10 * from) ws))) (sym (add-one k))

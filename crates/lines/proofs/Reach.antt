@@ -13,7 +13,7 @@ use borrow.Author.Tests.{lt-leb, leb-true, ltb-true, ltb-false}
 use Rattle.lexer.specs.Lex.{isDigit, all, same, bytes}
 use Rattle.lexer.proofs.Bytes.{and-false, same-eq}
 use Rattle.lines.specs.declared.JobLine.the-variants.{Bad, Good}
-use Rattle.lines.specs.JobLine.{plain, minus, numberOf, place, before, after, blank, jobWith, jobIn, jobOf, lineSettled}
+use Rattle.lines.specs.JobLine.{plain, minus, numberOf, place, before, after, blank, jobWith, jobIn, lineJob, lineSettled}
 use Rattle.lines.proofs.Words.{no-job, a-job, no-high, no-line, a-line}
 
 pub place-le : (b : ℕ) (l : List ℕ) → place b l ≤ length l
@@ -90,15 +90,15 @@ place-out b (x ∷ l) r h = go (eqb x b) h (place-out b l r)
     go true k f = absurd (omega arith)
     go false k f = omega (arith, f (omega arith))
 
-pub no-early-end : (l : List ℕ) → 40 ≤ place 10 l → jobOf l ≡ Bad
+pub no-early-end : (l : List ℕ) → 40 ≤ place 10 l → lineJob l ≡ Bad
 no-early-end l h = go (ltb (place 10 l) (length l)) refl
   where
-    go : (b : Bool) → ltb (place 10 l) (length l) ≡ b → jobOf l ≡ Bad
+    go : (b : Bool) → ltb (place 10 l) (length l) ≡ b → lineJob l ≡ Bad
     go true q = a-line l (ltb-true (place 10 l) (length l) q) ∙ long-line (place 10 l + 1) (before 10 l) (omega (arith, length-take-le (place 10 l) l (place-le 10 l)))
     go false q = no-line l (omega (arith, place-le 10 l, ltb-false (place 10 l) (length l) q))
 
 -- a line that has ended is settled, whatever stands after it
-ended-line : (l r : List ℕ) → place 10 l < length l → jobOf (l ++ r) ≡ jobOf l
+ended-line : (l r : List ℕ) → place 10 l < length l → lineJob (l ++ r) ≡ lineJob l
 ended-line l r k =
     let e : place 10 (l ++ r) ≡ place 10 l = place-in 10 l r k in
     a-line (l ++ r) (omega (arith, length-append l r))
@@ -107,19 +107,19 @@ ended-line l r k =
     ∙ sym (a-line l k)
 
 -- of input that never ends 40 bytes settle the job line, whatever stands after them
-pub settled : (l r : List ℕ) → 40 ≤ length l → jobOf (l ++ r) ≡ jobOf l
-settled l r h = go (ltb (place 10 l) (length l)) refl
+pub line-settled : (l r : List ℕ) → 40 ≤ length l → lineJob (l ++ r) ≡ lineJob l
+line-settled l r h = go (ltb (place 10 l) (length l)) refl
   where
-    go : (b : Bool) → ltb (place 10 l) (length l) ≡ b → jobOf (l ++ r) ≡ jobOf l
+    go : (b : Bool) → ltb (place 10 l) (length l) ≡ b → lineJob (l ++ r) ≡ lineJob l
     go true q = ended-line l r (ltb-true (place 10 l) (length l) q)
     go false q =
         let k : length l ≤ place 10 l = ltb-false (place 10 l) (length l) q in
         no-early-end (l ++ r) (omega (arith, place-out 10 l r k)) ∙ sym (no-early-end l (omega arith))
 
-pub line-settled : (l r : List ℕ) → lineSettled l ≡ true → jobOf (l ++ r) ≡ jobOf l
+pub line-settled : (l r : List ℕ) → lineSettled l ≡ true → lineJob (l ++ r) ≡ lineJob l
 line-settled l r h = go (leb 40 (length l)) (ltb (place 10 l) (length l)) refl refl h
   where
-    go : (a b : Bool) → leb 40 (length l) ≡ a → ltb (place 10 l) (length l) ≡ b → a || b ≡ true → jobOf (l ++ r) ≡ jobOf l
-    go true b p q e = settled l r (leb-true 40 (length l) p)
+    go : (a b : Bool) → leb 40 (length l) ≡ a → ltb (place 10 l) (length l) ≡ b → a || b ≡ true → lineJob (l ++ r) ≡ lineJob l
+    go true b p q e = line-settled l r (leb-true 40 (length l) p)
     go false true p q e = ended-line l r (ltb-true (place 10 l) (length l) q)
     go false false p q e = absurd (let z : _≡_ {A = ℕ} 0 1 = cc in omega arith)

@@ -16,7 +16,7 @@ use lib.Seq.{drop-cons, take-all}
 use lib.Dec.{eqb, leb, ltb}
 use borrow.Author.Tests.{eq-eqb, ne-eqb, le-leb, lt-leb, le-ltb, lt-ltb}
 use Rattle.lexer.specs.Lex.{isDigit, all, decimal, same, bytes}
-use Rattle.lines.specs.JobLine.{place, before, after, blank, isNatural, plain, minus, numberOf, jobWith, jobIn, jobOf}
+use Rattle.lines.specs.JobLine.{place, before, after, blank, isNatural, plain, minus, numberOf, jobWith, jobIn, lineJob}
 use Rattle.lines.specs.declared.JobLine.the-variants.{Bad, Good}
 use Rattle.lines.specs.Parts.{huge, valued, magnitudeOf, read}
 
@@ -170,13 +170,13 @@ pub a-job : (t : ℕ) (l : List ℕ) → same (before blank l) (bytes "job") ≡
 unfolding jobIn
 a-job t l e = rw (e, jobIn)
 
-pub no-line : (l : List ℕ) → place 10 l ≡ length l → jobOf l ≡ Bad
-unfolding jobOf
-no-line l e = rw (le-ltb (place 10 l) (length l) (omega arith), jobOf)
+pub no-line : (l : List ℕ) → place 10 l ≡ length l → lineJob l ≡ Bad
+unfolding lineJob
+no-line l e = rw (le-ltb (place 10 l) (length l) (omega arith), lineJob)
 
-pub a-line : (l : List ℕ) → place 10 l < length l → jobOf l ≡ jobIn (place 10 l + 1) (before 10 l)
-unfolding jobOf
-a-line l h = rw (lt-ltb (place 10 l) (length l) h, jobOf)
+pub a-line : (l : List ℕ) → place 10 l < length l → lineJob l ≡ jobIn (place 10 l + 1) (before 10 l)
+unfolding lineJob
+a-line l h = rw (lt-ltb (place 10 l) (length l) h, lineJob)
 
 -- ---- the three numbers of a line
 

@@ -66,8 +66,8 @@ jobIn text line =
     ]
 
 -- "a line .. ended by LF .., then the text"
-unfoldable pub jobOf : List ℕ → JobLine
-jobOf input = elim (ltb (place lineFeed input) (length input)) [
+unfoldable pub lineJob : List ℕ → JobLine
+lineJob input = elim (ltb (place lineFeed input) (length input)) [
   | true ↦ jobIn (place lineFeed input + 1) (before lineFeed input)
   | false ↦ Bad
 ]

@@ -24,10 +24,10 @@ endingAt (suc (suc (suc n))) = spent
 abbrev pub countOf : ℤ → ℕ
 countOf z = min (clamp z) 8
 
-unfoldable pub rowOf : List ℤ → Row
-rowOf ws = record { result = getD ws 0 (pos 0); values = take (countOf (getD ws 1 (pos 0))) (drop 2 ws) }
+unfoldable pub rowFrom : List ℤ → Row
+rowFrom ws = record { result = getD ws 0 (pos 0); values = take (countOf (getD ws 1 (pos 0))) (drop 2 ws) }
 
 -- the n rows at the front of words
-unfoldable pub rowsOf : ℕ → List ℤ → List Row
-rowsOf zero ws = []
-rowsOf (suc n) ws = rowOf ws ∷ rowsOf n (drop 10 ws)
+unfoldable pub rowsFrom : ℕ → List ℤ → List Row
+rowsFrom zero ws = []
+rowsFrom (suc n) ws = rowFrom ws ∷ rowsFrom n (drop 10 ws)

@@ -6,9 +6,9 @@ ghost use mir.Val.{toZ};
 ghost use Rattle.lexer.specs.Lex.{bytes};
 ghost use Prim.Native.Nat.{_+_, _*_, _≤_, _<_};
 ghost use lib.ListN.{length, take, drop};
-ghost use Rattle.lines.specs.JobLine.{numberOf, place as placeOf, before, after, jobWith, jobIn, jobOf, lineSettled};
+ghost use Rattle.lines.specs.JobLine.{numberOf, place as placeOf, before, after, jobWith, jobIn, lineJob, lineSettled};
 ghost use Rattle.lines.specs.Parts.{read, valued, magnitudeOf};
-ghost use Rattle.lines.specs.Written.{Put, countOf, endingAt, rowOf, rowsOf};
+ghost use Rattle.lines.specs.Written.{Put, countOf, endingAt, rowFrom, rowsFrom};
 ghost use Rattle.lines.specs.Print.{natural, integer, spaced, rowLine, rowLines, ending, lastLine, refusal};
 
 // A job: the window, the step limit, and where the text begins.
@@ -166,7 +166,7 @@ fn job_in(line: &[u8], text: usize) -> JobLine
 
 // The job line at the front of the input.
 pub fn job_line(input: &[u8]) -> JobLine
-    ensures { λ r. ⌜ r ≡ jobOf (now (input .entry)) ⌝ }
+    ensures { λ r. ⌜ r ≡ lineJob (now (input .entry)) ⌝ }
 {
     let end = place(input, b'\n');
     if end == input.len() {
@@ -315,7 +315,7 @@ pub fn put_refusal(out: &mut [u8], at: usize, number: u32, place: u32) -> usize
 // The row whose ten words begin at `base`.
 fn put_row(out: &mut [u8], at: usize, rows: &[i32], base: usize) -> usize
     requires { ⌜ (at + 110 ≤ length (now out)) × (base + 10 ≤ length (now rows)) ⌝ }
-    ensures { λ r. ⌜ Put (now (out .entry)) at (rowLine (rowOf (drop base (now (rows .entry))))) (now (out .exit)) r × (r ≤ at + 110) ⌝ }
+    ensures { λ r. ⌜ Put (now (out .entry)) at (rowLine (rowFrom (drop base (now (rows .entry))))) (now (out .exit)) r × (r ≤ at + 110) ⌝ }
 {
     let p = put_integer(out, at, rows[base]);
     let q = put_bytes(out, p, b" :");
@@ -327,7 +327,7 @@ fn put_row(out: &mut [u8], at: usize, rows: &[i32], base: usize) -> usize
 // The n rows from row `from` on.
 pub fn put_rows(out: &mut [u8], at: usize, rows: &[i32], from: usize, n: usize) -> usize
     requires { ⌜ (at + 110 * n ≤ length (now out)) × (10 * (from + n) ≤ length (now rows)) ⌝ }
-    ensures { λ r. ⌜ Put (now (out .entry)) at (rowLines (rowsOf n (drop (10 * from) (now (rows .entry))))) (now (out .exit)) r × (r ≤ at + 110 * n) ⌝ }
+    ensures { λ r. ⌜ Put (now (out .entry)) at (rowLines (rowsFrom n (drop (10 * from) (now (rows .entry))))) (now (out .exit)) r × (r ≤ at + 110 * n) ⌝ }
 {
     let mut p = at;
     let mut k = 0;

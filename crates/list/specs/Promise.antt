@@ -26,8 +26,8 @@ pub data Closes (j : Job) (skip room budget : ℕ) (plans written : List Row) (m
   atFull : written ≡ take room (drop skip plans) → skip + room < length plans → Closes j skip room budget plans written moves full
   atSpent : moves ≡ budget → written ≡ drop skip (rowsIn (take moves (search byRanges j))) → (rest : List Row) → drop skip plans ≡ written ++ rest → Closes j skip room budget plans written moves spent
 
-abbrev pub answering : List Row → ℕ → Close → S.Answer
-answering rows moves close = record { rows = rows; moves = moves; close = close }
+abbrev pub answerWith : List Row → ℕ → Close → S.Answer
+answerWith rows moves close = record { rows = rows; moves = moves; close = close }
 
 -- "Each choice taken back, anywhere in a search, leaves variables, windows and tests as they were when it was made."
 -- On the code c: a path, with any forced outcomes p, has ended, and a choice is taken back for the next path, whose forced outcomes are q. Then that one comes to the choice again, and what stands there is what stood when the choice was made.
@@ -48,5 +48,5 @@ pub record Keeps (text : List ℕ) (low high : ℤ) (steps skip budget : ℕ) (r
   pub cleared : left .scratch ≡ replicate (length scratch) 0
   pub closes : Closes (jobOf text low high steps) skip (length rows / 10) budget plans written moves ending
   -- the search is made path after path on a code of the text's program: on any in which the program is placed, as on list's own (`Codes`), it gives this answer, for some bound n of a path's turns
-  pub made : (c : Code) → Placed c (program text) → (k : ℕ) → budget < k → (n : ℕ) × (searching byRanges (to low high) c steps k n (opening skip (length rows / 10) budget) ≡ answering written moves ending)
+  pub made : (c : Code) → Placed c (program text) → (k : ℕ) → budget < k → (n : ℕ) × (searching byRanges (to low high) c steps k n (opening skip (length rows / 10) budget) ≡ answerWith written moves ending)
   pub restores : (c : Code) → Placed c (program text) → Restores low high steps c

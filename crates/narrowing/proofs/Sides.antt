@@ -16,12 +16,12 @@ use Rattle.semantics.proofs.Order.{_≺_, eqZ→}
 use Rattle.intervals.specs.declared.Window as code
 use Rattle.narrowing.specs.declared.Side.{Side}
 use Rattle.narrowing.specs.declared.Side.the-variants.{Free, Other}
-use Rattle.narrowing.specs.Meaning.{rangeOf, variableOf, narrowedBy, Placed, Stands}
+use Rattle.narrowing.specs.Meaning.{rangeOf, variableOf, narrowedBy, AmongEight, Stands}
 use Rattle.intervals.proofs.Undecided.{false-of, around, decided-mirrored}
 use Rattle.intervals.proofs.Narrow.{same}
 
-pub placed : {i : ℕ} → Placed (Free i) → i < 8
-placed (Placed.free h) = h
+pub placed : {i : ℕ} → AmongEight (Free i) → i < 8
+placed (AmongEight.free h) = h
 
 -- ---- sides that stand for values. The first n windows are those of a path with n free variables
 

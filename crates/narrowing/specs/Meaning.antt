@@ -15,9 +15,9 @@ use Rattle.narrowing.specs.declared.Side.the-variants.{Free, Other}
 -- ---- the sides of a comparison: "where one side is just a free variable and the other's range is one number"
 
 -- a free variable has its place among the eight
-pub data Placed : Side → Type 0 where
-  free : {i : ℕ} → i < 8 → Placed (Free i)
-  other : {r : code.Window} → Placed (Other r)
+pub data AmongEight : Side → Type 0 where
+  free : {i : ℕ} → i < 8 → AmongEight (Free i)
+  other : {r : code.Window} → AmongEight (Other r)
 
 -- the range of a side, in these windows
 abbrev pub rangeOf : List Window → Side → Window

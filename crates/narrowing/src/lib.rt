@@ -6,7 +6,7 @@ ghost use lib.ListN.{getD, set};
 ghost use Rattle.semantics.specs.Search.{to, decided, clip, clipped, all32};
 ghost use Rattle.ints.specs.Numbers.{comparison};
 ghost use Rattle.intervals.specs.Meaning.{ofWindow, ofPairs};
-ghost use Rattle.narrowing.specs.Meaning.{Placed, rangeOf, variableOf, narrowedBy};
+ghost use Rattle.narrowing.specs.Meaning.{AmongEight, rangeOf, variableOf, narrowedBy};
 use intervals::Window;
 use ranges::mirrored;
 
@@ -48,7 +48,7 @@ fn narrow_at(ws: [[i32; 2]; 8], i: usize, c: u32, k: i32) -> [[i32; 2]; 8]
 
 // The range of a side, in these windows.
 pub fn range_of(ws: [[i32; 2]; 8], s: Side) -> Window
-    requires { ⌜ Placed s ⌝ }
+    requires { ⌜ AmongEight s ⌝ }
     ensures { λ r. ⌜ ofWindow r ≡ rangeOf (ofPairs ws) s ⌝ }
 {
     match s {
@@ -59,7 +59,7 @@ pub fn range_of(ws: [[i32; 2]; 8], s: Side) -> Window
 
 // The windows, narrowed if the side is just a free variable, which compares so with a number.
 fn narrow_side(ws: [[i32; 2]; 8], s: Side, c: u32, k: i32) -> [[i32; 2]; 8]
-    requires { ⌜ Placed s × (decided (comparison c) (rangeOf (ofPairs ws) s) (to k k) ≡ none) ⌝ }
+    requires { ⌜ AmongEight s × (decided (comparison c) (rangeOf (ofPairs ws) s) (to k k) ≡ none) ⌝ }
     ensures { λ r. ⌜ ofPairs r ≡ clipped (comparison c) (variableOf s) (to k k) (ofPairs ws) ⌝ }
 {
     match s {
@@ -70,7 +70,7 @@ fn narrow_side(ws: [[i32; 2]; 8], s: Side, c: u32, k: i32) -> [[i32; 2]; 8]
 
 // The windows where the comparison, which the ranges of its sides do not decide, holds.
 pub fn narrowed(ws: [[i32; 2]; 8], c: u32, a: Side, b: Side) -> [[i32; 2]; 8]
-    requires { ⌜ Placed a × Placed b ⌝ }
+    requires { ⌜ AmongEight a × AmongEight b ⌝ }
     requires { ⌜ decided (comparison c) (rangeOf (ofPairs ws) a) (rangeOf (ofPairs ws) b) ≡ none ⌝ }
     ensures { λ r. ⌜ ofPairs r ≡ narrowedBy (comparison c) a b (ofPairs ws) ⌝ }
 {

@@ -10,7 +10,7 @@ use native.Mathlib.Numerals.{add-one}
 use native.Mathlib.Omega.{arith}
 use lib.ListN.{length, getD}
 use Rattle.semantics.specs.Int.{Cmp}
-use Rattle.semantics.specs.Search.{Value, made, narrowed, decided}
+use Rattle.semantics.specs.Search.{Value, asTest, narrowed, decided}
 use Rattle.simulation.specs.Path.{state, outcome, later, holding}
 use Rattle.simulation.specs.Nodes.{Node, Noted, meaning, ranges, rangeIn, testOf}
 use Rattle.intervals.proofs.Undecided.{undecided-negated}
@@ -124,7 +124,7 @@ module _ (m m₁ m₂ m₃ : List ℕ) (p : Point) (c d : Cmp) (v w : code.Value
       tables = λ k j x y. away k (λ f g. omega arith) (λ f g. omega arith) (λ q l f g. omega arith);
     };
     next = a .next;
-    is = λ i. state (p .steps) (8 - p .windows) (windows-are i) ((ap₂ (λ (ns : List Node) (ts : List Noted). map (testOf ns) ts) nodes-are tests-are ∙ ap (λ (x : Cmp). made x (meant m n v) (meant m n w) ∷ map (testOf (nodesIn m n)) (testsIn m t)) e) i) (forced-are i) (chosen-are i);
+    is = λ i. state (p .steps) (8 - p .windows) (windows-are i) ((ap₂ (λ (ns : List Node) (ts : List Noted). map (testOf ns) ts) nodes-are tests-are ∙ ap (λ (x : Cmp). asTest x (meant m n v) (meant m n w) ∷ map (testOf (nodesIn m n)) (testsIn m t)) e) i) (forced-are i) (chosen-are i);
     standing = record {
       tables = s .tables;
       tested = λ j l. ⊎-elim

@@ -23,7 +23,7 @@ use Rattle.simulation.proofs.Nodes.{range-ok}
 use Rattle.intervals.specs.declared.Window as win
 use Rattle.narrowing.specs.declared.Side.{Side}
 use Rattle.intervals.specs.Meaning.{ofWindow, ofPair, ofPairs}
-use Rattle.narrowing.specs.Meaning.{Placed, rangeOf, variableOf, narrowedBy, Stands}
+use Rattle.narrowing.specs.Meaning.{AmongEight, rangeOf, variableOf, narrowedBy, Stands}
 use Rattle.window_memory.specs.Memory.{pairsAt, putPairs}
 use Rattle.ranges.proofs.Ranges.{filled, ordered}
 use Rattle.narrowing.proofs.Pairs.{pairs-more}
@@ -92,13 +92,13 @@ module _ (m : List ℕ) (k n : ℕ) (t : Tables m k n) where
   side-range : (s : Side) (v : code.Value) → Stands (windowsIn m k) s (meant m n v) → rangeOf ps s ≡ rangeIn (rangesIn m n) (cellOf v)
   side-range s v st = sym (stands-range ps k st) ∙ sym (range-is v)
 
-  pub side-placed : (s : Side) (v : code.Value) → Stands (windowsIn m k) s (meant m n v) → Placed s
+  pub side-placed : (s : Side) (v : code.Value) → Stands (windowsIn m k) s (meant m n v) → AmongEight s
   side-placed s v st = by s (meant m n v) st
     where
-      by : (s : Side) (x : search.Value) → Stands (windowsIn m k) s x → Placed s
-      by s x (Stands.free {i} h) = let l : i < 8 = omega (arith, windows-length m k (t .count), t .count) in Placed.free l
-      by s x (Stands.number e) = Placed.other
-      by s x (Stands.operation e) = Placed.other
+      by : (s : Side) (x : search.Value) → Stands (windowsIn m k) s x → AmongEight s
+      by s x (Stands.free {i} h) = let l : i < 8 = omega (arith, windows-length m k (t .count), t .count) in AmongEight.free l
+      by s x (Stands.number e) = AmongEight.other
+      by s x (Stands.operation e) = AmongEight.other
 
   module _ (c : Cmp) (v w : code.Value) (a b : Side) (u : Undecided m n c v w) (sa : Stands (windowsIn m k) a (meant m n v)) (sb : Stands (windowsIn m k) b (meant m n w)) where
     pub sides-undecided : decided c (rangeOf ps a) (rangeOf ps b) ≡ none

@@ -42,7 +42,7 @@ of-tree text ts (ok t m) =
       offsets = nameOffset (places ts) hs 0 ∷ nameOffset (places ts) hs 1 ∷ nameOffset (places ts) hs 2 ∷ [];
     })
 
-abbrev of-tokens : List ℕ → L.Answer → Option Facts
+abbrev of-tokens : List ℕ → L.Lexing → Option Facts
 of-tokens text (L.refused n p) = none
 of-tokens text (L.tokens ts) = of-tree text ts (parsed (kinds ts))
 

@@ -69,9 +69,9 @@ pub record Unreached (cs : List Call) (n main g : ℕ) : Type 0 where
 
 -- what stands in the first `count` places: the offset of each function that belongs, once, and no other. `offset g` is the place of the name of function g.
 -- The order is left open.
-pub record Remarked (Belongs : ℕ → Type 0) (offset : ℕ → ℕ) (before after : List ℕ) (count : ℕ) : Type 0 where
-  pub all : (g : ℕ) → Belongs g → (k : ℕ) × (k < count) × (getD after k 0 ≡ offset g)
-  pub only : (k : ℕ) → k < count → (g : ℕ) × Belongs g × (getD after k 0 ≡ offset g)
+pub record Remarked (Remarkable : ℕ → Type 0) (offset : ℕ → ℕ) (before after : List ℕ) (count : ℕ) : Type 0 where
+  pub all : (g : ℕ) → Remarkable g → (k : ℕ) × (k < count) × (getD after k 0 ≡ offset g)
+  pub only : (k : ℕ) → k < count → (g : ℕ) × Remarkable g × (getD after k 0 ≡ offset g)
   pub once : (j k : ℕ) → j < count → k < count → getD after j 0 ≡ getD after k 0 → j ≡ k
   pub kept : (k : ℕ) → count ≤ k → getD after k 0 ≡ getD before k 0
   pub size : length after ≡ length before
@@ -89,8 +89,8 @@ abbrev pub nameOffset : List ℕ → List Head → ℕ → ℕ
 nameOffset ps hs g = getD ps (getD (map (λ (h : Head). h .name) hs) g 0) 0
 
 -- the function g of a text with the tokens ts and the tree t is but main, and no chain of calls in the text leads to it from main
-abbrev pub Belongs : List ℕ → List Token → Tree prog → ℕ → Type 0
-Belongs text ts t g =
+abbrev pub Remarkable : List ℕ → List Token → Tree prog → ℕ → Type 0
+Remarkable text ts t g =
     Unreached
     (callsOf (sameName text (places ts) (values ts)) (events (ast t)))
     (length (heads (events (ast t))))
@@ -102,5 +102,5 @@ Belongs text ts t g =
 pub data Answers (text before after : List ℕ) : Answer → Verdict → Type 0 where
   refuses : {n p : ℕ} → after ≡ before → Answers text before after (Refused n p) (refused n p)
   counts : {n m : ℕ} {ts : List Token} {t : Tree prog} → lexed text ≡ tokens ts → parsed (kinds ts) ≡ ok t m
-      → Remarked (Belongs text ts t) (nameOffset (places ts) (heads (events (ast t)))) before after n
+      → Remarked (Remarkable text ts t) (nameOffset (places ts) (heads (events (ast t)))) before after n
       → Answers text before after (Count n) accepted

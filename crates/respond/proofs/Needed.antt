@@ -18,7 +18,7 @@ use Rattle.list.specs.List.{ground, list, answering}
 use Rattle.lines.specs.declared.Job.{Job}
 use Rattle.lines.specs.declared.JobLine.{JobLine}
 use Rattle.lines.specs.declared.JobLine.the-variants.{Bad, Good}
-use Rattle.lines.specs.JobLine.{place, jobOf, lineSettled}
+use Rattle.lines.specs.JobLine.{place, lineJob, lineSettled}
 use Rattle.lines.proofs.Reach.{line-settled}
 use Rattle.lines.proofs.Good.{good-holds}
 use Rattle.respond.specs.Output.{textOf, rowWords, scratchWords, listing, linesOf, output, isSome, jobEnough, enoughInput}
@@ -60,12 +60,12 @@ module _ (l r : List ℕ) where
       (long-text (textOf l j) (omega (arith, k, length-drop (j .text) l)))
 
   module _ (h : lineSettled l ≡ true) where
-    by-job : (j : Job) → jobOf l ≡ Good j → (g : Option ℕ) → ground 16384 (j .low) (j .high) (j .steps) ≡ g → (b : Bool) → ltb (j .text + 2048) (length l) ≡ b → isSome g || b ≡ true → output (l ++ r) ≡ output l
+    by-job : (j : Job) → lineJob l ≡ Good j → (g : Option ℕ) → ground 16384 (j .low) (j .high) (j .steps) ≡ g → (b : Bool) → ltb (j .text + 2048) (length l) ≡ b → isSome g || b ≡ true → output (l ++ r) ≡ output l
     by-job j e (some n) q b p k = ground-line (l ++ r) j (line-settled l r h ∙ e) n q ∙ sym (ground-line l j e n q)
     by-job j e none q true p k = good-line (l ++ r) j (line-settled l r h ∙ e) ∙ ap linesOf (same-listing j (ltb-true (j .text + 2048) (length l) p)) ∙ sym (good-line l j e)
     by-job j e none q false p k = absurd (let z : _≡_ {A = ℕ} 0 1 = cc in omega arith)
 
-    by-line : (a : JobLine) → jobOf l ≡ a → jobEnough (length l) a ≡ true → output (l ++ r) ≡ output l
+    by-line : (a : JobLine) → lineJob l ≡ a → jobEnough (length l) a ≡ true → output (l ++ r) ≡ output l
     by-line Bad e k = bad-line (l ++ r) (line-settled l r h ∙ e) ∙ sym (bad-line l e)
     by-line (Good j) e k = by-job j e (ground 16384 (j .low) (j .high) (j .steps)) refl (ltb (j .text + 2048) (length l)) refl k
 
@@ -74,30 +74,30 @@ pub enough-input : (l r : List ℕ) → enoughInput l ≡ true → output (l ++ 
 unfolding enoughInput
 enough-input l r e = go (lineSettled l) refl e
   where
-    go : (b : Bool) → lineSettled l ≡ b → b && jobEnough (length l) (jobOf l) ≡ true → output (l ++ r) ≡ output l
-    go true q e = by-line l r q (jobOf l) refl e
+    go : (b : Bool) → lineSettled l ≡ b → b && jobEnough (length l) (lineJob l) ≡ true → output (l ++ r) ≡ output l
+    go true q e = by-line l r q (lineJob l) refl e
     go false q e = absurd (let z : _≡_ {A = ℕ} 0 1 = cc in omega arith)
 
 -- as the code finds it
 module _ (l : List ℕ) where
   pub enough-not : lineSettled l ≡ false → false ≡ enoughInput l
   unfolding enoughInput
-  enough-not e = sym (ap (λ (b : Bool). b && jobEnough (length l) (jobOf l)) e)
+  enough-not e = sym (ap (λ (b : Bool). b && jobEnough (length l) (lineJob l)) e)
 
-  pub enough-line : (a : JobLine) → lineSettled l ≡ true → jobOf l ≡ a → jobEnough (length l) a ≡ enoughInput l
+  pub enough-line : (a : JobLine) → lineSettled l ≡ true → lineJob l ≡ a → jobEnough (length l) a ≡ enoughInput l
   unfolding enoughInput
-  enough-line a e f = sym (ap (λ (b : Bool). b && jobEnough (length l) (jobOf l)) e ∙ ap (jobEnough (length l)) f)
+  enough-line a e f = sym (ap (λ (b : Bool). b && jobEnough (length l) (lineJob l)) e ∙ ap (jobEnough (length l)) f)
 
 -- ---- 2,089 bytes are always enough: 40 for the job line, and 2,049 of a text
 
 long-enough : (l : List ℕ) → 2089 ≤ length l → enoughInput l ≡ true
-long-enough l h = sym (enough-line l (jobOf l) (ap (λ (b : Bool). b || ltb (place 10 l) (length l)) (le-leb 40 (length l) (omega (arith, h)))) refl) ∙ go (jobOf l) refl
+long-enough l h = sym (enough-line l (lineJob l) (ap (λ (b : Bool). b || ltb (place 10 l) (length l)) (le-leb 40 (length l) (omega (arith, h)))) refl) ∙ go (lineJob l) refl
   where
     or-true : (b : Bool) → b || true ≡ true
     or-true true = refl
     or-true false = refl
 
-    go : (a : JobLine) → jobOf l ≡ a → jobEnough (length l) a ≡ true
+    go : (a : JobLine) → lineJob l ≡ a → jobEnough (length l) a ≡ true
     go Bad e = refl
     go (Good j) e =
         ap (λ (b : Bool). isSome (ground 16384 (j .low) (j .high) (j .steps)) || b) (lt-ltb (j .text + 2048) (length l) (omega (arith, h, good-holds l j e .near)))

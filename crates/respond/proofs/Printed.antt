@@ -18,7 +18,7 @@ use Rattle.list.specs.Promise.{Closes, Keeps}
 use Rattle.list.proofs.Promises.{keeps}
 use Rattle.lines.specs.declared.Job.{Job}
 use Rattle.lines.specs.declared.JobLine.the-variants.{Bad, Good}
-use Rattle.lines.specs.JobLine.{jobOf}
+use Rattle.lines.specs.JobLine.{lineJob}
 use Rattle.lines.specs.Print.{refusal, rowLines, lastLine}
 use Rattle.lines.proofs.Good.{good-holds}
 use Rattle.respond.specs.Output.{textOf, rowWords, scratchWords, listing, shown, linesOf, outputFor, output}
@@ -51,15 +51,15 @@ listing-small text low high steps = small text low high steps 0 1000000 rowWords
 
 -- ---- each refusal is one line
 
-pub bad-line : (input : List ℕ) → jobOf input ≡ Bad → output input ≡ refusal 16 0
+pub bad-line : (input : List ℕ) → lineJob input ≡ Bad → output input ≡ refusal 16 0
 unfolding output
 bad-line input e = ap (outputFor input) e
 
-pub good-line : (input : List ℕ) (j : Job) → jobOf input ≡ Good j → output input ≡ linesOf (listing (textOf input j) (j .low) (j .high) (j .steps))
+pub good-line : (input : List ℕ) (j : Job) → lineJob input ≡ Good j → output input ≡ linesOf (listing (textOf input j) (j .low) (j .high) (j .steps))
 unfolding output
 good-line input j e = ap (outputFor input) e
 
-module _ (input : List ℕ) (j : Job) (good : jobOf input ≡ Good j) where
+module _ (input : List ℕ) (j : Job) (good : lineJob input ≡ Good j) where
   answered : (g : Option ℕ) (v : Verdict) → ground 16384 (j .low) (j .high) (j .steps) ≡ g → checked (textOf input j) ≡ v
       → listing (textOf input j) (j .low) (j .high) (j .steps) ≡ answering (textOf input j) (j .low) (j .high) (j .steps) 0 1000000 rowWords scratchWords g v
   unfolding listing list
@@ -120,7 +120,7 @@ module _ (text : List ℕ) (low low′ high high′ : ℤ) (steps : ℕ) (e : lo
     same-lines = ap linesOf left-by
 
 -- the lines of a good job are the output
-pub job-lines : (input : List ℕ) (j : Job) (text : List ℕ) (low high : ℤ) → jobOf input ≡ Good j → text ≡ textOf input j → low ≡ j .low → high ≡ j .high → linesOf (listing text low high (j .steps)) ≡ output input
+pub job-lines : (input : List ℕ) (j : Job) (text : List ℕ) (low high : ℤ) → lineJob input ≡ Good j → text ≡ textOf input j → low ≡ j .low → high ≡ j .high → linesOf (listing text low high (j .steps)) ≡ output input
 job-lines input j text low high good t e f =
     ap (λ (l : List ℕ). linesOf (listing l low high (j .steps))) t
     ∙ ap₂ (λ (x y : ℤ). linesOf (listing (textOf input j) x y (j .steps))) e f

@@ -15,7 +15,7 @@ use Rattle.semantics.proofs.Keep.{All, anil, acons}
 use Rattle.semantics.proofs.Members.{member-all, run-length}
 use Rattle.settings.specs.Rows.{wordsOf}
 use Rattle.list.specs.Promise.{Closes, atWhole, atCut, atFull, atSpent}
-use Rattle.lines.specs.Written.{rowOf, rowsOf}
+use Rattle.lines.specs.Written.{rowFrom, rowsFrom}
 use Rattle.lines.proofs.Kept as K
 use Rattle.lines.proofs.Kept.{read-back}
 
@@ -90,11 +90,11 @@ frame-length (suc n) (v ∷ vs) = ap suc (frame-length n vs)
 ten-words : (r : Row) (rest : List ℤ) → drop 10 (wordsOf r ++ rest) ≡ rest
 ten-words r rest = ap (λ (n : ℕ). drop n (wordsOf r ++ rest)) (sym (ap (λ (n : ℕ). suc (suc n)) (frame-length 8 (r .values)))) ∙ drop-append-seam (wordsOf r) rest
 
-pub rows-back : {rs : List Row} → All Few rs → (rest : List ℤ) → rowsOf (length rs) (each wordsOf rs ++ rest) ≡ rs
-unfolding rowsOf each
+pub rows-back : {rs : List Row} → All Few rs → (rest : List ℤ) → rowsFrom (length rs) (each wordsOf rs ++ rest) ≡ rs
+unfolding rowsFrom each
 rows-back anil rest = refl
 rows-back (acons {x = r} {xs = rs} h hs) rest =
     let e : (wordsOf r ++ each wordsOf rs) ++ rest ≡ wordsOf r ++ (each wordsOf rs ++ rest) = append-assoc (wordsOf r) (each wordsOf rs) rest in
     ap₂ (λ (x : Row) (l : List Row). x ∷ l)
-    (ap rowOf (e ∙ ap (λ (w : List ℤ). w ++ (each wordsOf rs ++ rest)) (words-same r h)) ∙ read-back r (each wordsOf rs ++ rest) h)
-    (ap (λ (w : List ℤ). rowsOf (length rs) (drop 10 w)) e ∙ ap (rowsOf (length rs)) (ten-words r (each wordsOf rs ++ rest)) ∙ rows-back hs rest)
+    (ap rowFrom (e ∙ ap (λ (w : List ℤ). w ++ (each wordsOf rs ++ rest)) (words-same r h)) ∙ read-back r (each wordsOf rs ++ rest) h)
+    (ap (λ (w : List ℤ). rowsFrom (length rs) (drop 10 w)) e ∙ ap (rowsFrom (length rs)) (ten-words r (each wordsOf rs ++ rest)) ∙ rows-back hs rest)

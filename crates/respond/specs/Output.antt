@@ -9,9 +9,9 @@ use lib.IntN.{ℤ, pos}
 use Rattle.lines.specs.declared.Job.{Job}
 use Rattle.lines.specs.declared.JobLine.{JobLine}
 use Rattle.lines.specs.declared.JobLine.the-variants.{Bad, Good}
-use Rattle.lines.specs.JobLine.{jobOf, lineSettled}
+use Rattle.lines.specs.JobLine.{lineJob, lineSettled}
 use Rattle.lines.specs.Print.{refusal, rowLines, lastLine}
-use Rattle.lines.specs.Written.{rowsOf}
+use Rattle.lines.specs.Written.{rowsFrom}
 use Rattle.list.specs.List.{Answer, refused, listed, Left, ground, list}
 
 -- "a line `job LOW HIGH STEPS` ended by LF .., then the text"
@@ -31,7 +31,7 @@ listing text low high steps = list text low high steps 0 1000000 rowWords scratc
 -- "a refusal prints `refused N at P`", and "after a refusal its line is the only one"; else a line for each row that was written, and the last line
 unfoldable pub shown : Answer → List ℤ → List ℕ
 shown (refused n p) rows = refusal n p
-shown (listed k m c) rows = rowLines (rowsOf k rows) ++ lastLine c k m
+shown (listed k m c) rows = rowLines (rowsFrom k rows) ++ lastLine c k m
 
 abbrev pub linesOf : Left → List ℕ
 linesOf l = shown (l .answer) (l .rows)
@@ -42,7 +42,7 @@ outputFor input Bad = refusal 16 0
 outputFor input (Good j) = linesOf (listing (textOf input j) (j .low) (j .high) (j .steps))
 
 unfoldable pub output : List ℕ → List ℕ
-output input = outputFor input (jobOf input)
+output input = outputFor input (lineJob input)
 
 -- ---- how much input the program needs: input that never ends is read no further than the answer needs
 
@@ -56,4 +56,4 @@ jobEnough n Bad = true
 jobEnough n (Good j) = isSome (ground 16384 (j .low) (j .high) (j .steps)) || ltb (j .text + 2048) n
 
 unfoldable pub enoughInput : List ℕ → Bool
-enoughInput input = lineSettled input && jobEnough (length input) (jobOf input)
+enoughInput input = lineSettled input && jobEnough (length input) (lineJob input)

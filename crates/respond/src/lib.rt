@@ -6,7 +6,7 @@ ghost use mathlib.Core.Bool.{_||_};
 ghost use lib.Dec.{ltb};
 ghost use lib.ListN.{length};
 ghost use Rattle.lines.specs.Print.{rowLines, lastLine};
-ghost use Rattle.lines.specs.Written.{Put, endingAt, rowsOf};
+ghost use Rattle.lines.specs.Written.{Put, endingAt, rowsFrom};
 ghost use Rattle.list.specs.Parts.{answerOf};
 ghost use Rattle.list.specs.List.{ground};
 ghost use Rattle.respond.specs.Output.{listing, shown, linesOf, output, isSome, enoughInput};
@@ -21,7 +21,7 @@ pub const OUTPUT: usize = 110039;
 // The lines of the first rows, and the last line with an ending by its number.
 fn print_rows(out: &mut [u8], rows: &[i32], ending: u32, count: usize, moves: u32) -> usize
     requires { ⌜ (count ≤ 1000) × (10 * count ≤ length (now rows)) × (110039 ≤ length (now out)) ⌝ }
-    ensures { λ r. ⌜ Put (now (out .entry)) 0 (rowLines (rowsOf count (now (rows .entry))) ++ lastLine (endingAt ending) count moves) (now (out .exit)) r × (r ≤ 110039) ⌝ }
+    ensures { λ r. ⌜ Put (now (out .entry)) 0 (rowLines (rowsFrom count (now (rows .entry))) ++ lastLine (endingAt ending) count moves) (now (out .exit)) r × (r ≤ 110039) ⌝ }
 {
     let p = lines::put_rows(out, 0, rows, 0, count);
     lines::put_last_line(out, p, ending, count as u32, moves)

@@ -17,7 +17,7 @@ use Rattle.settings.specs.declared.Tally.{Tally}
 use Rattle.settings.specs.declared.Tried.{Tried}
 use Rattle.settings.specs.declared.Tried.the-variants as tried
 use Rattle.settings.specs.Table.{Steady}
-use Rattle.settings.specs.Tries.{tallyOf, tallyIn, nextOf, tests, Counts, Counted, Charged, Placed, Rowed}
+use Rattle.settings.specs.Tries.{tallyOf, tallyIn, nextOf, tests, Counts, Counted, Charged, Placing, Rowed}
 use Rattle.settings.proofs.Counting.{rowed-none}
 use Rattle.settings.proofs.Going.{counts-more}
 use Rattle.paths.specs.declared.Point.{Point}
@@ -113,7 +113,7 @@ module _ (m m₁ m₂ : List ℕ) (p : Point) (t : Tally) (x : Tried) (r : Then)
   after-end : (rows : List ℤ) (y : lister.Next lister.Tally) → nextOf rows x ≡ y → thenOf m₂ rows r ≡ then y (back (outcomesIn m 0 (p .choices)))
   after-end rows y e = b .is rows ∙ ap₂ (λ (y : lister.Next lister.Tally) (h : List Bool). then y (back h)) e (outcomes-steady m m₁ s (p .choices))
 
-  pub finished-return : (v : Value) (rows rows′ : List ℤ) → Placed rows rows′ t (trials (meant m (p .run .nodes) v) (tests m (p .run .nodes) (p .choices)) (settings (windowsIn m (p .windows))) (tallyOf rows t)) x
+  pub finished-return : (v : Value) (rows rows′ : List ℤ) → Placing rows rows′ t (trials (meant m (p .run .nodes) v) (tests m (p .run .nodes) (p .choices)) (settings (windowsIn m (p .windows))) (tallyOf rows t)) x
       → Finished m m₂ rows rows′ (returned (meant m (p .run .nodes) v)) p t r
   unfolding finish
   finished-return v rows rows′ h = record {

@@ -18,7 +18,7 @@ use Rattle.simulation.specs.Placed.{Placed}
 use Rattle.simulation.proofs.Spending.{Fewer, path-fewer}
 use Rattle.machine.specs.Memory.{outcomesIn}
 use Rattle.settings.specs.declared.Tally.{Tally}
-use Rattle.settings.specs.Rows.{rowsIn}
+use Rattle.settings.specs.Rows.{rowsAt}
 use Rattle.settings.specs.Tries.{tallyOf, Rowed, Fair}
 use Rattle.settings.proofs.Counting.{rowed-none}
 use Rattle.settings.proofs.Going.{rowed-more}
@@ -43,7 +43,7 @@ pub record Between (c : Code) (window : Window) (limit skip room budget : ℕ) (
 
 module _ (c : Code) (window : Window) (limit skip room budget : ℕ) (m₀ : List ℕ) (rows₀ : List ℤ) where
   opens-first : (j : Job) → j .window ≡ window → j .steps ≡ limit → Opens (listed byRanges j skip room budget) (treeOf byRanges window limit (j .program)) (startOf m₀ rows₀ 0 (first skip room budget))
-  unfolding outcomesIn rowsIn
+  unfolding outcomesIn rowsAt
   opens-first j p q =
       subst (λ (w : Window). Opens (listed byRanges j skip room budget) (treeOf byRanges w limit (j .program)) (opening skip room budget)) p
       (subst (λ (n : ℕ). Opens (listed byRanges j skip room budget) (treeOf byRanges (j .window) n (j .program)) (opening skip room budget)) q (opens-start byRanges j skip room budget))

@@ -18,7 +18,7 @@ use Rattle.simulation.specs.Placed.{Placed}
 use Rattle.machine.specs.Memory.{outcomesIn}
 use Rattle.settings.specs.declared.Tally.{Tally}
 use Rattle.settings.specs.declared.Tried.{Tried}
-use Rattle.settings.specs.Rows.{rowsIn, sheet}
+use Rattle.settings.specs.Rows.{rowsAt, sheet}
 use Rattle.settings.specs.Tries.{tallyOf, tallyIn, nextOf, Counts, Rowed}
 use Rattle.paths.specs.declared.Point.{Point}
 use Rattle.paths.specs.Point.{stateAt}
@@ -53,7 +53,7 @@ closeOf Spent = spent
 
 -- the answer; its rows are the first ones of the slice
 abbrev pub answerOf : List ℤ → Answered → Answer
-answerOf rows a = record { rows = rowsIn rows (a .written); moves = a .moves; close = closeOf (a .ending) }
+answerOf rows a = record { rows = rowsAt rows (a .written); moves = a .moves; close = closeOf (a .ending) }
 
 -- the answer where so much was counted
 abbrev pub closes : Tally → Ending → Answered

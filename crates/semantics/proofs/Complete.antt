@@ -8,8 +8,8 @@ use lib.ListN.{length}
 use lib.IntN.{ℤ}
 use lib.Dec.{leb·zero}
 use Rattle.semantics.specs.Does.{does}
-use Rattle.semantics.specs.Run.{Ending, returns, fails, cuts, Ran, Choice, adding, belonging, before, insert, sorted, Row, rowOf, rowsOf, isCut, lists, Job, meaning, choices, plans, someCut}
-use Rattle.semantics.specs.Search.{known, work, all32, Move, plain, found, probe, meets, paths, moves, settled, openly, Solver, search, rowsIn, cutIn}
+use Rattle.semantics.specs.Run.{Ending, returns, fails, cuts, Ran, Choice, adding, belonging, before, insert, sorted, Row, rowsWith, rowsOf, isCut, lists, Job, meaning, choices, plans, someCut}
+use Rattle.semantics.specs.Search.{known, work, all32, Move, plain, found, probe, meets, paths, moves, probedOnce, openly, Solver, search, rowsIn, cutIn}
 use Rattle.semantics.proofs.Order.{cond-cases}
 use Rattle.semantics.proofs.Range.{Sub}
 use Rattle.semantics.proofs.Keep.{keep-all, all-of}
@@ -36,7 +36,7 @@ cut-in (plain k ∷ ms) = cut-in ms
 cut-in (found r ∷ ms) = cut-in ms
 cut-in (probe o ∷ ms) = ap (λ b. o || b) (cut-in ms)
 
-row-step : (e : Ending) (vs : List ℤ) (l : List Row) → seenEnd e vs .rows ++ l ≡ rowOf e vs l
+row-step : (e : Ending) (vs : List ℤ) (l : List Row) → seenEnd e vs .rows ++ l ≡ rowsWith e vs l
 row-step (returns z) vs l = refl
 row-step fails vs l = refl
 row-step cuts vs l = refl
@@ -44,7 +44,7 @@ row-step cuts vs l = refl
 rows-of : (cs : List Choice) → seenOf cs .rows ≡ rowsOf cs
 unfolding seenOf rowsOf
 rows-of [] = refl
-rows-of (c ∷ cs) = row-step (c .ran .ending) (c .values) (seenOf cs .rows) ∙ ap (rowOf (c .ran .ending) (c .values)) (rows-of cs)
+rows-of (c ∷ cs) = row-step (c .ran .ending) (c .values) (seenOf cs .rows) ∙ ap (rowsWith (c .ran .ending) (c .values)) (rows-of cs)
 
 cut-step : (e : Ending) (vs : List ℤ) → seenEnd e vs .cut ≡ isCut e
 cut-step (returns z) vs = refl
@@ -58,16 +58,16 @@ cut-of (c ∷ cs) = ap₂ (λ a b. a || b) (cut-step (c .ran .ending) (c .values
 
 -- ---- once a cut run is found, no further is looked for
 
-rows-settled : (h : Bool) (ms : List Move) → rowsIn (settled h ms) ≡ rowsIn ms
-unfolding settled rowsIn
+rows-settled : (h : Bool) (ms : List Move) → rowsIn (probedOnce h ms) ≡ rowsIn ms
+unfolding probedOnce rowsIn
 rows-settled h [] = refl
 rows-settled h (plain k ∷ ms) = rows-settled h ms
 rows-settled h (found r ∷ ms) = ap (λ l. r ∷ l) (rows-settled h ms)
 rows-settled false (probe o ∷ ms) = rows-settled o ms
 rows-settled true (probe o ∷ ms) = rows-settled true ms
 
-cut-settled : (ms : List Move) → cutIn (settled false ms) ≡ cutIn ms
-unfolding settled cutIn
+cut-settled : (ms : List Move) → cutIn (probedOnce false ms) ≡ cutIn ms
+unfolding probedOnce cutIn
 cut-settled [] = refl
 cut-settled (plain k ∷ ms) = cut-settled ms
 cut-settled (found r ∷ ms) = cut-settled ms

@@ -10,7 +10,7 @@ use Rattle.semantics.specs.Does
 use Rattle.semantics.specs.Program.{Address, slot, Expr, number, name, op, call, Exprs, more, Cond, const, compare, and, or, Stmt, empty, declare, unknown, assign, block, if, while, return, fail, Stmts, end, next, Program}
 use Rattle.semantics.specs.Does.{within, does, enter, stmt, loop, cond, expr, frame}
 use Rattle.semantics.specs.Run.{Row, Job, each, numbers, clamp, counting}
-use Rattle.semantics.specs.Search.{to, byRanges, Answer, Close, whole, cuts, full, spent, listed, answer, search, openly, settled, moves, paths, probed, tried, settings, meets, narrowed, clipped, clip, decided, always, range, fitted, span, maxZ, minZ, all32, under, work}
+use Rattle.semantics.specs.Search.{to, byRanges, Answer, Close, whole, cuts, full, spent, listed, answer, search, openly, probedOnce, moves, paths, probed, tried, settings, meets, narrowed, clipped, clip, decided, always, range, fitted, span, maxZ, minZ, all32, under, work}
 
 -- ---- how the texts are written here
 
@@ -234,9 +234,9 @@ unfoldable pub given : Case → Answer
 given c = listed byRanges (c .job) (c .skip) (c .room) (c .budget)
 
 pub starred-hold : map given starred ≡ map (λ c. c .answer) starred
-unfolding given listed answer search openly settled moves paths probed tried settings meets narrowed clipped clip decided always range fitted span maxZ minZ all32 under work each numbers clamp counting within does enter stmt loop cond expr frame holds eqZ arith exact wrap low32
+unfolding given listed answer search openly probedOnce moves paths probed tried settings meets narrowed clipped clip decided always range fitted span maxZ minZ all32 under work each numbers clamp counting within does enter stmt loop cond expr frame holds eqZ arith exact wrap low32
 starred-hold = refl
 
 pub further-hold : map given further ≡ map (λ c. c .answer) further
-unfolding frees given listed answer search openly settled moves paths probed tried settings meets narrowed clipped clip decided always range fitted span maxZ minZ all32 under work each numbers clamp counting within does enter stmt loop cond expr frame holds eqZ arith exact wrap low32
+unfolding frees given listed answer search openly probedOnce moves paths probed tried settings meets narrowed clipped clip decided always range fitted span maxZ minZ all32 under work each numbers clamp counting within does enter stmt loop cond expr frame holds eqZ arith exact wrap low32
 further-hold = refl

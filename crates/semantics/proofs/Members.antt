@@ -12,7 +12,7 @@ use lib.IntN.{ℤ, sucℤ, _-ℤ_}
 use lib.Dec.{T}
 use Rattle.semantics.specs.Int.{holds}
 use Rattle.semantics.specs.Does.{Does, returned, failed, cut, step, free, test, within}
-use Rattle.semantics.specs.Run.{Window, counting, clamp, numbers, each, lists, Ending, returns, fails, cuts, Ran, noting, exactly, run, Choice, adding, belonging, before, insert, sorted, Row, rowOf, rowsOf, isCut, someCut}
+use Rattle.semantics.specs.Run.{Window, counting, clamp, numbers, each, lists, Ending, returns, fails, cuts, Ran, noting, exactly, run, Choice, adding, belonging, before, insert, sorted, Row, rowsWith, rowsOf, isCut, someCut}
 use Rattle.semantics.specs.Demand.{_∈_}
 use Rattle.semantics.proofs.Order.{_≼_, cond-cases, antisym, of-suc}
 use Rattle.semantics.proofs.Range.{In}
@@ -189,10 +189,10 @@ sorted-only a (b ∷ l) m = go (insert-only a b (sorted l) m) (λ n. sorted-only
 pub rows-has : (cs : List Choice) (c : Choice) (r : Row) → c ∈ cs → c .values ≡ r .values → c .ran .ending ≡ returns (r .result) → r ∈ rowsOf cs
 unfolding rowsOf
 rows-has [] c r m v e = absurd (nowhere m)
-rows-has (d ∷ cs) c r (here p) v e = subst (λ x. r ∈ rowOf x (d .values) (rowsOf cs)) (sym e ∙ ap (λ c. c .ran .ending) p) (here (λ i. record { result = r .result; values = (sym v ∙ ap (λ c. c .values) p) i }))
+rows-has (d ∷ cs) c r (here p) v e = subst (λ x. r ∈ rowsWith x (d .values) (rowsOf cs)) (sym e ∙ ap (λ c. c .ran .ending) p) (here (λ i. record { result = r .result; values = (sym v ∙ ap (λ c. c .values) p) i }))
 rows-has (d ∷ cs) c r (there m) v e = later (d .ran .ending) (rows-has cs c r m v e)
   where
-    later : (x : Ending) → r ∈ rowsOf cs → r ∈ rowOf x (d .values) (rowsOf cs)
+    later : (x : Ending) → r ∈ rowsOf cs → r ∈ rowsWith x (d .values) (rowsOf cs)
     later (returns z) n = there n
     later fails n = n
     later cuts n = n
@@ -212,7 +212,7 @@ rows-only (d ∷ cs) r m = go (d .ran .ending) refl m (λ n. rows-only cs r n)
     later : Behind cs r → Behind (d ∷ cs) r
     later b = record { choice = b .choice; member = there (b .member); same = b .same; result = b .result }
 
-    go : (x : Ending) → d .ran .ending ≡ x → r ∈ rowOf x (d .values) (rowsOf cs) → (r ∈ rowsOf cs → Behind cs r) → Behind (d ∷ cs) r
+    go : (x : Ending) → d .ran .ending ≡ x → r ∈ rowsWith x (d .values) (rowsOf cs) → (r ∈ rowsOf cs → Behind cs r) → Behind (d ∷ cs) r
     go fails e n k = later (k n)
     go cuts e n k = later (k n)
     go (returns z) e (here p) k = record { choice = d; member = here refl; same = ap (λ r. r .values) (sym p); result = e ∙ ap (λ r. returns (r .result)) (sym p) }

@@ -11,7 +11,7 @@ use lib.IntN.{ℤ}
 use lib.Dec.{T, eqb→eq}
 use lib.Signed.{ltZ}
 use Rattle.semantics.specs.Does.{Does, returned, failed, cut, step, free, test}
-use Rattle.semantics.specs.Run.{Window, lists, Ending, returns, fails, cuts, Ran, run, Choice, sorted, Row, rowOf, rowsOf, Job, meaning, choices, plans, someCut}
+use Rattle.semantics.specs.Run.{Window, lists, Ending, returns, fails, cuts, Ran, run, Choice, sorted, Row, rowsWith, rowsOf, Job, meaning, choices, plans, someCut}
 use Rattle.semantics.specs.Search.{Value, unknown, openly}
 use Rattle.semantics.specs.Demand.{_∈_, InWindow, Belongs, Sooner, Lower, Before, RowOf, Earlier, PlanList, SomeCut}
 use Rattle.semantics.proofs.Order.{up, down, leZ→, →leZ, ltZ→, →ltZ}
@@ -102,7 +102,7 @@ unfolding rowsOf
 row-before j c r p anil anil = anil
 row-before j c r p (acons {x = d} {xs = cs} b bs) (acons h hs) = go (d .ran .ending) refl (row-before j c r p bs hs)
   where
-    go : (e : Ending) → d .ran .ending ≡ e → All (Earlier j r) (rowsOf cs) → All (Earlier j r) (rowOf e (d .values) (rowsOf cs))
+    go : (e : Ending) → d .ran .ending ≡ e → All (Earlier j r) (rowsOf cs) → All (Earlier j r) (rowsWith e (d .values) (rowsOf cs))
     go (returns z) e k = acons (record { first = c; second = d; row₁ = p; row₂ = record { belongs = b; values = refl; returned = e }; before = h }) k
     go fails e k = k
     go cuts e k = k
@@ -112,7 +112,7 @@ unfolding rowsOf
 rows-before j anil onil = onil
 rows-before j (acons {x = d} {xs = cs} b bs) (ocons h r) = go (d .ran .ending) refl (rows-before j bs r)
   where
-    go : (e : Ending) → d .ran .ending ≡ e → Ordered (Earlier j) (rowsOf cs) → Ordered (Earlier j) (rowOf e (d .values) (rowsOf cs))
+    go : (e : Ending) → d .ran .ending ≡ e → Ordered (Earlier j) (rowsOf cs) → Ordered (Earlier j) (rowsWith e (d .values) (rowsOf cs))
     go (returns z) e k = ocons (row-before j d (record { result = z; values = d .values }) (record { belongs = b; values = refl; returned = e }) bs h) k
     go fails e k = k
     go cuts e k = k

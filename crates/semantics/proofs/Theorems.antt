@@ -59,8 +59,8 @@ module _ (v : Solver) (sound : Sound v) (j : Job) (small : In32 (j .window)) whe
   promise = Answer.promise v sound j (in-32 (j .window) small)
 
   -- which leaves nothing open: an answer that keeps the promise is this one
-  pub settled : (skip room budget : ℕ) (a : Answer) → Promised v j skip room budget a → a ≡ listed v j skip room budget
-  settled skip room budget a p = Answer.promise-settles v j skip room budget a (listed v j skip room budget) p (promise skip room budget)
+  pub promise-unique : (skip room budget : ℕ) (a : Answer) → Promised v j skip room budget a → a ≡ listed v j skip room budget
+  promise-unique skip room budget a p = Answer.promise-settles v j skip room budget a (listed v j skip room budget) p (promise skip room budget)
 
 -- two sound solvers find the same rows in the same order, and a cut run both or neither
 module _ (u v : Solver) (sound₁ : Sound u) (sound₂ : Sound v) (j : Job) (small : In32 (j .window)) where

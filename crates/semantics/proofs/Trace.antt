@@ -13,7 +13,7 @@ use lib.Dec.{T, leb, ltb, leb→le, le→leb, ltb→lt, nltb→le, eqb→eq}
 use Rattle.semantics.specs.Int.{Cmp}
 use Rattle.semantics.specs.Does.{Does, returned, failed, cut, step, free, test, within}
 use Rattle.semantics.specs.Run.{Window, returns, cuts, lists}
-use Rattle.semantics.specs.Search.{Value, unknown, under, all32, negated, Solver, Test, made, meets, settings, Move, Paths, fork, side, paths, moves}
+use Rattle.semantics.specs.Search.{Value, unknown, under, all32, negated, Solver, Test, asTest, meets, settings, Move, Paths, fork, side, paths, moves}
 use Rattle.semantics.proofs.Order.{up, down, →leZ}
 use Rattle.semantics.proofs.Range.{In, Sub, sub-trans, Subs, Within, and-left, and-right, and-both, bool-ext}
 use Rattle.semantics.proofs.Narrow.{holds-negated}
@@ -142,7 +142,7 @@ module _ (solver : Solver) (sound : Sound solver) (job : Window) (small : Sub jo
 
   -- ---- a test
 
-  tested : (n : ℕ) (ts : List Test) (c : Cmp) (a b : Value) → keep (passes c a b) (candidates n ts) ≡ candidates n (made c a b ∷ ts)
+  tested : (n : ℕ) (ts : List Test) (c : Cmp) (a b : Value) → keep (passes c a b) (candidates n ts) ≡ candidates n (asTest c a b ∷ ts)
   unfolding meets
   tested n ts c a b =
       keep-keep (passes c a b) (λ s. atLeast n s && meets ts s) (lists 8 job)
@@ -154,12 +154,12 @@ module _ (solver : Solver) (sound : Sound solver) (job : Window) (small : Sub jo
       swap false true z = refl
       swap false false z = refl
 
-  tested-not : (n : ℕ) (ts : List Test) (c : Cmp) (a b : Value) → keep (λ s. not (passes c a b s)) (candidates n ts) ≡ candidates n (made (negated c) a b ∷ ts)
+  tested-not : (n : ℕ) (ts : List Test) (c : Cmp) (a b : Value) → keep (λ s. not (passes c a b s)) (candidates n ts) ≡ candidates n (asTest (negated c) a b ∷ ts)
   tested-not n ts c a b =
       keep-same _ _ (all-of (λ s. sym (holds-negated c (under s a) (under s b))) (candidates n ts))
       ∙ tested n ts (negated c) a b
 
-  keeps-test : (ws us : List Window) (ts : List Test) (c : Cmp) (a b : Value) → solver .narrow c a b ws ≡ some us → Keeps ws ts → Keeps us (made c a b ∷ ts)
+  keeps-test : (ws us : List Window) (ts : List Test) (c : Cmp) (a b : Value) → solver .narrow c a b ws ≡ some us → Keeps ws ts → Keeps us (asTest c a b ∷ ts)
   unfolding meets
   keeps-test ws us ts c a b e k = record {
     keeps = λ s i l m.
@@ -177,19 +177,19 @@ module _ (solver : Solver) (sound : Sound solver) (job : Window) (small : Sub jo
 
   -- one side of a choice, in its windows, or closed
   branch : {f : ℕ} {t : Does Value} → Good f t → (ws : List Window) (ts : List Test) (c : Cmp) (a b : Value) → length ws + f ≤ 8 → Subs job ws → Keeps ws ts
-      → seenIn (moves (side (solver .narrow c a b ws) (λ us. paths solver job t us (made c a b ∷ ts)))) ≡ seenOf (ends (length ws) t (keep (passes c a b) (candidates (length ws) ts)))
+      → seenIn (moves (side (solver .narrow c a b ws) (λ us. paths solver job t us (asTest c a b ∷ ts)))) ≡ seenOf (ends (length ws) t (keep (passes c a b) (candidates (length ws) ts)))
   unfolding moves seenIn seenOf
   branch {f} {t} p ws ts c a b l h k = go (solver .narrow c a b ws) refl
     where
       shut : solver .narrow c a b ws ≡ none → (s : List ℤ) → Within ws s → passes c a b s ≡ false
       shut e s w = false-of (passes c a b s) (sound .closes c a b ws e s w)
 
-      go : (x : Option (List Window)) → solver .narrow c a b ws ≡ x → seenIn (moves (side x (λ us. paths solver job t us (made c a b ∷ ts)))) ≡ seenOf (ends (length ws) t (keep (passes c a b) (candidates (length ws) ts)))
+      go : (x : Option (List Window)) → solver .narrow c a b ws ≡ x → seenIn (moves (side x (λ us. paths solver job t us (asTest c a b ∷ ts)))) ≡ seenOf (ends (length ws) t (keep (passes c a b) (candidates (length ws) ts)))
       go none e = sym (ap seenOf (ap (ends (length ws) t) (keep-none (passes c a b) (all-map (shut e) (all-within ws ts k))) ∙ ends-nil (length ws) t))
       go (some us) e =
           let n = sound .narrows c a b ws us e in
-          p .good us (made c a b ∷ ts) (omega (arith, n .many)) (subs-test ws us n h) (keeps-test ws us ts c a b e k)
-          ∙ ap (λ n. seenOf (ends n t (candidates n (made c a b ∷ ts)))) (n .many)
+          p .good us (asTest c a b ∷ ts) (omega (arith, n .many)) (subs-test ws us n h) (keeps-test ws us ts c a b e k)
+          ∙ ap (λ n. seenOf (ends n t (candidates n (asTest c a b ∷ ts)))) (n .many)
           ∙ ap (λ m. seenOf (ends (length ws) t m)) (sym (tested (length ws) ts c a b))
 
   -- the leaves below a test
@@ -222,14 +222,14 @@ module _ (solver : Solver) (sound : Sound solver) (job : Window) (small : Sub jo
       go : (ws : List Window) (ts : List Test) → length ws + f ≤ 8 → Subs job ws → Keeps ws ts → (d : Option Bool) → solver .decide c a b ws ≡ d
           → seenIn (moves (elim d as (λ d. Paths) [
             | some o ↦ paths solver job (k o) ws ts
-            | none ↦ fork (side (solver .narrow c a b ws) (λ us. paths solver job (k true) us (made c a b ∷ ts))) (side (solver .narrow (negated c) a b ws) (λ us. paths solver job (k false) us (made (negated c) a b ∷ ts)))
+            | none ↦ fork (side (solver .narrow c a b ws) (λ us. paths solver job (k true) us (asTest c a b ∷ ts))) (side (solver .narrow (negated c) a b ws) (λ us. paths solver job (k false) us (asTest (negated c) a b ∷ ts)))
           ]))
           ≡ below (length ws) c a b k (candidates (length ws) ts)
       go ws ts l h q (some true) e = p true .good ws ts l h q ∙ below-true (length ws) c a b k (candidates (length ws) ts) (all-one ws ts true q e)
       go ws ts l h q (some false) e = p false .good ws ts l h q ∙ below-false (length ws) c a b k (candidates (length ws) ts) (all-one ws ts false q e)
       go ws ts l h q none e =
           let m = candidates (length ws) ts in
-          seenIn-append (moves (side (solver .narrow c a b ws) (λ us. paths solver job (k true) us (made c a b ∷ ts)))) _
+          seenIn-append (moves (side (solver .narrow c a b ws) (λ us. paths solver job (k true) us (asTest c a b ∷ ts)))) _
           ∙ ap₂ join (branch (p true) ws ts c a b l h q)
           (branch (p false) ws ts (negated c) a b l h q
           ∙ ap (λ r. seenOf (ends (length ws) (k false) r)) (keep-same _ _ (all-of (λ s. holds-negated c (under s a) (under s b)) m)))

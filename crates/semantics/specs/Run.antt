@@ -130,14 +130,14 @@ pub record Row : Type 0 where
   pub result : ℤ
   pub values : List ℤ
 
-abbrev pub rowOf : Ending → List ℤ → List Row → List Row
-rowOf (returns z) vs rs = record { result = z; values = vs } ∷ rs
-rowOf fails vs rs = rs
-rowOf cuts vs rs = rs
+abbrev pub rowsWith : Ending → List ℤ → List Row → List Row
+rowsWith (returns z) vs rs = record { result = z; values = vs } ∷ rs
+rowsWith fails vs rs = rs
+rowsWith cuts vs rs = rs
 
 unfoldable pub rowsOf : List Choice → List Row
 rowsOf [] = []
-rowsOf (c ∷ cs) = rowOf (c .ran .ending) (c .values) (rowsOf cs)
+rowsOf (c ∷ cs) = rowsWith (c .ran .ending) (c .values) (rowsOf cs)
 
 unfoldable pub plans : Job → List Row
 plans j = rowsOf (sorted (choices j))

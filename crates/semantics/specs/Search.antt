@@ -141,8 +141,8 @@ pub record Test : Type 0 where
   pub left : Value
   pub right : Value
 
-abbrev pub made : Cmp → Value → Value → Test
-made c a b = record { compare = c; left = a; right = b }
+abbrev pub asTest : Cmp → Value → Value → Test
+asTest c a b = record { compare = c; left = a; right = b }
 
 -- "one that meets every test made"
 unfoldable pub meets : List Test → List ℤ → Bool
@@ -197,8 +197,8 @@ module _ (solver : Solver) (job : Window) where
   paths (test c a b k) ws ts = elim (solver .decide c a b ws) [
     | some o ↦ paths (k o) ws ts
     | none ↦ fork
-        (side (solver .narrow c a b ws) (λ us. paths (k true) us (made c a b ∷ ts)))
-        (side (solver .narrow (negated c) a b ws) (λ us. paths (k false) us (made (negated c) a b ∷ ts)))
+        (side (solver .narrow c a b ws) (λ us. paths (k true) us (asTest c a b ∷ ts)))
+        (side (solver .narrow (negated c) a b ws) (λ us. paths (k false) us (asTest (negated c) a b ∷ ts)))
   ]
 
 -- "Otherwise a choice is made, true first." "Then the newest choice is taken back and goes false; one already false is dropped first, which is no move. With no choice left the search has ended."
@@ -208,12 +208,12 @@ moves (onward t) = plain stepped ∷ moves t
 moves (fork a b) = moves a ++ plain back ∷ moves b
 
 -- "once a cut run is found, later cut paths try none": h says whether one was found
-unfoldable pub settled : Bool → List Move → List Move
-settled h [] = []
-settled h (plain k ∷ ms) = plain k ∷ settled h ms
-settled h (found r ∷ ms) = found r ∷ settled h ms
-settled false (probe o ∷ ms) = probe o ∷ settled o ms
-settled true (probe o ∷ ms) = settled true ms
+unfoldable pub probedOnce : Bool → List Move → List Move
+probedOnce h [] = []
+probedOnce h (plain k ∷ ms) = plain k ∷ probedOnce h ms
+probedOnce h (found r ∷ ms) = found r ∷ probedOnce h ms
+probedOnce false (probe o ∷ ms) = probe o ∷ probedOnce o ms
+probedOnce true (probe o ∷ ms) = probedOnce true ms
 
 -- what the job's program does over values that may be open
 unfoldable pub openly : Job → Does Value
@@ -221,7 +221,7 @@ openly j = within (j .steps) 8 (does known work (j .steps) (j .program))
 
 -- the moves of the whole search
 unfoldable pub search : Solver → Job → List Move
-search s j = settled false (moves (paths s (j .window) (openly j) [] []))
+search s j = probedOnce false (moves (paths s (j .window) (openly j) [] []))
 
 -- the rows that moves find, and whether they find a cut run
 unfoldable pub rowsIn : List Move → List Row

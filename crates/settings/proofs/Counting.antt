@@ -13,8 +13,8 @@ use Rattle.semantics.specs.Run.{Row}
 use Rattle.semantics.specs.Search.{Value, Test, under, meets, Answer, full, spent}
 use Rattle.simulation.specs.Lister as lister
 use Rattle.simulation.specs.Lister.{Next, then, go, over, closed, tally}
-use Rattle.settings.specs.Rows.{rowsIn, rowOf, rowAt, wordsOf, wordsFrom, Written}
-use Rattle.settings.specs.Tries.{tallyOf, tallyIn, spending, Moved, Charged, Rowed, Placed, Trying}
+use Rattle.settings.specs.Rows.{rowsAt, rowWith, rowAt, wordsOf, wordsFrom, Written}
+use Rattle.settings.specs.Tries.{tallyOf, tallyIn, spending, Moved, Charged, Rowed, Placing, Trying}
 use Rattle.settings.specs.declared.Tally.{Tally}
 use Rattle.settings.specs.declared.Tried.{Tried}
 use Rattle.settings.specs.declared.Tried.the-variants.{Go, Full, Spent}
@@ -39,7 +39,7 @@ charges t rows = lister.charge (tallyOf rows t)
 pub charged-none : (t : Tally) → t .budget ≡ 0 → Charged t (charges t) (Spent t)
 charged-none t e = record {
   counted = record {
-    is = λ rows. charge-none (t .budget) (t .skip) (t .room) (rowsIn rows (t .written)) (t .moves) (t .cut) e;
+    is = λ rows. charge-none (t .budget) (t .skip) (t .room) (rowsAt rows (t .written)) (t .moves) (t .cut) e;
     counts = record { sum = refl; places = refl; more = omega arith; spends = omega arith };
     same = refl;
   };
@@ -49,7 +49,7 @@ charged-none t e = record {
 pub charged-one : (t : Tally) → (t .budget ≡ 0 → ⊥) → Charged t (charges t) (Go (spending t))
 charged-one t e = record {
   counted = record {
-    is = λ rows. charge-one (t .budget) (t .skip) (t .room) (rowsIn rows (t .written)) (t .moves) (t .cut) e;
+    is = λ rows. charge-one (t .budget) (t .skip) (t .room) (rowsAt rows (t .written)) (t .moves) (t .cut) e;
     counts = record { sum = omega arith; places = refl; more = omega arith; spends = omega arith };
     same = refl;
   };
@@ -85,23 +85,23 @@ abbrev pub rowed : Tally → Tally
 rowed t = record { budget = t .budget; skip = t .skip; room = t .room - 1; written = t .written + 1; moves = t .moves; cut = t .cut }
 
 module _ (rows : List ℤ) (t : Tally) (x : Row) where
-  pub placed-skip : 0 < t .skip → Placed rows rows t (lister.place x (tallyOf rows t)) (Go (skipped t))
+  pub placed-skip : 0 < t .skip → Placing rows rows t (lister.place x (tallyOf rows t)) (Go (skipped t))
   placed-skip l = record {
-    is = place-skip (t .budget) (t .skip) (t .room) (rowsIn rows (t .written)) (t .moves) (t .cut) x l;
+    is = place-skip (t .budget) (t .skip) (t .room) (rowsAt rows (t .written)) (t .moves) (t .cut) x l;
     counts = record { sum = refl; places = refl; more = omega arith; spends = omega arith };
     rowed = rowed-none rows (t .written);
   }
 
-  pub placed-full : t .skip ≡ 0 → t .room ≡ 0 → Placed rows rows t (lister.place x (tallyOf rows t)) (Full t)
+  pub placed-full : t .skip ≡ 0 → t .room ≡ 0 → Placing rows rows t (lister.place x (tallyOf rows t)) (Full t)
   placed-full e q = record {
-    is = place-full (t .budget) (t .skip) (t .room) (rowsIn rows (t .written)) (t .moves) (t .cut) x e q;
+    is = place-full (t .budget) (t .skip) (t .room) (rowsAt rows (t .written)) (t .moves) (t .cut) x e q;
     counts = record { sum = refl; places = refl; more = omega arith; spends = omega arith };
     rowed = rowed-none rows (t .written);
   }
 
-  pub placed-row : (rows′ : List ℤ) → length (x .values) ≤ 8 → t .skip ≡ 0 → (t .room ≡ 0 → ⊥) → Written rows rows′ (t .written) x → Placed rows rows′ t (lister.place x (tallyOf rows t)) (Go (rowed t))
+  pub placed-row : (rows′ : List ℤ) → length (x .values) ≤ 8 → t .skip ≡ 0 → (t .room ≡ 0 → ⊥) → Written rows rows′ (t .written) x → Placing rows rows′ t (lister.place x (tallyOf rows t)) (Go (rowed t))
   placed-row rows′ few e q w = record {
-    is = ap (λ (l : List Row). go (tally (t .budget) (t .skip) (t .room - 1) l (t .moves) (t .cut))) (w .is) ∙ place-row (t .budget) (t .skip) (t .room) (rowsIn rows (t .written)) (t .moves) (t .cut) x e q;
+    is = ap (λ (l : List Row). go (tally (t .budget) (t .skip) (t .room - 1) l (t .moves) (t .cut))) (w .is) ∙ place-row (t .budget) (t .skip) (t .room) (rowsAt rows (t .written)) (t .moves) (t .cut) x e q;
     counts = record { sum = refl; places = omega (arith, q); more = omega arith; spends = omega arith };
     rowed = record {
       other = λ j h. w .other j (λ a b. h a (omega arith));
@@ -117,19 +117,19 @@ module _ (rows : List ℤ) (t : Tally) (x : Row) where
 module _ (v : Value) (ts : List Test) (s : List ℤ) where
   trial-over : (T : lister.Tally) {a : Answer} → over a ≡ lister.charge T → over a ≡ lister.trial v ts s T
   unfolding lister.trial
-  trial-over T e = ap (λ (x : Next lister.Tally). then x (λ u. elim (meets ts s) as (λ b. Next lister.Tally) [ true ↦ lister.place (rowOf (under s v) s) u | false ↦ go u ])) e
+  trial-over T e = ap (λ (x : Next lister.Tally). then x (λ u. elim (meets ts s) as (λ b. Next lister.Tally) [ true ↦ lister.place (rowWith (under s v) s) u | false ↦ go u ])) e
 
-  trial-met : (T U : lister.Tally) → go U ≡ lister.charge T → meets ts s ≡ true → lister.place (rowOf (under s v) s) U ≡ lister.trial v ts s T
+  trial-met : (T U : lister.Tally) → go U ≡ lister.charge T → meets ts s ≡ true → lister.place (rowWith (under s v) s) U ≡ lister.trial v ts s T
   unfolding lister.trial
   trial-met T U e m =
-      ap (λ (b : Bool). elim b as (λ b. Next lister.Tally) [ true ↦ lister.place (rowOf (under s v) s) U | false ↦ go U ]) (sym m)
-      ∙ ap (λ (x : Next lister.Tally). then x (λ u. elim (meets ts s) as (λ b. Next lister.Tally) [ true ↦ lister.place (rowOf (under s v) s) u | false ↦ go u ])) e
+      ap (λ (b : Bool). elim b as (λ b. Next lister.Tally) [ true ↦ lister.place (rowWith (under s v) s) U | false ↦ go U ]) (sym m)
+      ∙ ap (λ (x : Next lister.Tally). then x (λ u. elim (meets ts s) as (λ b. Next lister.Tally) [ true ↦ lister.place (rowWith (under s v) s) u | false ↦ go u ])) e
 
   trial-missed : (T U : lister.Tally) → go U ≡ lister.charge T → meets ts s ≡ false → go U ≡ lister.trial v ts s T
   unfolding lister.trial
   trial-missed T U e m =
-      ap (λ (b : Bool). elim b as (λ b. Next lister.Tally) [ true ↦ lister.place (rowOf (under s v) s) U | false ↦ go U ]) (sym m)
-      ∙ ap (λ (x : Next lister.Tally). then x (λ u. elim (meets ts s) as (λ b. Next lister.Tally) [ true ↦ lister.place (rowOf (under s v) s) u | false ↦ go u ])) e
+      ap (λ (b : Bool). elim b as (λ b. Next lister.Tally) [ true ↦ lister.place (rowWith (under s v) s) U | false ↦ go U ]) (sym m)
+      ∙ ap (λ (x : Next lister.Tally). then x (λ u. elim (meets ts s) as (λ b. Next lister.Tally) [ true ↦ lister.place (rowWith (under s v) s) u | false ↦ go u ])) e
 
   module _ (rows : List ℤ) (t : Tally) where
     pub trying-over : t .budget ≡ 0 → Trying rows rows t (lister.trial v ts s (tallyOf rows t)) (Spent t)
@@ -157,7 +157,7 @@ module _ (v : Value) (ts : List Test) (s : List ℤ) where
     moved-by (Full u) e l = tt
     moved-by (Spent u) e l = tt
 
-    pub trying-met : (rows′ : List ℤ) (r : Tried) → (t .budget ≡ 0 → ⊥) → meets ts s ≡ true → Placed rows rows′ (spending t) (lister.place (rowOf (under s v) s) (tallyOf rows (spending t))) r
+    pub trying-met : (rows′ : List ℤ) (r : Tried) → (t .budget ≡ 0 → ⊥) → meets ts s ≡ true → Placing rows rows′ (spending t) (lister.place (rowWith (under s v) s) (tallyOf rows (spending t))) r
         → Trying rows rows′ t (lister.trial v ts s (tallyOf rows t)) r
     trying-met rows′ r e m p = record {
       placed = record {
@@ -170,10 +170,10 @@ module _ (v : Value) (ts : List Test) (s : List ℤ) where
 
     -- the same, said of what the code hands over
     pub trying-placed : (rows′ : List ℤ) (r : Tried) (u : Tally) (z : ℤ) (s′ : List ℤ) → (t .budget ≡ 0 → ⊥) → meets ts s ≡ true → u ≡ spending t → z ≡ under s v → s′ ≡ s
-        → Placed rows rows′ u (lister.place (rowOf z s′) (tallyOf rows u)) r → Trying rows rows′ t (lister.trial v ts s (tallyOf rows t)) r
+        → Placing rows rows′ u (lister.place (rowWith z s′) (tallyOf rows u)) r → Trying rows rows′ t (lister.trial v ts s (tallyOf rows t)) r
     trying-placed rows′ r u z s′ e m a b c p = trying-met rows′ r e m
-        (subst (λ (u : Tally). Placed rows rows′ u (lister.place (rowOf (under s v) s) (tallyOf rows u)) r) a
-        (subst (λ (x : Row). Placed rows rows′ u (lister.place x (tallyOf rows u)) r) (ap₂ rowOf b c) p))
+        (subst (λ (u : Tally). Placing rows rows′ u (lister.place (rowWith (under s v) s) (tallyOf rows u)) r) a
+        (subst (λ (x : Row). Placing rows rows′ u (lister.place x (tallyOf rows u)) r) (ap₂ rowWith b c) p))
 
 -- ---- a setting tried at a cut
 

@@ -15,7 +15,7 @@ use Rattle.simulation.specs.Lister as lister
 use Rattle.simulation.specs.Lister.{Next, then, go, over}
 use Rattle.simulation.proofs.Odometer.{no-setting, from, from-lowest, from-next, onward, Lies, LiesNext, lies-lowest, lies-after}
 use Rattle.settings.specs.Rows.{wordsOf}
-use Rattle.settings.specs.Tries.{tallyOf, nextOf, tallyIn, Counts, Rowed, Counted, Charged, Placed, Trying}
+use Rattle.settings.specs.Tries.{tallyOf, nextOf, tallyIn, Counts, Rowed, Counted, Charged, Placing, Trying}
 use Rattle.settings.specs.declared.Tally.{Tally}
 use Rattle.settings.specs.declared.Tried.{Tried}
 use Rattle.settings.specs.declared.Tried.the-variants.{Go}
@@ -57,7 +57,7 @@ module _ (v : Value) (ts : List Test) (ws : List Window) (rows₀ : List ℤ) (t
   whole = lister.trials v ts (settings ws) (tallyOf rows₀ t₀)
 
   -- there is no setting
-  pub tries-none : T (not (filled ws)) → Placed rows₀ rows₀ t₀ whole (Go t₀)
+  pub tries-none : T (not (filled ws)) → Placing rows₀ rows₀ t₀ whole (Go t₀)
   unfolding lister.trials
   tries-none f = record {
     is = ap (λ (l : List (List ℤ)). lister.trials v ts l (tallyOf rows₀ t₀)) (sym (no-setting ws f));
@@ -94,7 +94,7 @@ module _ (v : Value) (ts : List Test) (ws : List Window) (rows₀ : List ℤ) (t
     sheet = rowed-more rows₀ rows rows′ (t₀ .written) (t .written) (tallyIn r .written) (p .counts .more) (q .placed .counts .more) (p .rowed) (q .placed .rowed)
 
     -- the search is over
-    pub tries-over : {a : Answer} → nextOf rows′ r ≡ over a → Placed rows₀ rows′ t₀ whole r
+    pub tries-over : {a : Answer} → nextOf rows′ r ≡ over a → Placing rows₀ rows′ t₀ whole r
     tries-over e = record {
       is = e ∙ sym (ap (λ (x : Next lister.Tally). then x (lister.trials v ts (onward ws (after ws s)))) e) ∙ one;
       counts = all;
@@ -112,7 +112,7 @@ module _ (v : Value) (ts : List Test) (ws : List Window) (rows₀ : List ℤ) (t
     }
 
     -- this was the last setting
-    pub tries-last : after ws s ≡ none → Placed rows₀ rows′ t₀ whole (Go u)
+    pub tries-last : after ws s ≡ none → Placing rows₀ rows′ t₀ whole (Go u)
     unfolding lister.trials
     tries-last e = record {
       is = ap (λ (x : Option (List ℤ)). lister.trials v ts (onward ws x) (tallyOf rows′ u)) (sym e) ∙ one p q;

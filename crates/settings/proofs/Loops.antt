@@ -15,7 +15,7 @@ use Rattle.simulation.specs.Lister as lister
 use Rattle.simulation.specs.Lister.{Next, over}
 use Rattle.machine.specs.Memory.{nodesIn, settingIn, windowsIn}
 use Rattle.settings.specs.Table.{First, nextAs, Follows, Renumbered, Steady}
-use Rattle.settings.specs.Tries.{tallyOf, nextOf, tests, Fair, Counts, Counted, Charged, Placed, Trying}
+use Rattle.settings.specs.Tries.{tallyOf, nextOf, tests, Fair, Counts, Counted, Charged, Placing, Trying}
 use Rattle.settings.specs.declared.Tally.{Tally}
 use Rattle.settings.specs.declared.Tried.{Tried}
 use Rattle.settings.specs.declared.Tried.the-variants.{Go}
@@ -74,7 +74,7 @@ pub record Trialling (m₀ : List ℕ) (n c k : ℕ) (v : Cell) (rows₀ : List 
 there : (m₀ m : List ℕ) (n c : ℕ) (v : Cell) → Steady m₀ m → (P : Value → List Test → Type 0) → P (meant m n v) (tests m n c) → P (meant m₀ n v) (tests m₀ n c)
 there m₀ m n c v s P p = subst (λ (ts : List Test). P (meant m₀ n v) ts) (tests-steady m₀ m s n c) (subst (λ (ns : List Node). P (meaning ns v) (tests m n c)) (nodes-steady m₀ m s n) p)
 
-pub trialling-none : (m : List ℕ) (n c k : ℕ) (v : Cell) (rows : List ℤ) (t : Tally) → T (not (filled (windowsIn m k))) → Placed rows rows t (Whole m n c k v rows t) (Go t) × Steady m m
+pub trialling-none : (m : List ℕ) (n c k : ℕ) (v : Cell) (rows : List ℤ) (t : Tally) → T (not (filled (windowsIn m k))) → Placing rows rows t (Whole m n c k v rows t) (Go t) × Steady m m
 trialling-none m n c k v rows t h = (tries-none (meant m n v) (tests m n c) (windowsIn m k) rows t h, steady-none m)
 
 pub trialling-first : (m m₀ : List ℕ) (n c k : ℕ) (v : Cell) (rows : List ℤ) (t : Tally) → k ≤ 8 → First m m₀ k → T (filled (windowsIn m k)) → Trialling m₀ n c k v rows t m₀ rows t
@@ -91,7 +91,7 @@ module _ {m₀ : List ℕ} {n c k : ℕ} {v : Cell} {rows₀ : List ℤ} {t₀ :
   tried u a = subst (λ (u : Tried). Trying rows rows′ t (lister.trial (meant m₀ n v) (tests m₀ n c) (settingIn m k) (tallyOf rows t)) u) a
       (there m₀ m n c v (p .steady) (λ w ts. Trying rows rows′ t (lister.trial w ts (settingIn m k) (tallyOf rows t)) r) q)
 
-  pub trialling-over : (u : Tried) {a : Answer} → r ≡ u → nextOf rows′ u ≡ over a → Placed rows₀ rows′ t₀ (Whole m₀ n c k v rows₀ t₀) u × Steady m₀ m₁
+  pub trialling-over : (u : Tried) {a : Answer} → r ≡ u → nextOf rows′ u ≡ over a → Placing rows₀ rows′ t₀ (Whole m₀ n c k v rows₀ t₀) u × Steady m₀ m₁
   trialling-over u a b = (tries-over (meant m₀ n v) (tests m₀ n c) (windowsIn m₀ k) rows₀ t₀ (p .tries) (tried u a) b, steady-numbers m₀ m m₁ (p .steady) e)
 
   pub trialling-next : (m₂ : List ℕ) (u : Tally) → r ≡ Go u → Follows m₁ m₂ k true → length m₂ ≡ length m → length rows′ ≡ length rows → Trialling m₀ n c k v rows₀ t₀ m₂ rows′ u
@@ -102,16 +102,16 @@ module _ {m₀ : List ℕ} {n c k : ℕ} {v : Cell} {rows₀ : List ℤ} {t₀ :
     tries = tries-next (meant m₀ n v) (tests m₀ n c) (windowsIn m₀ k) rows₀ t₀ (p .tries) (tried (Go u) a) (settingIn m₂ k) (after-is m₀ m m₁ m₂ k few (p .steady) e f);
   }
 
-  pub trialling-last : (m₂ : List ℕ) (u : Tally) → r ≡ Go u → Follows m₁ m₂ k false → Placed rows₀ rows′ t₀ (Whole m₀ n c k v rows₀ t₀) (Go u) × Steady m₀ m₂
+  pub trialling-last : (m₂ : List ℕ) (u : Tally) → r ≡ Go u → Follows m₁ m₂ k false → Placing rows₀ rows′ t₀ (Whole m₀ n c k v rows₀ t₀) (Go u) × Steady m₀ m₂
   trialling-last m₂ u a f =
       (tries-last (meant m₀ n v) (tests m₀ n c) (windowsIn m₀ k) rows₀ t₀ (p .tries) (tried (Go u) a) (after-is m₀ m m₁ m₂ k few (p .steady) e f), goes-steady m₀ m m₁ m₂ k few (p .steady) e f)
 
 -- said of the memory before the first setting
-pub trialling-all : (m m₀ m₂ : List ℕ) (n c k : ℕ) (v : Cell) (rows rows′ : List ℤ) (t : Tally) (r : Tried) → k ≤ 8 → First m m₀ k → Placed rows rows′ t (Whole m₀ n c k v rows t) r × Steady m₀ m₂
-    → Placed rows rows′ t (Whole m n c k v rows t) r × Steady m m₂
+pub trialling-all : (m m₀ m₂ : List ℕ) (n c k : ℕ) (v : Cell) (rows rows′ : List ℤ) (t : Tally) (r : Tried) → k ≤ 8 → First m m₀ k → Placing rows rows′ t (Whole m₀ n c k v rows t) r × Steady m₀ m₂
+    → Placing rows rows′ t (Whole m n c k v rows t) r × Steady m m₂
 trialling-all m m₀ m₂ n c k v rows rows′ t r few f p =
     let s = first-steady m m₀ k few f in
-    (there m m₀ n c v s (λ w ts. Placed rows rows′ t (whole w ts (windowsIn m k) rows t) r) (subst (λ (ws : List Window). Placed rows rows′ t (whole (meant m₀ n v) (tests m₀ n c) ws rows t) r) (windows-steady m m₀ s k few) (p .0)), steady-more m m₀ m₂ s (p .1))
+    (there m m₀ n c v s (λ w ts. Placing rows rows′ t (whole w ts (windowsIn m k) rows t) r) (subst (λ (ws : List Window). Placing rows rows′ t (whole (meant m₀ n v) (tests m₀ n c) ws rows t) r) (windows-steady m m₀ s k few) (p .0)), steady-more m m₀ m₂ s (p .1))
 
 -- ---- at a cut
 

@@ -11,7 +11,7 @@ use lib.Seq.{getD-set-same, getD-set-other}
 use lib.IntN.{ℤ, pos}
 use Rattle.semantics.specs.Does.{frame}
 use Rattle.semantics.specs.Run.{Row, clamp}
-use Rattle.settings.specs.Rows.{wordsFrom, wordsOf, rowOf, rowAt, rowsIn, Written}
+use Rattle.settings.specs.Rows.{wordsFrom, wordsOf, rowWith, rowAt, rowsAt, Written}
 
 -- ---- words that stay
 
@@ -22,11 +22,11 @@ words-same rows rows′ i (suc n) h = ap₂ (λ (x : ℤ) (l : List ℤ). x ∷ 
 
 pub row-same : (rows rows′ : List ℤ) (i : ℕ) → ((j : ℕ) → 10 * i ≤ j → j < 10 * i + 10 → getD rows′ j (pos 0) ≡ getD rows j (pos 0)) → rowAt rows′ i ≡ rowAt rows i
 row-same rows rows′ i h =
-    ap₂ rowOf (h (10 * i) (omega arith) (omega arith))
+    ap₂ rowWith (h (10 * i) (omega arith) (omega arith))
     (ap₂ (λ (z : ℤ) (l : List ℤ). take (clamp z) l) (h (10 * i + 1) (omega arith) (omega arith)) (words-same rows rows′ (10 * i + 2) 8 (λ j l u. h j (omega arith) (omega arith))))
 
-pub rows-same : (rows rows′ : List ℤ) (n : ℕ) → ((j : ℕ) → j < 10 * n → getD rows′ j (pos 0) ≡ getD rows j (pos 0)) → rowsIn rows′ n ≡ rowsIn rows n
-unfolding rowsIn
+pub rows-same : (rows rows′ : List ℤ) (n : ℕ) → ((j : ℕ) → j < 10 * n → getD rows′ j (pos 0) ≡ getD rows j (pos 0)) → rowsAt rows′ n ≡ rowsAt rows n
+unfolding rowsAt
 rows-same rows rows′ zero h = refl
 rows-same rows rows′ (suc n) h = ap₂ (λ (l : List Row) (r : Row). l ++ r ∷ []) (rows-same rows rows′ n (λ j l. h j (omega arith))) (row-same rows rows′ n (λ j l u. h j (omega arith)))
 
@@ -66,15 +66,15 @@ words-list rows i (suc n) (x ∷ l) e h = ap₂ (λ (y : ℤ) (k : List ℤ). y 
     (words-list rows (suc i) n l (omega arith) (λ j g. ap (λ (k : ℕ). getD rows k (pos 0)) {x = suc i + j} {y = i + suc j} (omega arith) ∙ h (suc j) (omega arith)))
 
 -- each word of a row, by its place
-pub word-first : (z : ℤ) (s : List ℤ) (j : ℕ) → j ≡ 0 → z ≡ getD (wordsOf (rowOf z s)) j (pos 0)
-word-first z s j e = ap (λ (i : ℕ). getD (wordsOf (rowOf z s)) i (pos 0)) (sym e)
+pub word-first : (z : ℤ) (s : List ℤ) (j : ℕ) → j ≡ 0 → z ≡ getD (wordsOf (rowWith z s)) j (pos 0)
+word-first z s j e = ap (λ (i : ℕ). getD (wordsOf (rowWith z s)) i (pos 0)) (sym e)
 
-pub word-second : (z : ℤ) (s : List ℤ) (j k : ℕ) → j ≡ 1 → length s ≡ k → pos k ≡ getD (wordsOf (rowOf z s)) j (pos 0)
-word-second z s j k e h = ap pos (sym h) ∙ ap (λ (i : ℕ). getD (wordsOf (rowOf z s)) i (pos 0)) (sym e)
+pub word-second : (z : ℤ) (s : List ℤ) (j k : ℕ) → j ≡ 1 → length s ≡ k → pos k ≡ getD (wordsOf (rowWith z s)) j (pos 0)
+word-second z s j k e h = ap pos (sym h) ∙ ap (λ (i : ℕ). getD (wordsOf (rowWith z s)) i (pos 0)) (sym e)
 
-pub word-later : (z : ℤ) (s : List ℤ) (j : ℕ) → 2 ≤ j → j < 10 → getD s (j - 2) (pos 0) ≡ getD (wordsOf (rowOf z s)) j (pos 0)
+pub word-later : (z : ℤ) (s : List ℤ) (j : ℕ) → 2 ≤ j → j < 10 → getD s (j - 2) (pos 0) ≡ getD (wordsOf (rowWith z s)) j (pos 0)
 word-later z s j l h =
-    sym (frame-at 8 s (j - 2) (omega arith)) ∙ ap (λ (i : ℕ). getD (wordsOf (rowOf z s)) i (pos 0)) {x = suc (suc (j - 2))} {y = j} (omega arith)
+    sym (frame-at 8 s (j - 2) (omega arith)) ∙ ap (λ (i : ℕ). getD (wordsOf (rowWith z s)) i (pos 0)) {x = suc (suc (j - 2))} {y = j} (omega arith)
 
 -- ---- a row is written
 
@@ -104,20 +104,20 @@ module _ (rows rows′ : List ℤ) (n : ℕ) (r : Row) (few : length (r .values)
       (λ j l. ap (λ (k : ℕ). getD rows′ k (pos 0)) {x = 10 * n + 2 + j} {y = 10 * n + suc (suc j)} (omega arith) ∙ w .word (suc (suc j)) (omega arith))
 
   pub row-is : rowAt rows′ n ≡ r
-  row-is = ap₂ rowOf first (ap₂ (λ (z : ℤ) (l : List ℤ). take (clamp z) l) (w .word 1 (omega arith)) later ∙ counted (r .values) few)
+  row-is = ap₂ rowWith first (ap₂ (λ (z : ℤ) (l : List ℤ). take (clamp z) l) (w .word 1 (omega arith)) later ∙ counted (r .values) few)
 
   words-is : wordsFrom rows′ (10 * n) 10 ≡ wordsOf r
   words-is = words-list rows′ (10 * n) 10 (wordsOf r) (ap (λ (k : ℕ). suc (suc k)) (frame-length 8 (r .values))) (w .word)
 
-  rows-more : rowsIn rows′ (suc n) ≡ rowsIn rows n ++ r ∷ []
-  unfolding rowsIn
+  rows-more : rowsAt rows′ (suc n) ≡ rowsAt rows n ++ r ∷ []
+  unfolding rowsAt
   rows-more = ap₂ (λ (l : List Row) (x : Row). l ++ x ∷ []) (rows-same rows rows′ n (λ j l. w .other j (λ x y. omega arith))) row-is
 
   pub written : Written rows rows′ n r
   written = record {
     words = words-is;
     other = w .other;
-    is = subst (λ (k : ℕ). rowsIn rows′ k ≡ rowsIn rows n ++ r ∷ []) (sym (add-one n)) rows-more;
+    is = subst (λ (k : ℕ). rowsAt rows′ k ≡ rowsAt rows n ++ r ∷ []) (sym (add-one n)) rows-more;
   }
 
 -- a row that was written is read again
@@ -125,7 +125,7 @@ pub row-of : (rows rows′ : List ℤ) (n : ℕ) (r : Row) → length (r .values
 unfolding wordsFrom
 row-of rows rows′ n r few w =
     let q = w .words in
-    ap₂ rowOf (ap (λ (l : List ℤ). getD l 0 (pos 0)) q)
+    ap₂ rowWith (ap (λ (l : List ℤ). getD l 0 (pos 0)) q)
     (ap₂ (λ (z : ℤ) (l : List ℤ). take (clamp z) l)
     (ap (λ (j : ℕ). getD rows′ j (pos 0)) {x = 10 * n + 1} {y = suc (10 * n)} (omega arith) ∙ ap (λ (l : List ℤ). getD l 1 (pos 0)) q)
     (ap (λ (j : ℕ). wordsFrom rows′ j 8) {x = 10 * n + 2} {y = suc (suc (10 * n))} (omega arith) ∙ ap (drop 2) q)

@@ -16,17 +16,17 @@ wordsFrom rows i (suc n) = getD rows i (pos 0) ∷ wordsFrom rows (suc i) n
 abbrev pub wordsOf : Row → List ℤ
 wordsOf r = r .result ∷ pos (length (r .values)) ∷ frame (pos 0) 8 (r .values)
 
-abbrev pub rowOf : ℤ → List ℤ → Row
-rowOf z s = record { result = z; values = s }
+abbrev pub rowWith : ℤ → List ℤ → Row
+rowWith z s = record { result = z; values = s }
 
 -- row i: its result, and as many of its eight values as it counts
 abbrev pub rowAt : List ℤ → ℕ → Row
-rowAt rows i = rowOf (getD rows (10 * i) (pos 0)) (take (clamp (getD rows (10 * i + 1) (pos 0))) (wordsFrom rows (10 * i + 2) 8))
+rowAt rows i = rowWith (getD rows (10 * i) (pos 0)) (take (clamp (getD rows (10 * i + 1) (pos 0))) (wordsFrom rows (10 * i + 2) 8))
 
 -- the first n rows
-unfoldable pub rowsIn : List ℤ → ℕ → List Row
-rowsIn rows zero = []
-rowsIn rows (suc n) = rowsIn rows n ++ rowAt rows n ∷ []
+unfoldable pub rowsAt : List ℤ → ℕ → List Row
+rowsAt rows zero = []
+rowsAt rows (suc n) = rowsAt rows n ++ rowAt rows n ∷ []
 
 -- the slice that held `rows`, with these rows written into it from its start: "Words after the last row keep their content."
 abbrev pub sheet : List ℤ → List Row → List ℤ
@@ -36,4 +36,4 @@ sheet rows rs = each wordsOf rs ++ drop (10 * length rs) rows
 pub record Written (rows rows′ : List ℤ) (n : ℕ) (r : Row) : Type 0 where
   pub words : wordsFrom rows′ (10 * n) 10 ≡ wordsOf r
   pub other : (j : ℕ) → (10 * n ≤ j → j < 10 * n + 10 → ⊥) → getD rows′ j (pos 0) ≡ getD rows j (pos 0)
-  pub is : rowsIn rows′ (n + 1) ≡ rowsIn rows n ++ r ∷ []
+  pub is : rowsAt rows′ (n + 1) ≡ rowsAt rows n ++ r ∷ []

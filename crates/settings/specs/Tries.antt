@@ -10,14 +10,14 @@ use Rattle.simulation.specs.Nodes.{testOf}
 use Rattle.simulation.specs.Lister as lister
 use Rattle.simulation.specs.Lister.{Next, go, over, closed, tally}
 use Rattle.machine.specs.Memory.{nodesIn, testsIn}
-use Rattle.settings.specs.Rows.{rowsIn, rowAt, wordsFrom, wordsOf}
+use Rattle.settings.specs.Rows.{rowsAt, rowAt, wordsFrom, wordsOf}
 use Rattle.settings.specs.declared.Tally.{Tally}
 use Rattle.settings.specs.declared.Tried.{Tried}
 use Rattle.settings.specs.declared.Tried.the-variants.{Go, Full, Spent}
 
 -- what has been counted; the rows written are the first ones of the slice
 abbrev pub tallyOf : List ℤ → Tally → lister.Tally
-tallyOf rows t = tally (t .budget) (t .skip) (t .room) (rowsIn rows (t .written)) (t .moves) (t .cut)
+tallyOf rows t = tally (t .budget) (t .skip) (t .room) (rowsAt rows (t .written)) (t .moves) (t .cut)
 
 -- the search goes on, or is over: "full: a row past the skipped ones was found and has no place"; "spent: the budget was made and the search has not ended"
 abbrev pub nextOf : List ℤ → Tried → Next lister.Tally
@@ -73,12 +73,12 @@ pub record Rowed (rows rows′ : List ℤ) (n k : ℕ) : Type 0 where
   pub words : (i : ℕ) → n ≤ i → i < k → wordsFrom rows′ (10 * i) 10 ≡ wordsOf (rowAt rows′ i)
 
 -- what was done is d, with the rows rows; then they are rows′, and the answer is r
-pub record Placed (rows rows′ : List ℤ) (t : Tally) (d : Next lister.Tally) (r : Tried) : Type 0 where
+pub record Placing (rows rows′ : List ℤ) (t : Tally) (d : Next lister.Tally) (r : Tried) : Type 0 where
   pub is : nextOf rows′ r ≡ d
   pub counts : Counts t (tallyIn r)
   pub rowed : Rowed rows rows′ (t .written) (tallyIn r .written)
 
 -- the same, where a move was made, or the search is over
 pub record Trying (rows rows′ : List ℤ) (t : Tally) (d : Next lister.Tally) (r : Tried) : Type 0 where
-  pub placed : Placed rows rows′ t d r
+  pub placed : Placing rows rows′ t d r
   pub moved : Moved (t .budget) r

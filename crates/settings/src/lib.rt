@@ -12,8 +12,8 @@ ghost use Rattle.simulation.specs.Lister.{charge as chargeS, place as placeS, t
 ghost use Rattle.machine.specs.Memory.{cellAs, nodesIn, windowsIn, settingIn, numbersIn, testsIn};
 ghost use Rattle.machine.specs.Contracts.{Room, cellOf};
 ghost use Rattle.settings.specs.Table.{windowAt, valueAt, numberAt, holdsAt, Wrote, Numbered, Anew, First, Follows, Renumbered, Steady, Holding};
-ghost use Rattle.settings.specs.Rows.{wordsOf, rowOf, Written};
-ghost use Rattle.settings.specs.Tries.{tallyOf, spending, tests as testsS, Fair, Counted, Charged, Placed, Trying};
+ghost use Rattle.settings.specs.Rows.{wordsOf, rowWith, Written};
+ghost use Rattle.settings.specs.Tries.{tallyOf, spending, tests as testsS, Fair, Counted, Charged, Placing, Trying};
 use machine::Value;
 
 // What has been counted: the moves that the budget still allows, the rows still to be skipped, the places still free, the rows written, the moves made, and whether a cut run was found.
@@ -223,7 +223,7 @@ fn result(mem: &[u32], n: usize, v: Value) -> i32
 // Word j of the row that the present setting of k free variables gives with this result.
 fn row_word(result: i32, mem: &[u32], k: usize, j: usize) -> i32
     requires { ⌜ (k ≤ 8) × (1200 ≤ length (now mem)) × (j < 10) ⌝ }
-    ensures { λ r. ⌜ r ≡ getD (wordsOf (rowOf result (settingIn (now (mem .entry)) k))) j (pos 0) ⌝ }
+    ensures { λ r. ⌜ r ≡ getD (wordsOf (rowWith result (settingIn (now (mem .entry)) k))) j (pos 0) ⌝ }
 {
     if j == 0 {
         return result;
@@ -237,7 +237,7 @@ fn row_word(result: i32, mem: &[u32], k: usize, j: usize) -> i32
 // Writes a row after n others: the result, and the present setting of k free variables.
 fn write_row(rows: &mut [i32], n: usize, result: i32, mem: &[u32], k: usize)
     requires { ⌜ (k ≤ 8) × (1200 ≤ length (now mem)) × (10 * n + 10 ≤ length (now rows)) ⌝ }
-    ensures { λ _. ⌜ Written (now (rows .entry)) (now (rows .exit)) n (rowOf result (settingIn (now (mem .entry)) k)) ⌝ }
+    ensures { λ _. ⌜ Written (now (rows .entry)) (now (rows .exit)) n (rowWith result (settingIn (now (mem .entry)) k)) ⌝ }
 {
     let mut j: usize = 0;
     while j < 10 {
@@ -275,7 +275,7 @@ pub fn charge(t: Tally) -> Tried
 // A row found: it is skipped, or written, or has no place.
 fn place(rows: &mut [i32], t: Tally, result: i32, mem: &[u32], k: usize) -> Tried
     requires { ⌜ (k ≤ 8) × (1200 ≤ length (now mem)) × (10 * (t .written + t .room) ≤ length (now rows)) ⌝ }
-    ensures { λ r. ⌜ Placed (now (rows .entry)) (now (rows .exit)) t (placeS (rowOf result (settingIn (now (mem .entry)) k)) (tallyOf (now (rows .entry)) t)) r ⌝ }
+    ensures { λ r. ⌜ Placing (now (rows .entry)) (now (rows .exit)) t (placeS (rowWith result (settingIn (now (mem .entry)) k)) (tallyOf (now (rows .entry)) t)) r ⌝ }
 {
     if 0 < t.skip {
         return Tried::Go(Tally {
@@ -356,7 +356,7 @@ pub fn trials(
     rows: &mut [i32],
 ) -> Tried
     requires { ⌜ Holding (now mem) nodes tests k × Fair (length (now rows)) t ⌝ }
-    ensures { λ r. ⌜ Placed (now (rows .entry)) (now (rows .exit)) t (trialsS (meaning (nodesIn (now (mem .entry)) nodes) (cellOf v)) (testsS (now (mem .entry)) nodes tests) (settingsS (windowsIn (now (mem .entry)) k)) (tallyOf (now (rows .entry)) t)) r × Steady (now (mem .entry)) (now (mem .exit)) ⌝ }
+    ensures { λ r. ⌜ Placing (now (rows .entry)) (now (rows .exit)) t (trialsS (meaning (nodesIn (now (mem .entry)) nodes) (cellOf v)) (testsS (now (mem .entry)) nodes tests) (settingsS (windowsIn (now (mem .entry)) k)) (tallyOf (now (rows .entry)) t)) r × Steady (now (mem .entry)) (now (mem .exit)) ⌝ }
 {
     if !filled(mem, k) {
         return Tried::Go(t);

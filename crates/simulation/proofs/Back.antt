@@ -11,7 +11,7 @@ use Rattle.simulation.specs.Code.{Code}
 use Rattle.simulation.specs.Machine.{Machine, Doing, advance, start}
 use Rattle.simulation.specs.Path.{State, state, begins, outcome, later, holding, End, cut, Went, on, ended, stepped, siding, choosing, comparing, turning, turn}
 use Rattle.simulation.specs.Lister.{following, next}
-use Rattle.simulation.specs.Back.{standing, Passes, here, turned, Choice, TakenBack}
+use Rattle.simulation.specs.Back.{standing, Passes, here, turned, ChoiceAt, TakenBack}
 
 -- ---- the newest true choice
 
@@ -110,14 +110,14 @@ module _ (solver : Solver) (job : Window) (c : Code) where
     again : (q : List Bool) → turn solver job c m (forcing q s) .went ≡ on m₂ (forcing q s₂)
 
   record Chosen (m : Machine Value) (s : State) (m₂ : Machine Value) (s₂ : State) : Type 0 where
-    choice : Choice solver job c m s
+    choice : ChoiceAt solver job c m s
     chosen : s₂ .chosen ≡ s .chosen ++ outcome (s .forced) ∷ []
     forced : s₂ .forced ≡ later (s .forced)
     again : (q : List Bool) → turn solver job c m (forcing (outcome (s .forced) ∷ q) s) .went ≡ on m₂ (forcing q s₂)
 
   -- a path that ends at a choice, at a side that is closed
   record Closed (m : Machine Value) (s : State) (s₂ : State) : Type 0 where
-    choice : Choice solver job c m s
+    choice : ChoiceAt solver job c m s
     chosen : s₂ .chosen ≡ s .chosen ++ outcome (s .forced) ∷ []
 
   abbrev Shape : Machine Value → State → Went → Type 0
@@ -151,7 +151,7 @@ module _ (solver : Solver) (job : Window) (c : Code) where
       unfolding turning comparing
       test-chosen d q = by-doing _ e (ap (λ x. elim x as (λ x. Went) [ some r ↦ on (k r) (state l f ws ts q h) | none ↦ choosing solver job o a b k (state l f ws ts q h) (outcome q) ]) d)
 
-      choice-at : solver .decide o a b ws ≡ none → (p : List Bool) → Choice solver job c m (state (suc l) f ws ts p h)
+      choice-at : solver .decide o a b ws ≡ none → (p : List Bool) → ChoiceAt solver job c m (state (suc l) f ws ts p h)
       choice-at d p = record { compare = o; left = a; right = b; after = k; steps = l; works = e; within = refl; undecided = d }
 
       shape-side : solver .decide o a b ws ≡ none → (p : List Bool) (y : Option (List Window)) → solver .narrow (holding (outcome p) o) a b ws ≡ y
@@ -229,7 +229,7 @@ module _ (solver : Solver) (job : Window) (c : Code) where
     front : List Bool
     trace : Trace m s front machine state
     is : front ≡ g
-    choice : Choice solver job c machine state
+    choice : ChoiceAt solver job c machine state
     went : outcome (state .forced) ≡ o
 
   find : {m m₂ : Machine Value} {s s₂ : State} {d : List Bool} → Trace m s d m₂ s₂ → (g : List Bool) (o : Bool) → Inside d g o → Found m s g o
@@ -279,7 +279,7 @@ module _ (solver : Solver) (job : Window) (c : Code) where
         from : (w : Newest (s₂ .chosen) q) → Found (start known work c) (begins most p) (w .front) true → TakenBack solver job c most p q
         from w f = subst (TakenBack solver job c most p) (sym (w .flipped)) (back-to (w .front) f)
 
-        at-end : (t : Traced (start known work c) (begins most p) m s) (w : Newest (s₂ .chosen) q) → Choice solver job c m s
+        at-end : (t : Traced (start known work c) (begins most p) m s) (w : Newest (s₂ .chosen) q) → ChoiceAt solver job c m s
             → Either (Last (t .outcomes) (w .front) (outcome (s .forced)) true) (Inside (t .outcomes) (w .front) true) → Found (start known work c) (begins most p) (w .front) true
         at-end t w k (one l) = record { machine = m; state = s; passes = r; front = t .outcomes; trace = t .trace; is = sym (l .all); choice = k; went = l .is }
         at-end t w k (two i) = find (t .trace) (w .front) true i
@@ -290,14 +290,14 @@ module _ (solver : Solver) (job : Window) (c : Code) where
 
   -- ---- both sides go on from what stands there: only the outcome, the narrowed windows and the test made differ
 
-  side-at : (l f : ℕ) (ws : List Window) (ts : List Test) (p h : List Bool) (m : Machine Value) (k : Choice solver job c m (state l f ws ts p h))
+  side-at : (l f : ℕ) (ws : List Window) (ts : List Test) (p h : List Bool) (m : Machine Value) (k : ChoiceAt solver job c m (state l f ws ts p h))
       → turn solver job c m (state l f ws ts p h) .went ≡ siding (k .compare) (k .left) (k .right) (k .after (outcome p)) (state (k .steps) f ws ts p h) (outcome p) (solver .narrow (holding (outcome p) (k .compare)) (k .left) (k .right) ws)
   unfolding choosing
   side-at l f ws ts p h m k =
       ap (λ n. turn solver job c m (state n f ws ts p h) .went) (k .within)
       ∙ test-chosen m (k .steps) f ws ts h (k .compare) (k .left) (k .right) (k .after) (k .works) (k .undecided) p
 
-  pub both-sides : (m : Machine Value) (s : State) (k : Choice solver job c m s)
+  pub both-sides : (m : Machine Value) (s : State) (k : ChoiceAt solver job c m s)
       → turn solver job c m s .went
       ≡ siding (k .compare) (k .left) (k .right) (k .after (outcome (s .forced))) (stepped (k .steps) s) (outcome (s .forced)) (solver .narrow (holding (outcome (s .forced)) (k .compare)) (k .left) (k .right) (s .windows))
   both-sides m s k = side-at (s .steps) (s .frees) (s .windows) (s .tests) (s .forced) (s .chosen) m k
@@ -305,7 +305,7 @@ module _ (solver : Solver) (job : Window) (c : Code) where
   -- ---- what stands at a choice depends on the outcomes before it alone
 
   -- at a choice that is forced, whatever else is forced
-  forced-choice : (m : Machine Value) (s : State) → Choice solver job c m s → (q : List Bool) → Choice solver job c m (forcing q s)
+  forced-choice : (m : Machine Value) (s : State) → ChoiceAt solver job c m s → (q : List Bool) → ChoiceAt solver job c m (forcing q s)
   forced-choice m s k q = record { compare = k .compare; left = k .left; right = k .right; after = k .after; steps = k .steps; works = k .works; within = k .within; undecided = k .undecided }
 
   -- of two points of one path, one comes first
@@ -337,18 +337,18 @@ module _ (solver : Solver) (job : Window) (c : Code) where
   siding-without o a b m s r none h = tt
   siding-without o a b m s r (some us) h = h
 
-  choice-without : (m : Machine Value) (s : State) → Choice solver job c m s → later (s .forced) ≡ [] → Without (turn solver job c m s .went)
+  choice-without : (m : Machine Value) (s : State) → ChoiceAt solver job c m s → later (s .forced) ≡ [] → Without (turn solver job c m s .went)
   choice-without m s k h =
       let o = outcome (s .forced) in
       subst Without (sym (both-sides m s k)) (siding-without (k .compare) (k .left) (k .right) (k .after o) (stepped (k .steps) s) o (solver .narrow (holding o (k .compare)) (k .left) (k .right) (s .windows)) h)
 
   -- where one outcome is left to force, and it is forced at a choice here, then no point after this one has it left
-  only-here : {m m₂ : Machine Value} {s s₂ : State} → Passes solver job c m s m₂ s₂ → Choice solver job c m s → later (s .forced) ≡ [] → Some (s₂ .forced) → standing m s ≡ standing m₂ s₂
+  only-here : {m m₂ : Machine Value} {s s₂ : State} → Passes solver job c m s m₂ s₂ → ChoiceAt solver job c m s → later (s .forced) ≡ [] → Some (s₂ .forced) → standing m s ≡ standing m₂ s₂
   only-here here k h g = refl
   only-here (turned {m} {s = s} e p) k h g = absurd (subst Some (trace-none (traced p .trace) (subst Without e (choice-without m s k h))) g)
 
-  pub same-choice : (most : ℕ) (p₁ p₂ : List Bool) (m₁ m₂ : Machine Value) (s₁ s₂ : State) → Passes solver job c (start known work c) (begins most p₁) m₁ s₁ → Choice solver job c m₁ s₁
-      → Passes solver job c (start known work c) (begins most p₂) m₂ s₂ → Choice solver job c m₂ s₂ → s₁ .chosen ≡ s₂ .chosen → standing m₁ s₁ ≡ standing m₂ s₂
+  pub same-choice : (most : ℕ) (p₁ p₂ : List Bool) (m₁ m₂ : Machine Value) (s₁ s₂ : State) → Passes solver job c (start known work c) (begins most p₁) m₁ s₁ → ChoiceAt solver job c m₁ s₁
+      → Passes solver job c (start known work c) (begins most p₂) m₂ s₂ → ChoiceAt solver job c m₂ s₂ → s₁ .chosen ≡ s₂ .chosen → standing m₁ s₁ ≡ standing m₂ s₂
   same-choice most p₁ p₂ m₁ m₂ s₁ s₂ r₁ k₁ r₂ k₂ e = by (in-line (again p₁ m₁ s₁ r₁) (subst (λ h. Passes solver job c (start known work c) (begins most (h ++ true ∷ [])) m₂ (forcing (true ∷ []) s₂)) (sym e) (again p₂ m₂ s₂ r₂)))
     where
       again : (p : List Bool) (m : Machine Value) (s : State) → Passes solver job c (start known work c) (begins most p) m s → Passes solver job c (start known work c) (begins most (s .chosen ++ true ∷ [])) m (forcing (true ∷ []) s)

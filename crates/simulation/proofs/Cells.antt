@@ -59,7 +59,7 @@ module _ (ns ks : List Node) (keeps : Keeps ns ks) where
 
   keeps-tests : (ts : List Noted) → TestsWithin (length ns) ts → map (testOf ks) ts ≡ map (testOf ns) ts
   keeps-tests [] h = refl
-  keeps-tests (t ∷ ts) h = ap₂ _∷_ (ap₂ (search.made (t .compare)) (keeps (t .left) (h .0)) (keeps (t .right) (h .1))) (keeps-tests ts (h .2))
+  keeps-tests (t ∷ ts) h = ap₂ _∷_ (ap₂ (search.asTest (t .compare)) (keeps (t .left) (h .0)) (keeps (t .right) (h .1))) (keeps-tests ts (h .2))
 
 -- ---- an entry on cells, and on what they stand for
 

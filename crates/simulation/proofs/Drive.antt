@@ -12,7 +12,7 @@ use Rattle.semantics.specs.Program.{Program}
 use Rattle.semantics.specs.Does.{Does, does, within}
 use Rattle.semantics.specs.Run.{Window}
 use Rattle.semantics.specs.Search as search
-use Rattle.semantics.specs.Search.{Value, known, unknown, work, Solver, Test, settings, Move, plain, tried, probed, made, paths}
+use Rattle.semantics.specs.Search.{Value, known, unknown, work, Solver, Test, settings, Move, plain, tried, probed, asTest, paths}
 use Rattle.simulation.specs.Code.{Code, codeOf}
 use Rattle.simulation.specs.Machine.{Machine, Doing, advance, start}
 use Rattle.simulation.specs.Path.{holding, outcome, later, State, state, begins, End, returned, failed, cut, Went, on, ended, Turn, fresh, counted, still, siding, choosing, stepped, reached, comparing, turning, turn}
@@ -96,7 +96,7 @@ module _ (solver : Solver) (job : Window) (c : Code) where
 
   -- a comparison, after its step
   goes-side : (x : Option (List Window)) (o : Bool) (q : Cmp) (a b : Value) (l f : ℕ) (ws : List Window) (ts : List Test) (p h : List Bool) (m : Machine Value) (t : Does Value) → Runs known work c l m t
-      → GoesOn (behind h (taking o (sided x (λ us. route solver job t l f us (made (holding o q) a b ∷ ts) (later p))))) (siding q a b m (state l f ws ts p h) o x)
+      → GoesOn (behind h (taking o (sided x (λ us. route solver job t l f us (asTest (holding o q) a b ∷ ts) (later p))))) (siding q a b m (state l f ws ts p h) o x)
   unfolding last
   goes-side none o q a b l f ws ts p h m t d = refl
   goes-side (some us) o q a b l f ws ts p h m t d = record { tree = t; does = d; same = route-eq (append-assoc h (o ∷ []) _) }
@@ -105,7 +105,7 @@ module _ (solver : Solver) (job : Window) (c : Code) where
       → ((o : Bool) → Runs known work c l (j o) (k o))
       → GoesOn (behind h (elim x as (λ x. Route) [
         | some o ↦ route solver job (k o) l f ws ts p
-        | none ↦ taking (outcome p) (sided (solver .narrow (holding (outcome p) q) a b ws) (λ us. route solver job (k (outcome p)) l f us (made (holding (outcome p) q) a b ∷ ts) (later p)))
+        | none ↦ taking (outcome p) (sided (solver .narrow (holding (outcome p) q) a b ws) (λ us. route solver job (k (outcome p)) l f us (asTest (holding (outcome p) q) a b ∷ ts) (later p)))
       ])) (elim x as (λ x. Went) [ some o ↦ on (j o) (state l f ws ts p h) | none ↦ choosing solver job q a b j (state l f ws ts p h) (outcome p) ])
   unfolding choosing
   goes-choice (some o) q a b l f ws ts p h j k d = record { tree = k o; does = d o; same = refl }

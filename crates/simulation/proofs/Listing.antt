@@ -11,7 +11,7 @@ use Rattle.semantics.specs.Program.{Program}
 use Rattle.semantics.specs.Does.{does, within}
 use Rattle.semantics.specs.Run.{Window, Row, Job}
 use Rattle.semantics.specs.Search as search
-use Rattle.semantics.specs.Search.{Value, known, work, under, Solver, Test, meets, settings, Kind, missed, Move, plain, found, tried, probed, Paths, paths, moves, settled, Close, Answer, answer, listed}
+use Rattle.semantics.specs.Search.{Value, known, work, under, Solver, Test, meets, settings, Kind, missed, Move, plain, found, tried, probed, Paths, paths, moves, probedOnce, Close, Answer, answer, listed}
 use Rattle.simulation.specs.Code.{Code, codeOf}
 use Rattle.simulation.specs.Machine.{Machine, start}
 use Rattle.simulation.specs.Path.{State, begins, End, returned, failed, cut, Went, on, ended, turn}
@@ -29,7 +29,7 @@ onto t a = record { rows = t .rows ++ a .rows; moves = t .moves + a .moves; clos
 
 -- what is answered where these moves are ahead
 abbrev pub outlook : Tally → List Move → Answer
-outlook t ms = onto t (answer (closing (t .cut)) (settled (t .cut) ms) (t .skip) (t .room) (t .budget))
+outlook t ms = onto t (answer (closing (t .cut)) (probedOnce (t .cut) ms) (t .skip) (t .room) (t .budget))
 
 -- the answer is a, where the moves ms are ahead of what goes on
 abbrev pub Gives : Answer → List Move → Next Tally → Type 0
@@ -52,7 +52,7 @@ module _ (a : Answer) where
   -- ---- a move
 
   charge-at : (k : Kind) (b s r : ℕ) (rs : List Row) (n : ℕ) (h : Bool) (ms : List Move) → outlook (tally b s r rs n h) (plain k ∷ ms) ≡ a → Gives a ms (charge (tally b s r rs n h))
-  unfolding charge answer settled
+  unfolding charge answer probedOnce
   charge-at k zero s r rs n h ms e = answer-eq (sym (append-nil rs)) (omega arith) ∙ e
   charge-at k (suc b) s r rs n h ms e = answer-eq refl (omega arith) ∙ e
 
@@ -62,7 +62,7 @@ module _ (a : Answer) where
   -- ---- settings tried at a return
 
   place-at : (x : Row) (b s r : ℕ) (rs : List Row) (n : ℕ) (h : Bool) (ms : List Move) → outlook (tally b s r rs n h) (found x ∷ ms) ≡ a → Gives a ms (then (charge (tally b s r rs n h)) (place x))
-  unfolding charge place answer settled
+  unfolding charge place answer probedOnce
   place-at x zero s r rs n h ms e = answer-eq (sym (append-nil rs)) (omega arith) ∙ e
   place-at x (suc b) (suc s) r rs n h ms e = answer-eq refl (omega arith) ∙ e
   place-at x (suc b) zero zero rs n h ms e = answer-eq (sym (append-nil rs)) (omega arith) ∙ e
@@ -86,18 +86,18 @@ module _ (a : Answer) where
   -- ---- settings tried at a cut
 
   -- once a cut run was found, no probe is a move
-  settled-true : (ts : List Test) (ss : List (List ℤ)) (ms : List Move) → settled true (probed ts ss ++ ms) ≡ settled true ms
-  unfolding settled probed
+  settled-true : (ts : List Test) (ss : List (List ℤ)) (ms : List Move) → probedOnce true (probed ts ss ++ ms) ≡ probedOnce true ms
+  unfolding probedOnce probed
   settled-true ts [] ms = refl
   settled-true ts (s ∷ ss) ms = by (meets ts s) (settled-true ts ss ms)
     where
-      by : (o : Bool) → settled true (probed ts ss ++ ms) ≡ settled true ms → settled true (cond o (search.probe true ∷ []) (search.probe false ∷ probed ts ss) ++ ms) ≡ settled true ms
+      by : (o : Bool) → probedOnce true (probed ts ss ++ ms) ≡ probedOnce true ms → probedOnce true (cond o (search.probe true ∷ []) (search.probe false ∷ probed ts ss) ++ ms) ≡ probedOnce true ms
       by true h = refl
       by false h = h
 
-  probe-at : (o : Bool) (b s r : ℕ) (rs : List Row) (n : ℕ) (ms ns : List Move) → outlook (tally b s r rs n false) (search.probe o ∷ ms) ≡ a → settled o ms ≡ settled o ns
+  probe-at : (o : Bool) (b s r : ℕ) (rs : List Row) (n : ℕ) (ms ns : List Move) → outlook (tally b s r rs n false) (search.probe o ∷ ms) ≡ a → probedOnce o ms ≡ probedOnce o ns
       → Gives a ns (then (charge (tally b s r rs n false)) λ u. go (tally (u .budget) (u .skip) (u .room) (u .rows) (u .moves) o))
-  unfolding charge answer settled
+  unfolding charge answer probedOnce
   probe-at o zero s r rs n ms ns e q = answer-eq (sym (append-nil rs)) (omega arith) ∙ e
   probe-at true (suc b) s r rs n ms ns e q = ap (λ l. onto (tally b s r rs (suc n) true) (answer (closing true) l s r b)) (sym q) ∙ answer-eq refl (omega arith) ∙ e
   probe-at false (suc b) s r rs n ms ns e q = ap (λ l. onto (tally b s r rs (suc n) false) (answer (closing false) l s r b)) (sym q) ∙ answer-eq refl (omega arith) ∙ e
@@ -172,7 +172,7 @@ module _ (a : Answer) where
 
     back-at : (x : Option (List Bool)) (t : Tally) → HasSome tree x → outlook t (onwards tree x) ≡ a
         → OpensNext (elim x as (λ x. Next Start) [ none ↦ over (closed (closing (t .cut)) t) | some q ↦ then (charge t) λ u. go (record { forced = q; tally = u }) ])
-    unfolding answer settled
+    unfolding answer probedOnce
     back-at none t h e = answer-eq (sym (append-nil (t .rows))) (omega arith) ∙ e
     back-at (some q) t h e = charged (charge t) (charge-ok search.back t (ahead tree q) e)
       where

@@ -7,7 +7,7 @@ use mathlib.Core.List.{List, [], _∷_, _++_}
 use lib.ListN.{length}
 use Rattle.semantics.specs.Does.{Does, returned, failed, cut, step, free, test, within}
 use Rattle.semantics.specs.Run.{Window}
-use Rattle.semantics.specs.Search.{Value, unknown, Solver, Test, settings, Move, plain, stepped, tried, probed, Paths, leaf, onward, fork, made, side, paths}
+use Rattle.semantics.specs.Search.{Value, unknown, Solver, Test, settings, Move, plain, stepped, tried, probed, Paths, leaf, onward, fork, asTest, side, paths}
 use Rattle.simulation.specs.Path.{holding, outcome, later}
 use Rattle.simulation.proofs.Replay.{Has, path-moves, truths, replayed, chosen}
 
@@ -43,7 +43,7 @@ module _ (solver : Solver) (job : Window) where
   route (free k) (suc l) (suc f) ws ts p = stepping p (route (k (unknown (length ws))) l f (ws ++ job ∷ []) ts p)
   route (test c a b k) l f ws ts p = elim (solver .decide c a b ws) [
     | some o ↦ route (k o) l f ws ts p
-    | none ↦ taking (outcome p) (sided (solver .narrow (holding (outcome p) c) a b ws) (λ us. route (k (outcome p)) l f us (made (holding (outcome p) c) a b ∷ ts) (later p)))
+    | none ↦ taking (outcome p) (sided (solver .narrow (holding (outcome p) c) a b ws) (λ us. route (k (outcome p)) l f us (asTest (holding (outcome p) c) a b ∷ ts) (later p)))
   ]
 
 -- ---- the route is the search's
@@ -93,9 +93,9 @@ module _ (solver : Solver) (job : Window) where
   route-of (free k) (suc l) (suc f) ws ts p h = ap (stepping p) (route-of (k (unknown (length ws))) l f (ws ++ job ∷ []) ts p (has-step _ p h)) ∙ of-step _ p
   route-of (test c a b k) l f ws ts p h =
       of-test (solver .decide c a b ws) p (λ o. route solver job (k o) l f ws ts p) (λ o. paths solver job (within l f (k o)) ws ts)
-      (λ o q. sided (solver .narrow (holding o c) a b ws) (λ us. route solver job (k o) l f us (made (holding o c) a b ∷ ts) q))
-      (λ o. side (solver .narrow (holding o c) a b ws) (λ us. paths solver job (within l f (k o)) us (made (holding o c) a b ∷ ts)))
+      (λ o q. sided (solver .narrow (holding o c) a b ws) (λ us. route solver job (k o) l f us (asTest (holding o c) a b ∷ ts) q))
+      (λ o. side (solver .narrow (holding o c) a b ws) (λ us. paths solver job (within l f (k o)) us (asTest (holding o c) a b ∷ ts)))
       (λ o. route-of (k o) l f ws ts p)
-      (λ o q. of-side (solver .narrow (holding o c) a b ws) q (λ us. route solver job (k o) l f us (made (holding o c) a b ∷ ts) q) (λ us. paths solver job (within l f (k o)) us (made (holding o c) a b ∷ ts))
-      (λ us. route-of (k o) l f us (made (holding o c) a b ∷ ts) q))
+      (λ o q. of-side (solver .narrow (holding o c) a b ws) q (λ us. route solver job (k o) l f us (asTest (holding o c) a b ∷ ts) q) (λ us. paths solver job (within l f (k o)) us (asTest (holding o c) a b ∷ ts))
+      (λ us. route-of (k o) l f us (asTest (holding o c) a b ∷ ts) q))
       h

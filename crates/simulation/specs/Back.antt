@@ -41,7 +41,7 @@ module _ (solver : Solver) (job : Window) (c : Code) where
     turned : {m m₂ m₃ : Machine Value} {s s₂ s₃ : State} → turn solver job c m s .went ≡ on m₂ s₂ → Passes m₂ s₂ m₃ s₃ → Passes m s m₃ s₃
 
   -- a choice stands at this point: a comparison within the limits that is not decided
-  pub record Choice (m : Machine Value) (s : State) : Type 0 where
+  pub record ChoiceAt (m : Machine Value) (s : State) : Type 0 where
     pub compare : Cmp
     pub left : Value
     pub right : Value
@@ -58,7 +58,7 @@ module _ (solver : Solver) (job : Window) (c : Code) where
     pub machine : Machine Value
     pub state : State
     pub made : Passes (start known work c) (begins most p) machine state
-    pub choice : Choice machine state
+    pub choice : ChoiceAt machine state
     pub went : outcome (state .forced) ≡ true
     -- the outcomes before it stay, and it goes false
     pub place : q ≡ state .chosen ++ false ∷ []

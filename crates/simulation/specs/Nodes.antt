@@ -8,7 +8,7 @@ use lib.IntN.{ℤ, pos}
 use Rattle.semantics.specs.Int.{Op, Cmp, arith, eqZ, holds}
 use Rattle.semantics.specs.Run.{Window}
 use Rattle.semantics.specs.Search as search
-use Rattle.semantics.specs.Search.{Value, known, open′, Test, made, to, all32, span, fitted, decided, clip, mirrored}
+use Rattle.semantics.specs.Search.{Value, known, open′, Test, asTest, to, all32, span, fitted, decided, clip, mirrored}
 
 -- "A value is known, or open with the expression it stands for": as it is held, a number or the place of a node
 pub data Cell : Type 0 where
@@ -92,7 +92,7 @@ pub record Noted : Type 0 where
   pub right : Cell
 
 abbrev pub testOf : List Node → Noted → Test
-testOf ns t = made (t .compare) (meaning ns (t .left)) (meaning ns (t .right))
+testOf ns t = asTest (t .compare) (meaning ns (t .left)) (meaning ns (t .right))
 
 -- whether a setting meets the tests, from what the nodes are under it
 unfoldable pub meetsIn : List ℤ → List Noted → Bool

@@ -7,7 +7,7 @@ use mathlib.Core.List.{List, [], _∷_, _++_}
 use lib.ListN.{length}
 use Rattle.semantics.specs.Int.{Cmp}
 use Rattle.semantics.specs.Run.{Window}
-use Rattle.semantics.specs.Search.{Value, known, unknown, work, negated, Solver, Test, made}
+use Rattle.semantics.specs.Search.{Value, known, unknown, work, negated, Solver, Test, asTest}
 use Rattle.simulation.specs.Code.{Code}
 use Rattle.simulation.specs.Machine.{Machine, Doing, advance}
 
@@ -83,7 +83,7 @@ reached job l f s = state l f (s .windows ++ job ∷ []) (s .tests) (s .forced) 
 
 -- a choice made with the outcome o, after which the windows are ws: the test is noted
 abbrev pub chose : Cmp → Value → Value → Bool → List Window → State → State
-chose c a b o ws s = state (s .steps) (s .frees) ws (made (holding o c) a b ∷ s .tests) (later (s .forced)) (s .chosen ++ o ∷ [])
+chose c a b o ws s = state (s .steps) (s .frees) ws (asTest (holding o c) a b ∷ s .tests) (later (s .forced)) (s .chosen ++ o ∷ [])
 
 -- a choice that goes to the side o, where the windows narrow to these; a side that the solver closes goes on as after a `fail`
 abbrev pub siding : Cmp → Value → Value → Machine Value → State → Bool → Option (List Window) → Went

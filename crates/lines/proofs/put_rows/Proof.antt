@@ -3,7 +3,7 @@ use native.Mathlib.Omega.{arith}
 use mathlib.Core.Path.{_≡_, refl, sym, _∙_, ap}
 use lib.ListN.{length, drop}
 use Rattle.lines.specs.Print.{rowLines}
-use Rattle.lines.specs.Written.{Put, rowsOf}
+use Rattle.lines.specs.Written.{Put, rowsFrom}
 use Rattle.lines.proofs.Puts.{and-then, put-as, put-length, put-none}
 use Rattle.lines.proofs.Lines.{rows-more}
 use Rattle.lines.proofs.put_rows.Statement.{statement}
@@ -13,13 +13,13 @@ use Rattle.lines.proofs.put_rows.Lts as lts
 use Rattle.lines.proofs.put_row.Reads as put-row-reads
 
 abbrev Inv-loop : tie.InvT-loop
-Inv-loop out₀ at rows from n p₀ k₀ out p k = (k ≤ n) × Put out₀ at (rowLines (rowsOf k (drop (10 * from) rows))) out p × (p ≤ at + 110 * k)
+Inv-loop out₀ at rows from n p₀ k₀ out p k = (k ≤ n) × Put out₀ at (rowLines (rowsFrom k (drop (10 * from) rows))) out p × (p ≤ at + 110 * k)
 
 abbrev μ-loop : tie.MeasureT-loop
 μ-loop out₀ at rows from n p₀ k₀ out p k = n - k
 
 loop-holds : tie.Need-loop-holds Inv-loop μ-loop
-unfolding rowLines rowsOf
+unfolding rowLines rowsFrom
 loop-holds c = (omega arith, put-none (c .before .args .out .now) (c .before .args .at), omega arith)
 
 add-put-row : tie.Need-add-put-row Inv-loop μ-loop
@@ -46,7 +46,7 @@ same-length c = put-length (c .before .loop .inv .1)
 returns : tie.Need-returns Inv-loop μ-loop
 returns c =
     let e : c .before .loop .k ≡ c .before .before .before .args .n = omega (arith, c .before .loop .inv .0, c .loop-test .left) in
-    (put-as (ap (λ (i : ℕ). rowLines (rowsOf i (drop (10 * c .before .before .before .args .from) (c .before .before .before .args .rows .now)))) e) (c .before .loop .inv .1), omega (arith, c .before .loop .inv .2))
+    (put-as (ap (λ (i : ℕ). rowLines (rowsFrom i (drop (10 * c .before .before .before .args .from) (c .before .before .before .args .rows .now)))) e) (c .before .loop .inv .1), omega (arith, c .before .loop .inv .2))
 
 pub put-rows-spec : {M : Type 1} → statement M
 put-rows-spec =

@@ -6,7 +6,7 @@ use Rattle.semantics.specs.Search.{to, decided, clipped}
 use Rattle.ints.specs.Numbers.{comparison}
 use Rattle.narrowing.specs.declared.Side.{Side}
 use Rattle.intervals.specs.Meaning.{ofPairs}
-use Rattle.narrowing.specs.Meaning.{rangeOf, variableOf, Placed}
+use Rattle.narrowing.specs.Meaning.{rangeOf, variableOf, AmongEight}
 use Rattle.narrowing.proofs.Sides.{placed, free-clipped, other-clipped}
 use Rattle.narrowing.proofs.narrow_side.Statement.{statement}
 use Rattle.narrowing.proofs.narrow_side.Tie as tie
@@ -19,7 +19,7 @@ narrow-at-requires c κs =
     let s = c .before .before .before in
     let a = s .args in
     let e = c .before .s .given .1 in (
-      placed (subst Placed e (s .pre .0)),
+      placed (subst AmongEight e (s .pre .0)),
       rw (toZ-ofZ (s .fits .k)) (subst (λ (t : Side). decided (comparison (a .c)) (rangeOf (ofPairs (a .ws)) t) (to (a .k) (a .k)) ≡ none) e (s .pre .1)),
     )
 

@@ -1,7 +1,7 @@
 use mathlib.Core.Path.{sym, ap, _∙_, subst}
 use borrow.Author.Needs.{needs}
 use Rattle.intervals.specs.Meaning.{ofPairs}
-use Rattle.narrowing.specs.Meaning.{rangeOf, Placed}
+use Rattle.narrowing.specs.Meaning.{rangeOf, AmongEight}
 use Rattle.narrowing.proofs.Sides.{placed}
 use Rattle.narrowing.proofs.range_of.Statement.{statement}
 use Rattle.narrowing.proofs.range_of.Tie as tie
@@ -10,7 +10,7 @@ enum-known-s : tie.Need-enum-known-s
 enum-known-s c = search needs
 
 window-at-requires : tie.Need-window-at-requires
-window-at-requires c κs = placed (subst Placed (c .before .s .given .1) (c .before .before .before .pre))
+window-at-requires c κs = placed (subst AmongEight (c .before .s .given .1) (c .before .before .before .pre))
 
 enum-known-s-2 : tie.Need-enum-known-s-2
 enum-known-s-2 c = search needs

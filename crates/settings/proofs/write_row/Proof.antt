@@ -7,14 +7,14 @@ use mir.Syntax.{w32}
 use mir.Val.{toZ, ofZ}
 use mir.Facts.{toZ-ofZ}
 use Rattle.machine.specs.Memory.{settingIn}
-use Rattle.settings.specs.Rows.{rowOf}
+use Rattle.settings.specs.Rows.{rowWith}
 use Rattle.settings.proofs.Entries.{setting-length}
 use Rattle.settings.proofs.Sheet.{Wording, wording-none, wording-more, written}
 use Rattle.settings.proofs.write_row.Statement.{statement}
 use Rattle.settings.proofs.write_row.Tie as tie
 
 abbrev Inv-loop : tie.InvT-loop
-Inv-loop rows₀ n result mem k j₀ rows j = (j ≤ 10) × (length rows ≡ length rows₀) × Wording rows₀ rows n j (rowOf (toZ w32 result) (settingIn mem k))
+Inv-loop rows₀ n result mem k j₀ rows j = (j ≤ 10) × (length rows ≡ length rows₀) × Wording rows₀ rows n j (rowWith (toZ w32 result) (settingIn mem k))
 
 abbrev μ-loop : tie.MeasureT-loop
 μ-loop rows₀ n result mem k j₀ rows j = 10 - j
@@ -47,7 +47,7 @@ loop-again : tie.Need-loop-again Inv-loop μ-loop
 loop-again c =
     let s = c .before .before .before .before .args in
     let l = c .before .before .loop in
-    (omega arith, simp length-set (l .inv .1), wording-more (s .rows .now) (l .rows) (s .n) (l .j) (rowOf (toZ w32 (ofZ w32 (s .result))) (settingIn (s .mem .now) (s .k))) (toZ w32 (ofZ w32 (c .row-word .result))) (c .before .loop-test .taken) (omega (arith, l .inv .1, c .before .before .before .before .pre .2)) (toZ-ofZ (record { sfits = c .row-word .ok }) ∙ c .row-word .ensures) (l .inv .2))
+    (omega arith, simp length-set (l .inv .1), wording-more (s .rows .now) (l .rows) (s .n) (l .j) (rowWith (toZ w32 (ofZ w32 (s .result))) (settingIn (s .mem .now) (s .k))) (toZ w32 (ofZ w32 (c .row-word .result))) (c .before .loop-test .taken) (omega (arith, l .inv .1, c .before .before .before .before .pre .2)) (toZ-ofZ (record { sfits = c .row-word .ok }) ∙ c .row-word .ensures) (l .inv .2))
 
 same-length : tie.Need-same-length Inv-loop μ-loop
 same-length c = c .before .loop .inv .1
@@ -55,9 +55,9 @@ same-length c = c .before .loop .inv .1
 returns : tie.Need-returns Inv-loop μ-loop
 returns c =
     let s = c .before .before .before .args in
-    written (s .rows .now) (c .before .loop .rows) (s .n) (rowOf (s .result) (settingIn (s .mem .now) (s .k))) (omega (arith, setting-length (s .mem .now) (s .k), c .before .before .before .pre .0))
-    (subst (λ (z : ℤ). Wording (s .rows .now) (c .before .loop .rows) (s .n) 10 (rowOf z (settingIn (s .mem .now) (s .k)))) (toZ-ofZ (c .before .before .before .fits .result))
-    (subst (λ (j : ℕ). Wording (s .rows .now) (c .before .loop .rows) (s .n) j (rowOf (toZ w32 (ofZ w32 (s .result))) (settingIn (s .mem .now) (s .k)))) (omega arith) (c .before .loop .inv .2)))
+    written (s .rows .now) (c .before .loop .rows) (s .n) (rowWith (s .result) (settingIn (s .mem .now) (s .k))) (omega (arith, setting-length (s .mem .now) (s .k), c .before .before .before .pre .0))
+    (subst (λ (z : ℤ). Wording (s .rows .now) (c .before .loop .rows) (s .n) 10 (rowWith z (settingIn (s .mem .now) (s .k)))) (toZ-ofZ (c .before .before .before .fits .result))
+    (subst (λ (j : ℕ). Wording (s .rows .now) (c .before .loop .rows) (s .n) j (rowWith (toZ w32 (ofZ w32 (s .result))) (settingIn (s .mem .now) (s .k)))) (omega arith) (c .before .loop .inv .2)))
 
 pub write-row-spec : {M : Type 1} → statement M
 write-row-spec =
