@@ -9,11 +9,10 @@ ghost use Rattle.syntax.specs.Ast.{prog};
 ghost use Rattle.events.specs.Walk.{Rooted};
 ghost use Rattle.compiler.specs.Compile.{Ready, Compiled};
 ghost use Rattle.compiler.specs.Pass.{operationOf, Functions, Emitted, Aimed, Room, Written, RoomP, Built};
+use code::entry;
 use events::arity;
 use syntax::fetch;
 use syntax::kind;
-
-pub mod entry;
 
 fn wide(x: u32) -> usize
     ensures { λ r. ⌜ (r ≡ x) × (r < 4294967296) ⌝ }
