@@ -12,8 +12,8 @@ use Rattle.checker.specs.Check.{Verdict, checked}
 use Rattle.checker.proofs.Small as W
 use Rattle.checker.proofs.Small.{Within, checked-low}
 use Rattle.semantics.specs.Search as S
-use Rattle.semantics.specs.Search.{Close, Move, plain, found, probe, byRanges}
-use Rattle.list.specs.List.{jobOf, Answer, refused, listed, ground, answering, list}
+use Rattle.semantics.specs.Search.{Close, Move, plain, found, probe, inUse}
+use Rattle.list.specs.List.{jobOf, Answer, refused, listed, ground, answering, places, list}
 
 abbrev pub Small : ℕ → Answer → Type 0
 Small budget (refused n p) = p ≤ 2048
@@ -34,10 +34,10 @@ pub small-answer : (text : List ℕ) (low high : ℤ) (steps skip budget : ℕ) 
 unfolding list S.listed
 small-answer text low high steps skip budget rows scratch = go (ground (length scratch) low high steps) (checked text) (checked-low text)
   where
-    go : (g : Option ℕ) (v : Verdict) → Within 2048 v → Small budget (answering text low high steps skip budget rows scratch g v .answer)
+    go : (g : Option ℕ) (v : Verdict) → Within 2048 v → Small budget (answering rows scratch (S.listed inUse (jobOf text low high steps) skip (places rows) budget) g v .answer)
     go (some n) v w = omega arith
     go none (C.refused n p) w = place w
       where
         place : Within 2048 (C.refused n p) → p ≤ 2048
         place (W.low h) = h
-    go none C.accepted w = rows-few S.whole (S.search byRanges (jobOf text low high steps)) skip (length rows / 10) budget
+    go none C.accepted w = rows-few S.whole (S.search inUse (jobOf text low high steps)) skip (length rows / 10) budget

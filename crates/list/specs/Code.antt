@@ -11,7 +11,9 @@ use Rattle.checker.specs.Check.{Verdict, accepted, refused, kinds, places, valu
 use Rattle.checker.specs.Analysis.{Known}
 use Rattle.simulation.specs.Words.{codeIn}
 use Rattle.simulation.specs.Placed.{Placed}
-use Rattle.list.specs.List.{program, Left, lists, found}
+use Rattle.semantics.specs.Search as S
+use Rattle.semantics.specs.Search.{inUse}
+use Rattle.list.specs.List.{program, jobOf, Left, lists, places as placesIn}
 use Rattle.list.specs.Parts.{leaves}
 use Rattle.list.specs.declared.Listed.{Listed}
 use Rattle.list.specs.declared.Coded.{Coded}
@@ -44,4 +46,4 @@ pub data Translates (text code : List ℕ) : Coded → Verdict → Type 0 where
 
 -- on the code of any text, what is answered and left is what list answers and leaves for it
 pub record Searches (code : List ℕ) (n : ℕ) (low high : ℤ) (steps skip budget : ℕ) (rows : List ℤ) (scratch : List ℕ) (left : Left) : Type 0 where
-  pub is : (text : List ℕ) → Placed (codeIn code n) (program text) → left ≡ lists text low high steps skip budget rows scratch (found text low high steps skip budget rows scratch)
+  pub is : (text : List ℕ) → Placed (codeIn code n) (program text) → left ≡ lists rows scratch (S.listed inUse (jobOf text low high steps) skip (placesIn rows) budget)

@@ -1,4 +1,4 @@
-// List: the grounds for its refusals, and the slice that it leaves.
+// List: its refusals, the code of the text's program, the search on it, and what is answered and left.
 ghost use mathlib.Core.Path.{_≡_};
 ghost use Prim.Native.Nat.{_+_, _*_, _≤_, _<_};
 ghost use mathlib.Core.Option.{none};

@@ -35,18 +35,18 @@ unfolding checked
 long-text text h = rw (long-lexed text h, checked)
 
 -- of a text that check refuses, list uses no more than that
-module _ (t u : List ℕ) (low high : ℤ) (steps skip budget : ℕ) (rows : List ℤ) (scratch : List ℕ) (n p : ℕ) where
-  same-refusal : (g : Option ℕ) → answering t low high steps skip budget rows scratch g (C.refused n p) ≡ answering u low high steps skip budget rows scratch g (C.refused n p)
-  same-refusal (some k) = refl
-  same-refusal none = refl
+same-refusal : (rows : List ℤ) (scratch : List ℕ) (a b : Answer) (n p : ℕ) (g : Option ℕ) → answering rows scratch a g (C.refused n p) ≡ answering rows scratch b g (C.refused n p)
+same-refusal rows scratch a b n p (some k) = refl
+same-refusal rows scratch a b n p none = refl
 
+module _ (t u : List ℕ) (low high : ℤ) (steps skip budget : ℕ) (rows : List ℤ) (scratch : List ℕ) (n p : ℕ) where
   same-list : checked t ≡ C.refused n p → checked u ≡ C.refused n p → list t low high steps skip budget rows scratch ≡ list u low high steps skip budget rows scratch
   unfolding list
   same-list e f =
       let g = ground (length scratch) low high steps in
-      ap (answering t low high steps skip budget rows scratch g) e
-      ∙ same-refusal g
-      ∙ sym (ap (answering u low high steps skip budget rows scratch g) f)
+      ap (answering rows scratch _ g) e
+      ∙ same-refusal rows scratch _ _ n p g
+      ∙ sym (ap (answering rows scratch _ g) f)
 
 -- ---- what follows does not matter
 

@@ -11,10 +11,11 @@ use Rattle.checker.specs.Check.{Verdict, checked}
 use Rattle.checker.proofs.Small.{Within, low as at-most, checked-low}
 use Rattle.semantics.specs.Run.{Row}
 use Rattle.semantics.specs.Search as Z
-use Rattle.semantics.specs.Search.{byRanges}
+use Rattle.semantics.specs.Search.{inUse}
+use Rattle.semantics.specs.Promise.{Promised}
 use Rattle.list.specs.List as S
 use Rattle.list.specs.List.{Answer, Left, ground, list, answering}
-use Rattle.list.specs.Promise.{Closes, Keeps}
+use Rattle.list.specs.Promise.{answerWith, Keeps}
 use Rattle.list.proofs.Promises.{keeps}
 use Rattle.lines.specs.declared.Job.{Job}
 use Rattle.lines.specs.declared.JobLine.the-variants.{Bad, Good}
@@ -29,11 +30,11 @@ use Rattle.respond.proofs.Rows.{few-rows, few-written, rows-back}
 -- ---- list's answers are small
 
 module _ (text : List ℕ) (low high : ℤ) (steps skip budget : ℕ) (rows : List ℤ) (scratch : List ℕ) where
-  small-by : length rows / 10 ≤ 1000 → (g : Option ℕ) (v : Verdict) → Within 2048 v → Small (answering text low high steps skip budget rows scratch g v .answer)
+  small-by : length rows / 10 ≤ 1000 → (g : Option ℕ) (v : Verdict) → Within 2048 v → Small (answering rows scratch (Z.listed inUse (S.jobOf text low high steps) skip (S.places rows) budget) g v .answer)
   unfolding Z.listed
   small-by h (some n) v w = record { few = omega arith; near = omega arith }
   small-by h none (C.refused n p) (at-most k) = record { few = omega arith; near = k }
-  small-by h none C.accepted w = record { few = omega (arith, few-rows Z.whole (Z.search byRanges (S.jobOf text low high steps)) skip (length rows / 10) budget); near = omega arith }
+  small-by h none C.accepted w = record { few = omega (arith, few-rows Z.whole (Z.search inUse (S.jobOf text low high steps)) skip (length rows / 10) budget); near = omega arith }
 
   pub small : length rows / 10 ≤ 1000 → Small (list text low high steps skip budget rows scratch .answer)
   unfolding list
@@ -49,6 +50,10 @@ pub listing-small : (text : List ℕ) (low high : ℤ) (steps : ℕ) → Small (
 unfolding listing
 listing-small text low high steps = small text low high steps 0 1000000 rowWords scratchWords (omega (arith, tens))
 
+-- what the search of the program's job finds
+abbrev found : List ℕ → ℤ → ℤ → ℕ → Z.Answer
+found text low high steps = Z.listed inUse (S.jobOf text low high steps) 0 (S.places rowWords) 1000000
+
 -- ---- each refusal is one line
 
 pub bad-line : (input : List ℕ) → lineJob input ≡ Bad → output input ≡ refusal 16 0
@@ -61,10 +66,10 @@ good-line input j e = ap (outputFor input) e
 
 module _ (input : List ℕ) (j : Job) (good : lineJob input ≡ Good j) where
   answered : (g : Option ℕ) (v : Verdict) → ground 16384 (j .low) (j .high) (j .steps) ≡ g → checked (textOf input j) ≡ v
-      → listing (textOf input j) (j .low) (j .high) (j .steps) ≡ answering (textOf input j) (j .low) (j .high) (j .steps) 0 1000000 rowWords scratchWords g v
+      → listing (textOf input j) (j .low) (j .high) (j .steps) ≡ answering rowWords scratchWords (found (textOf input j) (j .low) (j .high) (j .steps)) g v
   unfolding listing list
   answered g v e f =
-      ap₂ (answering (textOf input j) (j .low) (j .high) (j .steps) 0 1000000 rowWords scratchWords)
+      ap₂ (answering rowWords scratchWords (found (textOf input j) (j .low) (j .high) (j .steps)))
       (ap (λ (n : ℕ). ground n (j .low) (j .high) (j .steps)) words ∙ e) f
 
   -- by one of list's own grounds, or as check
@@ -102,7 +107,7 @@ module _ (input : List ℕ) (j : Job) (good : lineJob input ≡ Good j) where
       moves = kept .moves;
       ending = kept .ending;
       lines = printed;
-      closes = subst (λ (n : ℕ). Closes (S.jobOf (textOf input j) (j .low) (j .high) (j .steps)) 0 n 1000000 (kept .plans) (kept .written) (kept .moves) (kept .ending)) tens (kept .closes);
+      closes = subst (λ (n : ℕ). Promised inUse (S.jobOf (textOf input j) (j .low) (j .high) (j .steps)) (kept .plans) 0 n 1000000 (answerWith (kept .written) (kept .moves) (kept .ending))) tens (kept .closes);
     }
 
 -- ---- what the code learns of list

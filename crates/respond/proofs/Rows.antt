@@ -9,12 +9,12 @@ use lib.Seq.{drop-append-seam}
 use lib.IntN.{ℤ, pos}
 use Rattle.semantics.specs.Does.{frame}
 use Rattle.semantics.specs.Run.{Row, Job, Choice, meaning, each}
-use Rattle.semantics.specs.Search.{Close, Move, plain, found, probe, answer}
+use Rattle.semantics.specs.Search.{Solver, Close, Move, plain, found, probe, Answer, answer}
 use Rattle.semantics.specs.Demand.{RowOf, PlanList}
+use Rattle.semantics.specs.Promise.{Promised, atWhole, atCut, atFull, atSpent}
 use Rattle.semantics.proofs.Keep.{All, anil, acons}
 use Rattle.semantics.proofs.Members.{member-all, run-length}
 use Rattle.settings.specs.Rows.{wordsOf}
-use Rattle.list.specs.Promise.{Closes, atWhole, atCut, atFull, atSpent}
 use Rattle.lines.specs.Written.{rowFrom, rowsFrom}
 use Rattle.lines.proofs.Kept as K
 use Rattle.lines.proofs.Kept.{read-back}
@@ -63,11 +63,11 @@ few-rest : (j : Job) (skip : ℕ) (plans : List Row) → PlanList j plans → Al
 few-rest j skip plans p = all-drop skip (few-plans j plans p)
 
 -- what is written of a plan list
-pub few-written : {j : Job} {skip room budget : ℕ} {plans written : List Row} {moves : ℕ} {c : Close} → PlanList j plans → Closes j skip room budget plans written moves c → All Few written
-few-written {j} {skip} {room} {budget} {plans} {written} p (atWhole e n) = subst (All Few) (sym e) (few-rest j skip plans p)
-few-written {j} {skip} {room} {budget} {plans} {written} p (atCut e s) = subst (All Few) (sym e) (few-rest j skip plans p)
-few-written {j} {skip} {room} {budget} {plans} {written} p (atFull e h) = subst (All Few) (sym e) (all-take room (few-rest j skip plans p))
-few-written {j} {skip} {room} {budget} {plans} {written} p (atSpent m e r h) = all-front written r (subst (All Few) h (few-rest j skip plans p))
+pub few-written : {v : Solver} {j : Job} {skip room budget : ℕ} {plans : List Row} {a : Answer} → PlanList j plans → Promised v j plans skip room budget a → All Few (a .rows)
+few-written {j = j} {skip} {plans = plans} p (atWhole e h n) = subst (All Few) (sym (h .written)) (few-rest j skip plans p)
+few-written {j = j} {skip} {plans = plans} p (atCut e h s) = subst (All Few) (sym (h .written)) (few-rest j skip plans p)
+few-written {j = j} {skip} {room} {plans = plans} p (atFull e h) = subst (All Few) (sym (h .written)) (all-take room (few-rest j skip plans p))
+few-written {j = j} {skip} {plans = plans} {a} p (atSpent e h) = all-front (a .rows) (h .rest) (subst (All Few) (h .front) (few-rest j skip plans p))
 
 -- ---- read back
 

@@ -133,6 +133,10 @@ byRanges = record {
   narrow = λ c a b ws. some (narrowed c a b ws);
 }
 
+-- the solver that list uses; another one changes this line
+abbrev pub inUse : Solver
+inUse = byRanges
+
 -- ---- settings
 
 -- a test that was made: the comparison that holds on this path

@@ -8,6 +8,7 @@ pub mod Drive
 pub mod Spending
 pub mod Listing
 pub mod Back
+pub mod First
 pub mod Nodes
 pub mod Odometer
 pub mod Inside
