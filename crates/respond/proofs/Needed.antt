@@ -14,6 +14,7 @@ use Rattle.lexer.specs.Lex as L
 use Rattle.lexer.specs.Lex.{lexed}
 use Rattle.checker.specs.Check as C
 use Rattle.checker.specs.Check.{checked}
+use Rattle.semantics.specs.Search.{Answer}
 use Rattle.list.specs.List.{ground, list, answering}
 use Rattle.lines.specs.declared.Job.{Job}
 use Rattle.lines.specs.declared.JobLine.{JobLine}
