@@ -37,7 +37,7 @@ fn none_wrong<T>(
 #[test]
 fn paths_are_there() {
     let wrong = |path: &String| (!file(path).exists()).then(|| format!("no {path}"));
-    none_wrong(&ALL, 250, paths, wrong);
+    none_wrong(&ALL, 200, paths, wrong);
 }
 
 #[test]
@@ -53,7 +53,7 @@ fn cited_names_are_declared() {
 #[test]
 fn functions_are_there() {
     let wrong = |path: &String| (!is_function(path)).then(|| format!("no {path}"));
-    none_wrong(&ALL, 60, functions, wrong);
+    none_wrong(&ALL, 40, functions, wrong);
 }
 
 #[test]
@@ -63,7 +63,7 @@ fn edits_are_there() {
         let path = format!("crates/{holder}/must-fail/{name}.edit");
         (!file(&path).exists()).then(|| format!("no {path}"))
     };
-    none_wrong(&[TRUST, ARCHITECTURE], 80, edits, wrong);
+    none_wrong(&[TRUST, ARCHITECTURE], 60, edits, wrong);
 }
 
 /// The map has a row for each crate, in the order of crates.txt.
