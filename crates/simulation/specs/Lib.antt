@@ -8,4 +8,3 @@ pub mod Back
 pub mod Nodes
 pub mod Odometer
 pub mod Words
-pub mod Cells
