@@ -21,8 +21,8 @@ pub use Rattle.semantics.proofs.Exact.{wrap-exact, range-exact, decided
 pub use Rattle.semantics.proofs.Filled.{range-filled, never-empty}
 pub use Rattle.semantics.proofs.Idle.{decided-idle}
 pub use Rattle.semantics.proofs.Sound.{byRanges-sound}
--- the starred examples, and further ones
-pub use Rattle.semantics.proofs.Examples.{starred-hold, further-hold}
+-- programs on which readings of the paper differ
+pub use Rattle.semantics.proofs.Examples.{further-hold}
 
 pub in-32 : (w : Window) → In32 w → Sub w all32
 unfolding all32
@@ -72,11 +72,5 @@ module _ (u v : Solver) (sound₁ : Sound u) (sound₂ : Sound v) (j : Job) (sma
 -- ---- document 01's search
 
 module _ (j : Job) (small : In32 (j .window)) where
-  pub whole-rows-01 : rowsIn (search byRanges j) ≡ plans j
-  whole-rows-01 = whole-rows byRanges byRanges-sound j small
-
-  pub whole-cut-01 : T (cutIn (search byRanges j)) ↔ SomeCut j
-  whole-cut-01 = whole-cut byRanges byRanges-sound j small
-
   pub promise-01 : (skip room budget : ℕ) → Promised byRanges j skip room budget (listed byRanges j skip room budget)
   promise-01 = promise byRanges byRanges-sound j small

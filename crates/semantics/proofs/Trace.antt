@@ -154,11 +154,6 @@ module _ (solver : Solver) (sound : Sound solver) (job : Window) (small : Sub jo
       swap false true z = refl
       swap false false z = refl
 
-  tested-not : (n : ℕ) (ts : List Test) (c : Cmp) (a b : Value) → keep (λ s. not (passes c a b s)) (candidates n ts) ≡ candidates n (asTest (negated c) a b ∷ ts)
-  tested-not n ts c a b =
-      keep-same _ _ (all-of (λ s. sym (holds-negated c (under s a) (under s b))) (candidates n ts))
-      ∙ tested n ts (negated c) a b
-
   keeps-test : (ws us : List Window) (ts : List Test) (c : Cmp) (a b : Value) → solver .narrow c a b ws ≡ some us → Keeps ws ts → Keeps us (asTest c a b ∷ ts)
   unfolding meets
   keeps-test ws us ts c a b e k = record {
