@@ -11,7 +11,7 @@ use Rattle.checker.specs.Check.{Verdict, checked}
 use Rattle.checker.proofs.Small.{Within, low as at-most, checked-low}
 use Rattle.semantics.specs.Run.{Row}
 use Rattle.semantics.specs.Search as Z
-use Rattle.semantics.specs.Search.{byRanges}
+use Rattle.semantics.specs.Search.{inUse}
 use Rattle.list.specs.List as S
 use Rattle.list.specs.List.{Answer, Left, ground, list, answering}
 use Rattle.list.specs.Promise.{Closes, Keeps}
@@ -33,7 +33,7 @@ module _ (text : List ℕ) (low high : ℤ) (steps skip budget : ℕ) (rows : Li
   unfolding Z.listed
   small-by h (some n) v w = record { few = omega arith; near = omega arith }
   small-by h none (C.refused n p) (at-most k) = record { few = omega arith; near = k }
-  small-by h none C.accepted w = record { few = omega (arith, few-rows Z.whole (Z.search byRanges (S.jobOf text low high steps)) skip (length rows / 10) budget); near = omega arith }
+  small-by h none C.accepted w = record { few = omega (arith, few-rows Z.whole (Z.search inUse (S.jobOf text low high steps)) skip (length rows / 10) budget); near = omega arith }
 
   pub small : length rows / 10 ≤ 1000 → Small (list text low high steps skip budget rows scratch .answer)
   unfolding list

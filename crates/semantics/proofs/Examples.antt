@@ -8,7 +8,7 @@ use Rattle.semantics.specs.Int.{add, mul, lt, eq, ne, arith, exact, wrap
 use Rattle.semantics.specs.Program.{Address, slot, Expr, number, name, op, call, Exprs, more, Cond, const, compare, or, Stmt, empty, declare, unknown, assign, block, if, while, return, fail, Stmts, end, next, Program}
 use Rattle.semantics.specs.Does.{within, does, enter, stmt, loop, cond, expr, frame}
 use Rattle.semantics.specs.Run.{Row, Job, each, numbers, clamp, counting}
-use Rattle.semantics.specs.Search.{to, byRanges, Answer, Close, whole, cuts, full, spent, listed, answer, search, openly, probedOnce, moves, paths, probed, tried, settings, meets, narrowed, clipped, clip, decided, always, range, fitted, span, maxZ, minZ, all32, under, work}
+use Rattle.semantics.specs.Search.{to, inUse, Answer, Close, whole, cuts, full, spent, listed, answer, search, openly, probedOnce, moves, paths, probed, tried, settings, meets, narrowed, clipped, clip, decided, always, range, fitted, span, maxZ, minZ, all32, under, work}
 
 -- ---- how the texts are written here
 
@@ -179,7 +179,7 @@ further =
 -- ---- the proof
 
 unfoldable pub given : Case → Answer
-given c = listed byRanges (c .job) (c .skip) (c .room) (c .budget)
+given c = listed inUse (c .job) (c .skip) (c .room) (c .budget)
 
 pub further-hold : map given further ≡ map (λ c. c .answer) further
 unfolding frees given listed answer search openly probedOnce moves paths probed tried settings meets narrowed clipped clip decided always range fitted span maxZ minZ all32 under work each numbers clamp counting within does enter stmt loop cond expr frame holds eqZ arith exact wrap low32

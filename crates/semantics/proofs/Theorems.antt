@@ -5,7 +5,7 @@ use mathlib.Core.Logic.{_↔_}
 use mathlib.Core.List.{List}
 use lib.Dec.{T}
 use Rattle.semantics.specs.Run.{Window, Job, Choice, Row, choices, plans}
-use Rattle.semantics.specs.Search.{all32, Solver, byRanges, search, rowsIn, cutIn, Answer, listed}
+use Rattle.semantics.specs.Search.{all32, Solver, inUse, search, rowsIn, cutIn, Answer, listed}
 use Rattle.semantics.specs.Demand.{_∈_, In32, Belongs, PlanList, SomeCut}
 use Rattle.semantics.specs.Promise.{Promised}
 use Rattle.semantics.proofs.Order.{leZ→}
@@ -20,7 +20,7 @@ pub use Rattle.semantics.proofs.Fuel.{turns}
 pub use Rattle.semantics.proofs.Exact.{wrap-exact, range-exact, decided-true, decided-false, clip-exact}
 pub use Rattle.semantics.proofs.Filled.{range-filled, never-empty}
 pub use Rattle.semantics.proofs.Idle.{decided-idle}
-pub use Rattle.semantics.proofs.Sound.{byRanges-sound}
+pub use Rattle.semantics.proofs.Sound.{byRanges-sound, inUse-sound}
 -- programs on which readings of the paper differ
 pub use Rattle.semantics.proofs.Examples.{further-hold}
 
@@ -69,8 +69,8 @@ module _ (u v : Solver) (sound₁ : Sound u) (sound₂ : Sound v) (j : Job) (sma
       let i = in-32 (j .window) small in
       (search-rows u sound₁ j i ∙ sym (search-rows v sound₂ j i), search-cut u sound₁ j i ∙ sym (search-cut v sound₂ j i))
 
--- ---- document 01's search
+-- ---- the search that list makes
 
 module _ (j : Job) (small : In32 (j .window)) where
-  pub promise-01 : (skip room budget : ℕ) → Promised byRanges j skip room budget (listed byRanges j skip room budget)
-  promise-01 = promise byRanges byRanges-sound j small
+  pub promise-01 : (skip room budget : ℕ) → Promised inUse j skip room budget (listed inUse j skip room budget)
+  promise-01 = promise inUse inUse-sound j small
