@@ -12,7 +12,8 @@ use mir.Syntax.{w32}
 use mir.Val.{SFits}
 use Rattle.checker.specs.Check as C
 use Rattle.checker.specs.Check.{Verdict, checked}
-use Rattle.semantics.specs.Run.{Job, plans}
+use Rattle.semantics.specs.Run.{Job}
+use Rattle.semantics.specs.Plans.{plans}
 use Rattle.semantics.specs.Search as S
 use Rattle.semantics.specs.Search.{to, byRanges}
 use Rattle.semantics.specs.Demand.{In32}

@@ -12,7 +12,8 @@ use lib.Signed.{leZ}
 use lib.Dec.{T, leb, ltb, leb→le, le→leb, ltb→lt, nltb→le, eqb→eq}
 use Rattle.semantics.specs.Int.{Cmp}
 use Rattle.semantics.specs.Does.{Does, returned, failed, cut, step, free, test, within}
-use Rattle.semantics.specs.Run.{Window, returns, cuts, lists}
+use Rattle.semantics.specs.Run.{Window, returns, cuts}
+use Rattle.semantics.specs.Plans.{lists}
 use Rattle.semantics.specs.Search.{Value, unknown, under, all32, negated, Solver, Test, asTest, meets, settings, Move, Paths, fork, side, paths, moves}
 use Rattle.semantics.proofs.Order.{up, down, →leZ}
 use Rattle.semantics.proofs.Range.{In, Sub, sub-trans, Subs, Within, and-left, and-right, and-both, bool-ext}

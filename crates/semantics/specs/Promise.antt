@@ -3,7 +3,8 @@ use Prim.Native.Nat.{ℕ, suc, _+_, _≤_, _<_}
 use mathlib.Core.Path.{_≡_}
 use mathlib.Core.List.{List, _++_}
 use lib.ListN.{length, take, drop}
-use Rattle.semantics.specs.Run.{Row, Job, plans}
+use Rattle.semantics.specs.Run.{Row, Job}
+use Rattle.semantics.specs.Plans.{plans}
 use Rattle.semantics.specs.Search.{Solver, search, rowsIn, whole, cuts, full, spent, Answer}
 use Rattle.semantics.specs.Demand.{SomeCut}
 
