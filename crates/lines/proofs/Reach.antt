@@ -107,8 +107,8 @@ ended-line l r k =
     ∙ sym (a-line l k)
 
 -- of input that never ends 40 bytes settle the job line, whatever stands after them
-pub forty-settle : (l r : List ℕ) → 40 ≤ length l → lineJob (l ++ r) ≡ lineJob l
-forty-settle l r h = go (ltb (place 10 l) (length l)) refl
+long-settled : (l r : List ℕ) → 40 ≤ length l → lineJob (l ++ r) ≡ lineJob l
+long-settled l r h = go (ltb (place 10 l) (length l)) refl
   where
     go : (b : Bool) → ltb (place 10 l) (length l) ≡ b → lineJob (l ++ r) ≡ lineJob l
     go true q = ended-line l r (ltb-true (place 10 l) (length l) q)
@@ -120,6 +120,6 @@ pub line-settled : (l r : List ℕ) → lineSettled l ≡ true → lineJob (l ++
 line-settled l r h = go (leb 40 (length l)) (ltb (place 10 l) (length l)) refl refl h
   where
     go : (a b : Bool) → leb 40 (length l) ≡ a → ltb (place 10 l) (length l) ≡ b → a || b ≡ true → lineJob (l ++ r) ≡ lineJob l
-    go true b p q e = forty-settle l r (leb-true 40 (length l) p)
+    go true b p q e = long-settled l r (leb-true 40 (length l) p)
     go false true p q e = ended-line l r (ltb-true (place 10 l) (length l) q)
     go false false p q e = absurd (let z : _≡_ {A = ℕ} 0 1 = cc in omega arith)

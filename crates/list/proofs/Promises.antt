@@ -12,12 +12,13 @@ use mir.Syntax.{w32}
 use mir.Val.{SFits}
 use Rattle.checker.specs.Check as C
 use Rattle.checker.specs.Check.{Verdict, checked}
-use Rattle.semantics.specs.Run.{Row, plans}
+use Rattle.semantics.specs.Run.{Row}
+use Rattle.semantics.specs.Plans.{plans}
 use Rattle.semantics.specs.Search as S
 use Rattle.semantics.specs.Search.{to, inUse}
 use Rattle.semantics.specs.Demand.{In32}
 use Rattle.semantics.specs.Promise.{Promised}
-use Rattle.semantics.proofs.Theorems.{plan-list, plan-list-unique, promise, promise-unique, in-use-sound}
+use Rattle.semantics.proofs.Theorems.{plan-list, plan-list-unique, promise, promise-unique, inUse-sound}
 use Rattle.simulation.specs.Code.{codeOf}
 use Rattle.simulation.proofs.Placed.{placed}
 use Rattle.simulation.proofs.Drive.{most-turns}
@@ -81,7 +82,7 @@ module _ (text : List ℕ) (low high : ℤ) (steps skip budget : ℕ) (rows : Li
           answered = ap (λ (l : Left). l .answer) e;
           slice = ap (λ (l : Left). l .rows) e;
           cleared = ap (λ (l : Left). l .scratch) e;
-          closes = promise inUse in-use-sound j (in-32 low high f h) skip (places rows) budget;
+          closes = promise inUse inUse-sound j (in-32 low high f h) skip (places rows) budget;
           code = codeOf (program text);
           coded = placed (program text);
           searches = λ c p. record {
@@ -96,7 +97,7 @@ module _ (text : List ℕ) (low high : ℤ) (steps skip budget : ℕ) (rows : Li
     keeps-only left k =
         let j = jobOf text low high steps in
         let a : answerWith (k .written) (k .moves) (k .ending) ≡ found =
-            promise-unique inUse in-use-sound j (in-32 low high f h) skip (places rows) budget _ (subst (λ (l : List Row). Promised inUse j l skip (places rows) budget (answerWith (k .written) (k .moves) (k .ending))) (plan-list-unique j (k .plans) (k .fixed)) (k .closes)) in
+            promise-unique inUse inUse-sound j (in-32 low high f h) skip (places rows) budget _ (subst (λ (l : List Row). Promised inUse j l skip (places rows) budget (answerWith (k .written) (k .moves) (k .ending))) (plan-list-unique j (k .plans) (k .fixed)) (k .closes)) in
         left-path (k .answered) (k .slice) (k .cleared) ∙ ap (lists rows scratch) a ∙ sym (unfolds none C.accepted g v)
 
   -- a refusal leaves both slices as they were

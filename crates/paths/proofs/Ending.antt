@@ -17,7 +17,7 @@ use Rattle.simulation.proofs.Drive.{most-turns, kept-start, turns-le}
 use Rattle.simulation.proofs.Listing.{treeOf, Opens, OpensNext, leads-start, path-ok}
 use Rattle.simulation.specs.Placed.{Placed}
 use Rattle.simulation.proofs.Spending.{Fewer, path-fewer}
-use Rattle.simulation.proofs.Windows.{filled-of}
+use Rattle.simulation.proofs.Odometer.{filled-of}
 use Rattle.ranges.proofs.Ranges.{ordered}
 use Rattle.machine.specs.Memory.{windowsIn}
 use Rattle.paths.specs.declared.Point.{Point}

@@ -7,7 +7,8 @@ use native.Mathlib.Omega.{arith}
 use lib.ListN.{length, take, drop, length-append, take-append-drop}
 use lib.Dec.{T}
 use lib.Seq.{drop-nil}
-use Rattle.semantics.specs.Run.{Row, Job, choices, plans, someCut}
+use Rattle.semantics.specs.Run.{Row, Job}
+use Rattle.semantics.specs.Plans.{choices, plans, someCut}
 use Rattle.semantics.specs.Search.{all32, Move, plain, found, probe, rowsIn, cutIn, Solver, search, Close, whole, cuts, full, spent, Answer, answer, listed}
 use Rattle.semantics.specs.Promise.{Ended, Full, Spent, Promised, atWhole, atCut, atFull, atSpent}
 use Rattle.semantics.proofs.Range.{Sub}

@@ -12,7 +12,8 @@ use lib.IntN.{ℤ, sucℤ, _-ℤ_}
 use lib.Dec.{T}
 use Rattle.semantics.specs.Int.{holds}
 use Rattle.semantics.specs.Does.{Does, returned, failed, cut, step, free, test, within}
-use Rattle.semantics.specs.Run.{Window, counting, clamp, numbers, each, lists, Ending, returns, fails, cuts, Ran, noting, exactly, run, Choice, adding, belonging, before, insert, sorted, Row, rowsWith, rowsOf, isCut, someCut}
+use Rattle.semantics.specs.Run.{Window, counting, clamp, numbers, each, Ending, returns, fails, cuts, Ran, noting, exactly, run, Choice, Row}
+use Rattle.semantics.specs.Plans.{lists, adding, belonging, before, insert, sorted, rowsWith, rowsOf, isCut, someCut}
 use Rattle.semantics.specs.Demand.{_∈_}
 use Rattle.semantics.proofs.Order.{_≼_, cond-cases, antisym, of-suc}
 use Rattle.semantics.proofs.Range.{In}

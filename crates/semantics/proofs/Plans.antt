@@ -11,7 +11,8 @@ use lib.IntN.{ℤ}
 use lib.Dec.{T, eqb→eq}
 use lib.Signed.{ltZ}
 use Rattle.semantics.specs.Does.{Does, returned, failed, cut, step, free, test}
-use Rattle.semantics.specs.Run.{Window, lists, Ending, returns, fails, cuts, Ran, run, Choice, sorted, Row, rowsWith, rowsOf, Job, meaning, choices, plans, someCut}
+use Rattle.semantics.specs.Run.{Window, Ending, returns, fails, cuts, Ran, run, Choice, Row, Job, meaning}
+use Rattle.semantics.specs.Plans.{lists, sorted, rowsWith, rowsOf, choices, plans, someCut}
 use Rattle.semantics.specs.Search.{Value, unknown, openly}
 use Rattle.semantics.specs.Demand.{_∈_, InWindow, Belongs, Sooner, Lower, Before, RowOf, Earlier, PlanList, SomeCut}
 use Rattle.semantics.proofs.Order.{up, down, leZ→, →leZ, ltZ→, →ltZ}

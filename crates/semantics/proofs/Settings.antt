@@ -10,7 +10,8 @@ use lib.ListN.{length, getD}
 use lib.IntN.{ℤ, pos, negsuc, sucℤ, _-ℤ_}
 use lib.Dec.{T, eqb·zero-suc, eqb·suc-zero, eqb·suc-suc}
 use lib.Signed.{leZ}
-use Rattle.semantics.specs.Run.{Window, counting, clamp, numbers, each, lists}
+use Rattle.semantics.specs.Run.{Window, counting, clamp, numbers, each}
+use Rattle.semantics.specs.Plans.{lists}
 use Rattle.semantics.specs.Search.{settings}
 use Rattle.semantics.proofs.Order.{up, down, _≼_, _≺_, leZ→, →leZ, nleZ→, antisym, of-minus, of-suc}
 use Rattle.semantics.proofs.Range.{In, Sub, Subs, and-left, and-right, and-both}

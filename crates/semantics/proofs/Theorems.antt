@@ -4,7 +4,8 @@ use mathlib.Core.Path.{_≡_, sym, subst, _∙_}
 use mathlib.Core.Logic.{_↔_}
 use mathlib.Core.List.{List}
 use lib.Dec.{T}
-use Rattle.semantics.specs.Run.{Window, Job, Choice, Row, choices, plans}
+use Rattle.semantics.specs.Run.{Window, Job, Choice, Row}
+use Rattle.semantics.specs.Plans.{choices, plans}
 use Rattle.semantics.specs.Search.{all32, Solver, inUse, search, rowsIn, cutIn, Answer, listed}
 use Rattle.semantics.specs.Demand.{_∈_, In32, Belongs, PlanList, SomeCut}
 use Rattle.semantics.specs.Promise.{Promised}
@@ -20,9 +21,9 @@ pub use Rattle.semantics.proofs.Fuel.{turns}
 pub use Rattle.semantics.proofs.Exact.{wrap-exact, range-exact, decided-true, decided-false, clip-exact}
 pub use Rattle.semantics.proofs.Filled.{range-filled, never-empty}
 pub use Rattle.semantics.proofs.Idle.{decided-idle}
-pub use Rattle.semantics.proofs.Sound.{byRanges-sound}
--- the starred examples, and further ones
-pub use Rattle.semantics.proofs.Examples.{starred-hold, further-hold}
+pub use Rattle.semantics.proofs.Sound.{byRanges-sound, inUse-sound}
+-- programs on which readings of the paper differ
+pub use Rattle.semantics.proofs.Examples.{further-hold}
 
 pub in-32 : (w : Window) → In32 w → Sub w all32
 unfolding all32
@@ -68,8 +69,3 @@ module _ (u v : Solver) (sound₁ : Sound u) (sound₂ : Sound v) (j : Job) (sma
   solvers-agree =
       let i = in-32 (j .window) small in
       (search-rows u sound₁ j i ∙ sym (search-rows v sound₂ j i), search-cut u sound₁ j i ∙ sym (search-cut v sound₂ j i))
-
--- ---- the solver in use
-
-pub in-use-sound : Sound inUse
-in-use-sound = byRanges-sound

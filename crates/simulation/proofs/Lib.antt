@@ -12,12 +12,5 @@ pub mod First
 pub mod Nodes
 pub mod Odometer
 pub mod Inside
-pub mod Emitted
 pub mod Size
 pub mod Words
-pub mod Mapped
-pub mod Held
-pub mod Cells
-pub mod Windows
-pub mod Bounded
-pub mod Going

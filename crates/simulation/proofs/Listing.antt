@@ -12,14 +12,13 @@ use Rattle.semantics.specs.Does.{does, within}
 use Rattle.semantics.specs.Run.{Window, Row, Job}
 use Rattle.semantics.specs.Search as search
 use Rattle.semantics.specs.Search.{Value, known, work, under, Solver, Test, meets, settings, Kind, missed, Move, plain, found, tried, probed, Paths, paths, moves, probedOnce, Close, Answer, answer, listed}
-use Rattle.simulation.specs.Code.{Code, codeOf}
+use Rattle.simulation.specs.Code.{Code}
 use Rattle.simulation.specs.Machine.{Machine, start}
 use Rattle.simulation.specs.Path.{State, begins, End, returned, failed, cut, Went, on, ended, turn}
 use Rattle.simulation.specs.Lister.{Tally, tally, Next, go, over, then, closed, closing, charge, charged, place, trial, trials, probe, probes, finish, next, Start, back, path, searching, opening}
 use Rattle.simulation.proofs.Replay.{Has, ahead, replayed, one-path, take-back, onwards, has-chosen, HasSome, has-next, chosen}
 use Rattle.simulation.proofs.Route.{Route, of, route-of}
 use Rattle.simulation.specs.Placed.{Placed}
-use Rattle.simulation.proofs.Placed.{placed}
 use Rattle.simulation.proofs.Spending.{Fewer, path-fewer}
 use Rattle.simulation.proofs.Drive.{last, moving, Goes, GoesOn, turn-keeps, goes-start, turns-left, Kept, Nears, turn-nears, kept-start, most-turns, turns-le}
 
@@ -122,35 +121,6 @@ module _ (a : Answer) where
   unfolding probes probed
   probes-ok ts [] t ms e = e
   probes-ok ts (s ∷ ss) t ms e = probes-at (t .cut) ts s ss (t .budget) (t .skip) (t .room) (t .rows) (t .moves) ms (λ u h. probes-ok ts ss u ms h) e
-
-  -- one setting after another
-
-  pub tried-one : (v : Value) (ts : List Test) (s : List ℤ) (ss : List (List ℤ)) (t : Tally) (ms : List Move) → outlook t (tried v ts (s ∷ ss) ++ ms) ≡ a → Gives a (tried v ts ss ++ ms) (trial v ts s t)
-  unfolding tried
-  tried-one v ts s ss t ms e = trial-ok v ts s t (tried v ts ss ++ ms) e
-
-  pub tried-none : (v : Value) (ts : List Test) (t : Tally) (ms : List Move) → outlook t (tried v ts [] ++ ms) ≡ a → outlook t ms ≡ a
-  unfolding tried
-  tried-none v ts t ms e = e
-
-  pub probed-one : (ts : List Test) (s : List ℤ) (ss : List (List ℤ)) (t : Tally) (ms : List Move) → t .cut ≡ false → outlook t (probed ts (s ∷ ss) ++ ms) ≡ a → Gives a (probed ts ss ++ ms) (probe ts s t)
-  probed-one ts s ss t ms h e = by (t .cut) h e
-    where
-      by : (o : Bool) → o ≡ false → outlook (tally (t .budget) (t .skip) (t .room) (t .rows) (t .moves) o) (probed ts (s ∷ ss) ++ ms) ≡ a → Gives a (probed ts ss ++ ms) (probe ts s (tally (t .budget) (t .skip) (t .room) (t .rows) (t .moves) o))
-      by false h e = probe-ok ts s ss (t .budget) (t .skip) (t .room) (t .rows) (t .moves) ms e
-      by true h e = absurd (subst (λ o. elim o as (λ o. Type 0) [ true ↦ Unit {0} | false ↦ ⊥ ]) h tt)
-
-  pub probed-end : (ts : List Test) (t : Tally) (ms : List Move) → outlook t (probed ts [] ++ ms) ≡ a → outlook t ms ≡ a
-  unfolding probed
-  probed-end ts t ms e = e
-
-  -- none, once a cut run was found
-  pub probed-none : (ts : List Test) (ss : List (List ℤ)) (t : Tally) (ms : List Move) → t .cut ≡ true → outlook t (probed ts ss ++ ms) ≡ a → outlook t ms ≡ a
-  probed-none ts ss t ms h e = by (t .cut) h e
-    where
-      by : (o : Bool) → o ≡ true → outlook (tally (t .budget) (t .skip) (t .room) (t .rows) (t .moves) o) (probed ts ss ++ ms) ≡ a → outlook (tally (t .budget) (t .skip) (t .room) (t .rows) (t .moves) o) ms ≡ a
-      by true h e = ap (λ l. onto (tally (t .budget) (t .skip) (t .room) (t .rows) (t .moves) true) (answer (closing true) l (t .skip) (t .room) (t .budget))) (sym (settled-true ts ss ms)) ∙ e
-      by false h e = absurd (subst (λ o. elim o as (λ o. Type 0) [ true ↦ ⊥ | false ↦ Unit {0} ]) h tt)
 
   -- ---- a path's end, and what follows it
 
@@ -292,7 +262,3 @@ pub placed-lists : (solver : Solver) (j : Job) (c : Code) → Placed c (j .progr
     → searching solver (j .window) c (j .steps) k n (opening skip room budget) ≡ listed solver j skip room budget
 placed-lists solver j c h skip room budget k n g l =
     searching-ok (listed solver j skip room budget) solver (j .window) c (j .steps) (j .program) h k n l (opening skip room budget) (opens-start solver j skip room budget) g
-
-pub machine-lists : (solver : Solver) (j : Job) (skip room budget : ℕ) (k n : ℕ) → budget < k → most-turns (codeOf (j .program)) (j .steps) ≤ n
-    → searching solver (j .window) (codeOf (j .program)) (j .steps) k n (opening skip room budget) ≡ listed solver j skip room budget
-machine-lists solver j skip room budget k n g l = placed-lists solver j (codeOf (j .program)) (placed (j .program)) skip room budget k n g l

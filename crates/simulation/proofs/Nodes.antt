@@ -9,11 +9,11 @@ use lib.ListN.{getD, length, length-append, List·getD-eq-default, List·getD-ap
 use lib.Seq.{getD-at}
 use lib.IntN.{ℤ, pos}
 use Rattle.semantics.specs.Int as int
-use Rattle.semantics.specs.Int.{Op, Cmp, holds}
+use Rattle.semantics.specs.Int.{Op, holds}
 use Rattle.semantics.specs.Run.{Window}
 use Rattle.semantics.specs.Search as search
-use Rattle.semantics.specs.Search.{Value, known, open′, work, under, range, meets, to, all32, span, fitted, mirrored, clipped, narrowed, byRanges}
-use Rattle.simulation.specs.Nodes.{Cell, Known, Open, Node, unknown, operation, cell, node, pass, values, meaning, ranges, rangeIn, numbers, numberIn, Within, working, Noted, testOf, meetsIn, decidedIn, freeBy, freeIn, clippedBy, narrowedIn}
+use Rattle.semantics.specs.Search.{Value, known, open′, work, under, range, meets, to, all32, span, fitted}
+use Rattle.simulation.specs.Nodes.{Cell, Known, Open, Node, unknown, operation, cell, node, pass, values, meaning, ranges, rangeIn, numbers, numberIn, Within, working, Noted, testOf, meetsIn}
 
 -- ---- a pass
 
@@ -225,37 +225,3 @@ unfolding working
 working-grows o (Known x) (Known y) ns = record { more = []; is = sym (append-nil ns); one = omega arith; within = tt }
 working-grows o (Known x) (Open j) ns = record { more = operation o (Known x) (Open j) ∷ []; is = refl; one = omega arith; within = omega (arith, length-append ns (operation o (Known x) (Open j) ∷ [])) }
 working-grows o (Open i) b ns = record { more = operation o (Open i) b ∷ []; is = refl; one = omega arith; within = omega (arith, length-append ns (operation o (Open i) b ∷ [])) }
-
--- ---- deciding and narrowing by the table are those of ranges
-
-pub decided-ok : (ws : List Window) (ns : List Node) (c : Cmp) (a b : Cell) → decidedIn (ranges ws ns) c a b ≡ byRanges .decide c (meaning ns a) (meaning ns b) ws
-unfolding decidedIn
-decided-ok ws ns c a b = ap₂ (search.decided c) (range-ok ws ns a) (range-ok ws ns b)
-
--- a cell that is just a free variable stands for it, and no other does
-abbrev clippedAt : Cmp → Window → List Window → Option Node → Value → Type 0
-clippedAt c r ws none v = clipped c v r ws ≡ ws
-clippedAt c r ws (some n) v = clipped c v r ws ≡ clippedBy c (freeBy n) r ws
-
-free-by : (c : Cmp) (r : Window) (ws : List Window) (l : List Value) (n : Node) → clippedAt c r ws (some n) (node known search.unknown open′ l n)
-unfolding clipped
-free-by c r ws l (unknown i) = refl
-free-by c r ws l (operation o a b) = refl
-
-free-there : (c : Cmp) (r : Window) (ws : List Window) (ns : List Node) (j : ℕ) (v : Value) → clippedAt c r ws (getD (map some ns) j none) v
-    → clipped c v r ws ≡ clippedBy c (freeBy (getD ns j (operation Op.add (Known (pos 0)) (Known (pos 0))))) r ws
-free-there c r ws [] j v e = e
-free-there c r ws (n ∷ ns) zero v e = e
-free-there c r ws (n ∷ ns) (suc j) v e = free-there c r ws ns j v e
-
-clipped-ok : (c : Cmp) (r : Window) (ws : List Window) (ns : List Node) (v : Cell) → clippedBy c (freeIn ns v) r ws ≡ clipped c (meaning ns v) r ws
-unfolding clipped meaning values
-clipped-ok c r ws ns (Known z) = refl
-clipped-ok c r ws ns (Open j) = sym (free-there c r ws ns j _
-    (subst (λ k. clippedAt c r ws (getD (map some ns) j none) (getD (values ns) k (known (pos 0)))) (omega arith) (pass-at known search.unknown open′ (clippedAt c r ws) (known (pos 0)) (free-by c r ws) refl [] ns j)))
-
-pub narrowed-ok : (ws : List Window) (ns : List Node) (c : Cmp) (a b : Cell) → narrowedIn ns (ranges ws ns) c a b ws ≡ narrowed c (meaning ns a) (meaning ns b) ws
-unfolding narrowedIn narrowed
-narrowed-ok ws ns c a b =
-    ap₂ (λ r us. clippedBy (mirrored c) (freeIn ns b) r us) (range-ok ws ns a) (ap (λ r. clippedBy c (freeIn ns a) r ws) (range-ok ws ns b) ∙ clipped-ok c (range ws (meaning ns b)) ws ns a)
-    ∙ clipped-ok (mirrored c) (range ws (meaning ns a)) (clipped c (meaning ns a) (range ws (meaning ns b)) ws) ns b

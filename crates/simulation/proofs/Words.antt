@@ -78,10 +78,6 @@ words-at (x ∷ xs) h ws before rest i e n =
     ∙ read-back x (h .0))
     (words-at xs (h .1) ws (before ++ kindOf x ∷ wordOf x ∷ []) rest (suc (suc i)) (e ∙ sym (append-assoc before (kindOf x ∷ wordOf x ∷ []) (wordsOf xs ++ rest))) (omega (arith, length-append before (kindOf x ∷ wordOf x ∷ []))))
 
--- entries are read back from their words, wherever they stand
-pub words-back : (l : List Entry) → AllPlain l → (before rest : List ℕ) → entriesIn (before ++ (wordsOf l ++ rest)) (length before) (length l) ≡ l
-words-back l h before rest = words-at l h _ before rest (length before) refl refl
-
 -- ---- a program that fits has such entries
 
 plain-append : (xs ys : List Entry) → AllPlain xs → AllPlain ys → AllPlain (xs ++ ys)
