@@ -114,7 +114,10 @@ fn conclude(places: &[u32], judged: Judged, tokens: usize, root: usize, events: 
     ensures { λ r. ⌜ r ≡ concluded (now (places .entry)) tokens root events judged ⌝ }
 {
     match judged {
-        Judged::Broken(number, i) => Analysed::Refused(number, text_rules::spelling::word(places, i)),
+        Judged::Broken(number, i) => Analysed::Refused(
+            number,
+            text_rules::spelling::word(places, i),
+        ),
         Judged::Kept(functions) => Analysed::Fine {
             tokens,
             root,

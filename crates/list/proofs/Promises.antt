@@ -97,7 +97,7 @@ module _ (text : List ℕ) (low high : ℤ) (steps skip budget : ℕ) (rows : Li
     keeps-only left k =
         let j = jobOf text low high steps in
         let a : answerWith (k .written) (k .moves) (k .ending) ≡ found =
-            promise-unique inUse inUse-sound j (in-32 low high f h) skip (places rows) budget _ (subst (λ (l : List Row). Promised inUse j l skip (places rows) budget (answerWith (k .written) (k .moves) (k .ending))) (plan-list-unique j (k .plans) (k .fixed)) (k .closes)) in
+        promise-unique inUse inUse-sound j (in-32 low high f h) skip (places rows) budget _ (subst (λ (l : List Row). Promised inUse j l skip (places rows) budget (answerWith (k .written) (k .moves) (k .ending))) (plan-list-unique j (k .plans) (k .fixed)) (k .closes)) in
         left-path (k .answered) (k .slice) (k .cleared) ∙ ap (lists rows scratch) a ∙ sym (unfolds none C.accepted g v)
 
   -- a refusal leaves both slices as they were

@@ -11,6 +11,10 @@ ghost use Rattle.text_rules.specs.Names.{ifFound, repeated};
 ghost use Rattle.text_rules.specs.Answers.{event, place, leastWith, storedHeads};
 ghost use Rattle.scopes.specs.Memory.{Held, blocksOf, scopeOf};
 ghost use Rattle.names.specs.Steps.{SeenDeclaration, SeenVariable, SeenCall, SeenEvent, SeenEvents, Named};
+use scopes::lookup::Sought;
+use scopes::lookup::seek;
+use scopes::scope::Scope;
+use scopes::scope::enter;
 use text_rules::broken::Broken;
 use text_rules::broken::lesser;
 use text_rules::heads::Found;
@@ -18,10 +22,6 @@ use text_rules::heads::function_of;
 use text_rules::item::Item;
 use text_rules::item::item_at;
 use text_rules::spelling::word;
-use scopes::lookup::Sought;
-use scopes::lookup::seek;
-use scopes::scope::Scope;
-use scopes::scope::enter;
 
 // What token i means; a token past the end is passed over.
 fn write(slots: &mut [u32], i: usize, means: usize)

@@ -26,8 +26,8 @@ use intervals::Window;
 use machine::Did;
 use machine::Run;
 use machine::Value;
-use ranges::Decided;
 use narrowing::Side;
+use ranges::Decided;
 
 // Where a path stands, beside the memory: the machine's run, the steps that may still be made, how many windows and choices there are, and how many forced outcomes are still to come.
 pub struct Point {

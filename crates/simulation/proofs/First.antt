@@ -12,7 +12,7 @@ use Rattle.simulation.specs.Machine.{Machine, start}
 use Rattle.simulation.specs.Path.{State, begins, outcome, later, End, ended, turn}
 use Rattle.simulation.specs.Lister.{next}
 use Rattle.simulation.specs.Back.{standing, Passes, ChoiceAt, Searched, opens, follows, TakenBack}
-use Rattle.simulation.proofs.Back.{Newest, Flips, flips, Some, first, others, some-append, forcing, Trace, nothing, plain, chose, traced, trace-chosen, trace-none, replay, Found, came-to, same-choice}
+use Rattle.simulation.proofs.Back.{Newest, Flips, flips, Some, first, others, some-append, forcing, Trace, nothing, plain, chose, Traced, traced, trace-chosen, trace-none, replay, Found, came-to, same-choice}
 
 -- ---- lists of outcomes
 
@@ -73,16 +73,22 @@ module _ (solver : Solver) (job : Window) (c : Code) where
       choice : ChoiceAt solver job c machine state
       before : state .chosen ≡ g
 
+    met-of : {p g : List Bool} {o : Bool} → Found solver job c (start known work c) (begins most p) g o → Met p g
+    met-of u = record { machine = u .machine; state = u .state; passes = u .passes; choice = u .choice; before = trace-chosen solver job c (u .trace) ∙ u .is }
+
     -- where the next path comes to a choice with an outcome still forced, the path before it came to that choice too
-    met-before : {p₁ q : List Bool} {m₁ m : Machine Value} {s₁ s₂ s : State} {e₁ : End} → Passes solver job c (start known work c) (begins most p₁) m₁ s₁ → turn solver job c m₁ s₁ .went ≡ ended e₁ s₂ → next (s₂ .chosen) ≡ some q
-        → Passes solver job c (start known work c) (begins most q) m s → (o : Bool) (f : List Bool) → s .forced ≡ o ∷ f → Met p₁ (s .chosen)
-    met-before {p₁} {q} {s₂ = s₂} r₁ x n r o f e =
-        let b : Newest (s₂ .chosen) q = subst (Flips (s₂ .chosen)) n (flips (s₂ .chosen)) in
-        let t = traced solver job c r in
-        let a : t .outcomes ++ o ∷ f ≡ b .front ++ false ∷ [] = sym (trace-forced (t .trace) (subst Some (sym e) tt) ∙ ap (λ (l : List Bool). t .outcomes ++ l) e) ∙ b .flipped in
-        let z = splits (t .outcomes) f (b .front) (b .rest) o false true a in
-        let u = came-to solver job c most p₁ r₁ x (t .outcomes) (z .rest) (z .next) (b .split ∙ z .split) in
-        record { machine = u .machine; state = u .state; passes = u .passes; choice = u .choice; before = trace-chosen solver job c (u .trace) ∙ u .is ∙ sym (trace-chosen solver job c (t .trace)) }
+    module _ {p₁ q : List Bool} {m₁ m : Machine Value} {s₁ s₂ s : State} {e₁ : End} (r₁ : Passes solver job c (start known work c) (begins most p₁) m₁ s₁) (x : turn solver job c m₁ s₁ .went ≡ ended e₁ s₂) where
+      met-by : (t : Traced solver job c (start known work c) (begins most q) m s) (b : Newest (s₂ .chosen) q) (o : Bool) (f : List Bool) → s .forced ≡ o ∷ f → Splits (t .outcomes) (b .front ++ true ∷ b .rest)
+      met-by t b o f e = splits (t .outcomes) f (b .front) (b .rest) o false true (sym (trace-forced (t .trace) (subst Some (sym e) tt) ∙ ap (λ (l : List Bool). t .outcomes ++ l) e) ∙ b .flipped)
+
+      met-at : (t : Traced solver job c (start known work c) (begins most q) m s) (b : Newest (s₂ .chosen) q) → Splits (t .outcomes) (b .front ++ true ∷ b .rest) → Met p₁ (s .chosen)
+      met-at t b z = subst (Met p₁) (sym (trace-chosen solver job c (t .trace))) (met-of (came-to solver job c most p₁ r₁ x (t .outcomes) (z .rest) (z .next) (b .split ∙ z .split)))
+
+      met-before : next (s₂ .chosen) ≡ some q → Passes solver job c (start known work c) (begins most q) m s → (o : Bool) (f : List Bool) → s .forced ≡ o ∷ f → Met p₁ (s .chosen)
+      met-before n r o f e = met-at (traced solver job c r) b (met-by (traced solver job c r) b o f e)
+        where
+          b : Newest (s₂ .chosen) q
+          b = subst (Flips (s₂ .chosen)) n (flips (s₂ .chosen))
 
     -- each choice that a path comes to was made on it or on an earlier one
     first-made : {earlier : List (List Bool)} {p : List Bool} → Searched solver job c most earlier p → {m : Machine Value} {s : State} → Passes solver job c (start known work c) (begins most p) m s → ChoiceAt solver job c m s → Made (p ∷ earlier) (s .chosen)
