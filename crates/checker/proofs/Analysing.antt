@@ -14,7 +14,8 @@ use Rattle.lexer.specs.Parts as W
 use Rattle.lexer.specs.Parts.{Lexes, stored}
 use Rattle.lexer.specs.declared.Lexed.{Lexed}
 use Rattle.lexer.specs.declared.Lexed.the-variants as X
-use Rattle.lexer.proofs.Theorems.{Scans, Ended, the-end, before-end, lexed-tokens, end-last, count, stored-length, stored-kinds, stored-places}
+use Rattle.lexer.specs.Tokens.{Scans}
+use Rattle.lexer.proofs.Theorems.{Ended, the-end, before-end, lexed-tokens, end-last, count, stored-length, stored-kinds, stored-places}
 use Rattle.grammar.specs.Text.{Tokens}
 use Rattle.checker.specs.Check.{Verdict, accepted, refused, checkedTokens, checked, kinds, places, values}
 use Rattle.checker.specs.Analysis.{Lent, Slices, Settles, Known, Analyses}

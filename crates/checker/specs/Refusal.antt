@@ -5,7 +5,7 @@ use mathlib.Core.List.{List, [], _∷_, _++_}
 use lib.ListN.{length, getD}
 use Rattle.lexer.specs.Lex as L
 use Rattle.lexer.specs.Lex.{Token, lexed, found, stray}
-use Rattle.lexer.proofs.Theorems.{Scans, FirstLarge}
+use Rattle.lexer.specs.Tokens.{Scans, FirstLarge}
 use Rattle.syntax.specs.Tree.{Tree, prog}
 use Rattle.syntax.specs.Abstract.{ast}
 use Rattle.grammar.specs.Text as G

@@ -36,27 +36,10 @@ use Rattle.lexer.specs.Lex.{
   noneLarge,
   lexed,
 }
+use Rattle.lexer.specs.Tokens.{Longest, endAt, Blanks, Scans, ended, strayed, next, next-stray, FirstLarge, here, there}
 use Rattle.lexer.specs.Parts.{stored, kindsOf, placesOf}
 use Rattle.lexer.proofs.Fronts.{size-value}
-use Rattle.lexer.proofs.Loop.{Longest, front-longest, at-blank, at-nothing, at-size, at-token}
-
--- the end of a text of n bytes
-abbrev pub endAt : ℕ → Token
-endAt n = record { kind = kEnd; place = n; value = 0 }
-
--- from place p up to place q there are only blanks
-pub record Blanks (text : List ℕ) (p q : ℕ) : Type 0 where
-  pub ordered : p ≤ q
-  pub all-blank : (i : ℕ) → p ≤ i → i < q → isBlank (getD text i 0) ≡ true
-
--- What there is from place p on: blanks, then the longest token that begins there, and so on; at last blanks and the end, or a byte that begins no token.
-pub data Scans (text : List ℕ) : ℕ → Scanned → Type 0 where
-  ended : {p : ℕ} → Blanks text p (length text) → Scans text p (found (endAt (length text) ∷ []))
-  strayed : {p q : ℕ} → Blanks text p q → q < length text → front (drop q text) ≡ nothing → Scans text p (stray [] q)
-  next : {p : ℕ} {t : Token} {ts : List Token} (size : ℕ) → Blanks text p (t .place) → Longest (drop (t .place) text) (t .kind) size (t .value) → Scans text (t .place + size) (found ts)
-      → Scans text p (found (t ∷ ts))
-  next-stray : {p q : ℕ} {t : Token} {ts : List Token} (size : ℕ) → Blanks text p (t .place) → Longest (drop (t .place) text) (t .kind) size (t .value) → Scans text (t .place + size) (stray ts q)
-      → Scans text p (stray (t ∷ ts) q)
+use Rattle.lexer.proofs.Loop.{front-longest, at-blank, at-nothing, at-size, at-token}
 
 -- the first byte of a blank front
 front-blank : (l : List ℕ) (i : ℕ) → i < length l → front (drop i l) ≡ blank → isBlank (getD l i 0) ≡ true
@@ -114,11 +97,6 @@ scans-from (suc d) l i h k = go (decLt i (length l)) (front (drop i l)) refl (λ
 pub data Small : List Token → Type 0 where
   none : Small []
   one : {t : Token} {ts : List Token} → isLarge t ≡ false → Small ts → Small (t ∷ ts)
-
--- the first large token stands at p
-pub data FirstLarge : List Token → ℕ → Type 0 where
-  here : {t : Token} {ts : List Token} → isLarge t ≡ true → FirstLarge (t ∷ ts) (t .place)
-  there : {t : Token} {ts : List Token} {p : ℕ} → isLarge t ≡ false → FirstLarge ts p → FirstLarge (t ∷ ts) p
 
 -- THEOREM. What the answer of the definition says of a text, in each of its cases.
 pub data Right (text : List ℕ) : Lexing → Type 0 where
@@ -183,13 +161,6 @@ inside (ended b) (suc i) d h = absurd (omega arith)
 inside {text = text} (next {t = t} size b f c) zero d h = omega (arith, f .some, f .fits, length-drop (t .place) text)
 inside (next size b f c) (suc i) d h = inside c i d (omega arith)
 
-pub bytes-inside : {text : List ℕ} {p : ℕ} {ts : List Token} → Scans text p (found ts) → (i : ℕ) (d : Token) → i < length ts → eqb ((getD ts i d) .kind) kNumber ≡ false
-    → (getD ts i d) .place + (getD ts i d) .value ≤ length text
-bytes-inside (ended b) zero d h e = omega arith
-bytes-inside (ended b) (suc i) d h e = absurd (omega arith)
-bytes-inside {text = text} (next {t = t} size b f c) zero d h e = omega (arith, f .some, f .fits, length-drop (t .place) text, token-fits f e)
-bytes-inside (next size b f c) (suc i) d h e = bytes-inside c i d (omega arith) e
-
 -- The tokens that the code has stored, one by one.
 pub stored-length : (n : ℕ) (ks ps vs : List ℕ) → length (stored n ks ps vs) ≡ n
 unfolding stored
@@ -231,8 +202,3 @@ right-tokens (has-tokens h s m) = (h, s, m)
 
 pub lexed-tokens : (text : List ℕ) (ts : List Token) → lexed text ≡ tokens ts → (length text ≤ 2048) × Scans text 0 (found ts) × Small ts
 lexed-tokens text ts e = right-tokens (subst (λ (a : Lexing). Right text a) e (lexed-right text))
-
-pub small-at : {ts : List Token} → Small ts → (i : ℕ) (d : Token) → i < length ts → isLarge (getD ts i d) ≡ false
-small-at none i d h = absurd (omega arith)
-small-at (one e s) zero d h = e
-small-at (one e s) (suc i) d h = small-at s i d (omega arith)
