@@ -1,4 +1,4 @@
--- What a refusal says of a text (document 01, "Check"), number by number, without readers. That check refuses exactly so is proved in proofs/Refusals.
+-- What a refusal says of a text (document 01, "Check"), number by number, without the readers of the grammar. That check refuses exactly so is proved in proofs/Refusals.
 use Prim.Native.Nat.{ℕ, _≤_, _<_}
 use mathlib.Core.Path.{_≡_}
 use mathlib.Core.List.{List, [], _∷_, _++_}
