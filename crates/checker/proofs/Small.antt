@@ -7,7 +7,8 @@ use native.Mathlib.Omega.{arith}
 use lib.ListN.{length, getD, length-drop}
 use Rattle.lexer.specs.Lex as L
 use Rattle.lexer.specs.Lex.{Token, Scanned, lexed, found, stray}
-use Rattle.lexer.proofs.Theorems.{Scans, ended, strayed, next, next-stray, Right, has-tokens, too-long, no-token, too-large, FirstLarge, here, there, lexed-right}
+use Rattle.lexer.specs.Tokens.{Scans, ended, strayed, next, next-stray, FirstLarge, here, there}
+use Rattle.lexer.proofs.Theorems.{Right, has-tokens, too-long, no-token, too-large, lexed-right}
 use Rattle.grammar.specs.Parse.{Res, ok, bad, parsed}
 use Rattle.syntax.specs.Tree as T
 use Rattle.syntax.specs.Abstract.{ast}

@@ -1,4 +1,4 @@
--- Check (document 01, "The three operations and the program"): what it answers for every text.
+-- Check (document 01, "The three operations and the program"): what it answers for every text, and the program of a text that the grammar accepts.
 use Prim.Native.Nat.{ℕ, _-_}
 use mathlib.Core.Bool.{Bool}
 use mathlib.Core.List.{List, [], _∷_, map}

@@ -50,7 +50,7 @@ unfolding front
 front-blank b bs e = rw (e, front)
 
 module _ (b : ℕ) (bs : List ℕ) (e : isBlank b ≡ false) where
-  front-token : (n : ℕ) → longest (b ∷ bs) ≡ suc n → front (b ∷ bs) ≡ token (kindOf (b ∷ take n bs)) (suc n) (valueOf (b ∷ take n bs))
+  pub front-token : (n : ℕ) → longest (b ∷ bs) ≡ suc n → front (b ∷ bs) ≡ token (kindOf (b ∷ take n bs)) (suc n) (valueOf (b ∷ take n bs))
   unfolding front
   front-token n h = rw (e, front) (rw h)
 

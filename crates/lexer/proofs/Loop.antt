@@ -36,6 +36,7 @@ use Rattle.lexer.specs.Lex.{
   noneLarge,
   lexed,
 }
+use Rattle.lexer.specs.Tokens.{Longest}
 use Rattle.lexer.specs.Parts.{limit, held, pieceOf, largeAs, firstLarge, stored}
 use Rattle.lexer.specs.declared.Piece.{Piece}
 use Rattle.lexer.specs.declared.Piece.the-variants as piece
@@ -59,15 +60,6 @@ longest-token (suc n) l m e = go (eqb (kindOf (take (suc n) l)) kEnd) refl e (λ
         → (longestWithin n l ≡ suc m → eqb (kindOf (take (suc m) l)) kEnd ≡ false) → eqb (kindOf (take (suc m) l)) kEnd ≡ false
     go true q e f = f e
     go false q e f = let z : n ≡ m = omega arith in subst (λ (x : ℕ). eqb (kindOf (take (suc x) l)) kEnd ≡ false) z q
-
--- a token at the front of l: the longest one, with its kind and value
-pub record Longest (l : List ℕ) (kind size value : ℕ) : Type 0 where
-  pub some : 1 ≤ size
-  pub fits : size ≤ length l
-  pub longest : size ≡ longest l
-  pub kind-of : kind ≡ kindOf (take size l)
-  pub is-token : eqb kind kEnd ≡ false
-  pub value-of : value ≡ valueOf (take size l)
 
 pub front-longest : (l : List ℕ) (k m v : ℕ) → front l ≡ token k m v → Longest l k m v
 unfolding front
