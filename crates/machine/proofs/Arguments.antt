@@ -17,6 +17,7 @@ use Rattle.simulation.specs.Nodes as nodes
 use Rattle.simulation.specs.Nodes.{Cell, Within, meaning}
 use Rattle.simulation.specs.Words.{kinds, entriesIn, entryOf, codeIn}
 use Rattle.simulation.proofs.Words.{entry-in, length-entries}
+use Rattle.machine.specs.Layout.{frameCells, frameWords, framePlace, variablePlace, cellPlace, callerPlace, callerBase}
 use Rattle.machine.specs.Memory.{Sym, cellAs, cellAt, nodesIn, cells, temps, frameAt, callers}
 use Rattle.machine.specs.Contracts.{cellOf, Room, Stacked, Ready, Other, Kept, Put, Reads, Taking, Blank, topped, Gathering, Goes, acts}
 use Rattle.machine.specs.declared.Value.{Value}
@@ -49,7 +50,7 @@ zero-cells f g m i (suc k) h =
 
 module _ (ws : List ℕ) (size e : ℕ) where
   extent-entry : e < size → extent (getD (codeIn ws size .entries) e (act Act.fail)) ≡ extent (entryOf (getD ws (2 * e) 0) (getD ws (2 * e + 1) 0))
-  extent-entry h = ap extent (entry-in ws 0 size e h ∙ ap₂ (λ i j. entryOf (getD ws i 0) (getD ws j 0)) {x = 0 + 2 * e} {y = 2 * e} {u = suc (0 + 2 * e)} {v = 2 * e + 1} (omega arith) (omega arith))
+  extent-entry h = ap extent (entry-in ws 0 size e h ∙ ap₂ (λ i j. entryOf (getD ws i 0) (getD ws j 0)) {x = 0 + 2 * e} {y = cellPlace e} {u = suc (0 + 2 * e)} {v = 2 * e + 1} (omega arith) (omega arith))
 
   pub extent-is : e < size → getD ws (2 * e) 0 ≡ 3 → getD ws (2 * e + 1) 0 ≡ extent (getD (codeIn ws size .entries) e (act Act.fail))
   unfolding entryOf
@@ -104,7 +105,7 @@ before-is zero = omega arith
 before-is (suc j) = omega arith
 
 -- the next frame is written, and the rest stays
-module _ (m m₂ : List ℕ) (r : Run) (ready : Ready m r) (deep : r .depth < 32) (len : length m₂ ≡ length m) (o : Other m m₂ (32 * (r .depth + 1)) (32 * (r .depth + 1) + 32)) where
+module _ (m m₂ : List ℕ) (r : Run) (ready : Ready m r) (deep : r .depth < 32) (len : length m₂ ≡ length m) (o : Other m m₂ (framePlace (r .depth + 1)) (framePlace (r .depth + 1) + frameWords)) where
   same-next : Same m m₂ (r .depth + 1) (r .depth) (r .top) (r .nodes)
   same-next = record {
     d-fits = omega arith;
@@ -141,14 +142,14 @@ module _ (ws : List ℕ) (size : ℕ) (m : List ℕ) (r : Run) (n : ℕ) (deep :
   c = codeIn ws size
 
   abbrev next-at : ℕ
-  next-at = 32 * (r .depth + 1)
+  next-at = framePlace (r .depth + 1)
 
   -- none was taken, and the frame is blank
-  pub gathering-none : (m₂ : List ℕ) → Ready m r → length m₂ ≡ length m → Blank m m₂ next-at 16 → Gathering c m₂ m₂ r n n (r .pc) (r .top)
+  pub gathering-none : (m₂ : List ℕ) → Ready m r → length m₂ ≡ length m → Blank m m₂ next-at frameCells → Gathering c m₂ m₂ r n n (r .pc) (r .top)
   gathering-none m₂ ready len b = record {
     values = [];
     is = λ f g. refl;
-    framed = λ f g. frame-zeros (known (pos 0)) 16 n ∙ zero-cells f g m₂ next-at 16 (λ k l. b .cell k l);
+    framed = λ f g. frame-zeros (known (pos 0)) 16 n ∙ zero-cells f g m₂ next-at frameCells (λ k l. b .cell k l);
     ready = ready-next m m₂ r ready deep len (b .other);
     high = omega arith;
     other = record { outside = λ k l. refl };
@@ -156,7 +157,7 @@ module _ (ws : List ℕ) (size : ℕ) (m : List ℕ) (r : Run) (n : ℕ) (deep :
   }
 
   -- all were taken
-  pub gathering-all : (m₁ m₂ : List ℕ) (j top : ℕ) → Ready m r → length m₁ ≡ length m → Blank m m₁ next-at 16 → Gathering c m₁ m₂ r n 0 j top → Gathering c m m₂ r n 0 0 top
+  pub gathering-all : (m₁ m₂ : List ℕ) (j top : ℕ) → Ready m r → length m₁ ≡ length m → Blank m m₁ next-at frameCells → Gathering c m₁ m₂ r n 0 j top → Gathering c m m₂ r n 0 0 top
   unfolding gather
   gathering-all m₁ m₂ j top ready len b g = record {
     values = g .values;
@@ -198,7 +199,7 @@ module _ (ws : List ℕ) (size : ℕ) (m : List ℕ) (r : Run) (n : ℕ) (deep :
       is = λ f u. g .is f u ∙ gather-one f u d e ∙ ap₂ (λ x ts. gather known search.work c x ts k (before j - d) (f (cellOf v) ∷ map f (g .values))) (frame-next m₁ m₂ (topped r top₂) ready₁ deep len o f) (temps-next m₁ m₂ (topped r top₂) ready₁ deep len o f);
       framed = λ f u. frame-one (known (pos 0)) (f (cellOf v)) 16 k (map f (g .values)) h
           ∙ ap (λ l. set l k (f (cellOf v))) (g .framed f u)
-          ∙ cells-set m₁ m₂ (r .nodes) f f (λ v h. refl) (cellOf v) next-at 16 k h (p .cell) apart (g .within);
+          ∙ cells-set m₁ m₂ (r .nodes) f f (λ v h. refl) (cellOf v) next-at frameCells k h (p .cell) apart (g .within);
       ready = ready-next m₁ m₂ (topped r top₂) ready₁ deep len o;
       high = omega (arith, t .high, g .high);
       other = record { outside = λ i l. o .outside i l ∙ g .other .outside i l };
@@ -207,7 +208,7 @@ module _ (ws : List ℕ) (size : ℕ) (m : List ℕ) (r : Run) (n : ℕ) (deep :
           (three i k);
     }
       where
-        o : Other m₁ m₂ next-at (next-at + 32)
+        o : Other m₁ m₂ next-at (next-at + frameWords)
         o = record { outside = λ i l. p .other .outside i (λ x y. l (omega arith) (omega arith)) }
 
         apart : (i : ℕ) → i < 16 → i ≢ k → cellAt m₂ (next-at + 2 * i) ≡ cellAt m₁ (next-at + 2 * i)
@@ -246,19 +247,19 @@ start-is ws size g h l = getD-take 16 (drop (2 * size) ws) g 2 l ∙ getD-drop (
 module _ (ws : List ℕ) (size : ℕ) (m m₂ : List ℕ) (r : Run) (g n top : ℕ) (long : 2 * size + 16 ≤ length ws) (ready : Ready m r) (deep : r .depth < 32) (gl : g < 16) (len : length m₂ ≡ length m)
     (s : Gathering (codeIn ws size) m m₂ r n 0 0 top) where
   abbrev m₃ : List ℕ
-  m₃ = set (set m₂ (1056 + 2 * r .depth) (r .pc + 1)) (1057 + 2 * r .depth) (r .base)
+  m₃ = set (set m₂ (callerPlace (r .depth)) (r .pc + 1)) (callerBase (r .depth)) (r .base)
 
   abbrev f₀ : Cell → Sym
   f₀ = meaning (nodesIn m (r .nodes))
 
-  unwritten : (k : ℕ) → k ≢ 1056 + 2 * r .depth → k ≢ 1057 + 2 * r .depth → getD m₃ k 0 ≡ getD m₂ k 0
-  unwritten k a b = getD-set-other (set m₂ (1056 + 2 * r .depth) (r .pc + 1)) (1057 + 2 * r .depth) k (r .base) 0 b ∙ getD-set-other m₂ (1056 + 2 * r .depth) k (r .pc + 1) 0 a
+  unwritten : (k : ℕ) → k ≢ callerPlace (r .depth) → k ≢ callerBase (r .depth) → getD m₃ k 0 ≡ getD m₂ k 0
+  unwritten k a b = getD-set-other (set m₂ (callerPlace (r .depth)) (r .pc + 1)) (callerBase (r .depth)) k (r .base) 0 b ∙ getD-set-other m₂ (callerPlace (r .depth)) k (r .pc + 1) 0 a
 
-  saved-pc : getD m₃ (1056 + 2 * r .depth) 0 ≡ r .pc + 1
-  saved-pc = getD-set-other (set m₂ (1056 + 2 * r .depth) (r .pc + 1)) (1057 + 2 * r .depth) (1056 + 2 * r .depth) (r .base) 0 (omega arith) ∙ getD-set-same m₂ (1056 + 2 * r .depth) (r .pc + 1) 0 (omega (arith, ready .tops .words))
+  saved-pc : getD m₃ (callerPlace (r .depth)) 0 ≡ r .pc + 1
+  saved-pc = getD-set-other (set m₂ (callerPlace (r .depth)) (r .pc + 1)) (callerBase (r .depth)) (callerPlace (r .depth)) (r .base) 0 (omega arith) ∙ getD-set-same m₂ (callerPlace (r .depth)) (r .pc + 1) 0 (omega (arith, ready .tops .words))
 
-  saved-base : getD m₃ (1057 + 2 * r .depth) 0 ≡ r .base
-  saved-base = getD-set-same (set m₂ (1056 + 2 * r .depth) (r .pc + 1)) (1057 + 2 * r .depth) (r .base) 0 (simp length-set (omega (arith, ready .tops .words)))
+  saved-base : getD m₃ (callerBase (r .depth)) 0 ≡ r .base
+  saved-base = getD-set-same (set m₂ (callerPlace (r .depth)) (r .pc + 1)) (callerBase (r .depth)) (r .base) 0 (simp length-set (omega (arith, ready .tops .words)))
 
   same₃ : Same m₂ m₃ (r .depth + 2) (r .depth) top (r .nodes)
   same₃ = record {
@@ -274,11 +275,11 @@ module _ (ws : List ℕ) (size : ℕ) (m m₂ : List ℕ) (r : Run) (g n top : �
   kept₃ = kept-then (kept-low (r .nodes) (s .other) (omega arith)) (same₃ .kept)
 
   -- the new frame, the caller's, and the callers'
-  within₂ : (j : ℕ) → j < 16 * (r .depth + 1) + 16 → Within (r .nodes) (cellAt m₂ (2 * j))
-  within₂ j l = ⊎-elim (λ e. at-next j l (omega arith)) (λ h. ⊎-elim (λ h. s .ready .framed j (omega arith)) (λ h. at-next j l (omega arith)) h) (three j (16 * (r .depth + 1)))
+  within₂ : (j : ℕ) → j < frameCells * (r .depth + 1) + frameCells → Within (r .nodes) (cellAt m₂ (cellPlace j))
+  within₂ j l = ⊎-elim (λ e. at-next j l (omega arith)) (λ h. ⊎-elim (λ h. s .ready .framed j (omega arith)) (λ h. at-next j l (omega arith)) h) (three j (frameCells * (r .depth + 1)))
     where
-      at-next : (j : ℕ) → j < 16 * (r .depth + 1) + 16 → 16 * (r .depth + 1) ≤ j → Within (r .nodes) (cellAt m₂ (2 * j))
-      at-next j l h = subst (λ (i : ℕ). Within (r .nodes) (cellAt m₂ i)) {x = 32 * (r .depth + 1) + 2 * (j - 16 * (r .depth + 1))} {y = 2 * j} (omega arith) (s .within (j - 16 * (r .depth + 1)) (omega arith))
+      at-next : (j : ℕ) → j < frameCells * (r .depth + 1) + frameCells → frameCells * (r .depth + 1) ≤ j → Within (r .nodes) (cellAt m₂ (cellPlace j))
+      at-next j l h = subst (λ (i : ℕ). Within (r .nodes) (cellAt m₂ i)) {x = variablePlace (r .depth + 1) (j - frameCells * (r .depth + 1))} {y = cellPlace j} (omega arith) (s .within (j - frameCells * (r .depth + 1)) (omega arith))
 
   frame-new : frame (known (pos 0)) 16 (map f₀ (s .values)) ≡ frameAt f₀ m₃ (r .depth + 1)
   frame-new = s .framed f₀ (reads (nodesIn m (r .nodes))) ∙ frame-same same₃ f₀ f₀ (λ v h. refl) (r .depth + 1) (omega arith) within₂
@@ -297,10 +298,10 @@ module _ (ws : List ℕ) (size : ℕ) (m m₂ : List ℕ) (r : Run) (g n top : �
   unfolding callers
   callers-new =
       (λ i. record { pc = pc-is i; temps = temps-old i; frame = frame-old i } ∷ callers-old i)
-      ∙ ap (λ (b : ℕ). record { pc = getD m₃ (1056 + 2 * r .depth) 0; temps = temps f₀ m₃ b (top - b); frame = frameAt f₀ m₃ (r .depth) } ∷ callers f₀ m₃ (r .depth) b) (sym saved-base)
+      ∙ ap (λ (b : ℕ). record { pc = getD m₃ (callerPlace (r .depth)) 0; temps = temps f₀ m₃ b (top - b); frame = frameAt f₀ m₃ (r .depth) } ∷ callers f₀ m₃ (r .depth) b) (sym saved-base)
       ∙ ap (λ (d : ℕ). callers f₀ m₃ d top) {x = suc (r .depth)} {y = r .depth + 1} (omega arith)
     where
-      pc-is : suc (r .pc) ≡ getD m₃ (1056 + 2 * r .depth) 0
+      pc-is : suc (r .pc) ≡ getD m₃ (callerPlace (r .depth)) 0
       pc-is = omega (arith, saved-pc)
 
   temps-new : _≡_ {A = List Sym} [] (temps f₀ m₃ top (top - top))
@@ -328,7 +329,7 @@ module _ (ws : List ℕ) (size : ℕ) (m m₂ : List ℕ) (r : Run) (g n top : �
       tops = record { words = simp length-set (omega (arith, s .ready .tops .words)); small = s .ready .tops .small };
       few = record { words = simp length-set (omega (arith, s .ready .few .words)); small = s .ready .few .small };
       stack = stacked₃;
-      framed = λ i l. subst (Within (r .nodes)) (sym (frame-cell same₃ (2 * i) (omega arith))) (within₂ i l);
+      framed = λ i l. subst (Within (r .nodes)) (sym (frame-cell same₃ (cellPlace i) (omega arith))) (within₂ i l);
       held = λ i l. subst (Within (r .nodes)) (sym (temp-cell same₃ i l)) (s .ready .held i l);
     };
     kept = kept₃;

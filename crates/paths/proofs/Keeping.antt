@@ -14,6 +14,7 @@ use Rattle.simulation.specs.Nodes.{Cell, testOf, meaning, ranges}
 use Rattle.simulation.proofs.Bounds.{Framed, Sound}
 use Rattle.simulation.proofs.Drive as drive
 use Rattle.simulation.proofs.Drive.{turns-left, Nears, Nearer, turn-nears}
+use Rattle.machine.specs.Layout.{frameCells, framePlace}
 use Rattle.machine.specs.Memory.{nodesIn, cells, callers, machineAt, windowsIn, testsIn, outcomesIn, testAt}
 use Rattle.ints.specs.Numbers.{comparison}
 use Rattle.machine.specs.Contracts.{meant, Room, Kept, Ready, Goes, Gave, Tested, flagged, Done}
@@ -128,13 +129,13 @@ module _ {X : Type 0} (f : Cell → X) (m : List ℕ) where
   callers-framed : (d top : ℕ) → Framed (callers f m d top)
   unfolding callers
   callers-framed zero top = tt
-  callers-framed (suc d) top = (cells-length (32 * d) 16, callers-framed d _)
+  callers-framed (suc d) top = (cells-length (framePlace d) frameCells, callers-framed d _)
 
 pub sound-of : (m : List ℕ) (r : Run) → Ready m r → Sound (r .top + r .depth) (machineAt m r)
 sound-of m r h = record {
   few = omega (arith, held-is m r h);
   nested = omega (arith, callers-length (meaning (nodesIn m (r .nodes))) m (r .depth) (r .base), h .deep);
-  framed = cells-length (meaning (nodesIn m (r .nodes))) m (32 * r .depth) 16;
+  framed = cells-length (meaning (nodesIn m (r .nodes))) m (framePlace (r .depth)) frameCells;
   frames = callers-framed (meaning (nodesIn m (r .nodes))) m (r .depth) (r .base);
 }
 

@@ -18,6 +18,7 @@ use Rattle.simulation.proofs.Bounds.{sound-start}
 use Rattle.simulation.proofs.Drive.{turns-left, kept-start, turns-le}
 use Rattle.intervals.specs.Meaning.{Filled}
 use Rattle.ranges.proofs.Ranges.{filled}
+use Rattle.machine.specs.Layout.{outcomePlace}
 use Rattle.machine.specs.Memory.{nodesIn, machineAt, rangesIn, testsIn, outcomesIn}
 use Rattle.machine.specs.Contracts.{Room, Started}
 use Rattle.machine.specs.declared.Run.{Run}
@@ -155,7 +156,7 @@ module _ (c : Code) (job : Window) (limit : ℕ) where
 
     -- the forced outcomes are as they were
     pub forced-same : outcomesIn m′ 0 f ≡ outcomesIn m 0 f
-    forced-same = outcomes-same m m′ 0 f (λ j a b. s .other .outside (1211 + 12 * j) (λ u v. omega arith))
+    forced-same = outcomes-same m m′ 0 f (λ j a b. s .other .outside (outcomePlace j) (λ u v. omega arith))
 
     empty : Tables m′ 0 0
     unfolding rangesIn nodesIn ranges pass

@@ -9,6 +9,7 @@ use Rattle.semantics.specs.Run.{Window}
 use Rattle.semantics.specs.Search.{narrowed, byRanges}
 use Rattle.simulation.specs.Path.{State, state, outcome, holding, chose, on, comparing}
 use Rattle.simulation.specs.Nodes.{Within, Noted, testOf}
+use Rattle.machine.specs.Layout.{windowsPlace, tempPlace, nodeEnd}
 use Rattle.machine.specs.Memory.{nodesIn, machineAt, windowsIn, testsIn, outcomesIn, testAt}
 use Rattle.machine.specs.Contracts.{cellOf, Sized, meant, Room, Ready, flagged}
 use Rattle.machine.specs.declared.Value as code
@@ -40,8 +41,8 @@ pub record Going (m : List ℕ) (p : Point) : Type 0 where
 
 -- the words on which the machine stands are as they were
 pub record Machinery (m m′ : List ℕ) : Type 0 where
-  pub low : (k : ℕ) → k < 1120 → getD m′ k 0 ≡ getD m k 0
-  pub tables : (k j : ℕ) → 1200 + 12 * j ≤ k → k < 1205 + 12 * j → getD m′ k 0 ≡ getD m k 0
+  pub low : (k : ℕ) → k < windowsPlace → getD m′ k 0 ≡ getD m k 0
+  pub tables : (k j : ℕ) → tempPlace j ≤ k → k < nodeEnd j → getD m′ k 0 ≡ getD m k 0
 
 -- a value on the first n nodes
 pub record Usable (n : ℕ) (v : code.Value) : Type 0 where

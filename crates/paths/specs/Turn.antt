@@ -4,6 +4,7 @@ use mathlib.Core.Bool.{Bool}
 use mathlib.Core.List.{List}
 use Prim.Native.Nat.{ℕ, _+_, _-_, _*_, _≤_, _<_}
 use Rattle.simulation.specs.Path.{Turn, End, returned, failed, cut, on, ended, still}
+use Rattle.machine.specs.Layout.{rangeLow, rangeEnd}
 use Rattle.machine.specs.Memory.{nodeAt, machineAt}
 use Rattle.machine.specs.Contracts.{meant, Ready, Other, Formed}
 use Rattle.machine.specs.declared.Value as code
@@ -24,7 +25,7 @@ pub record Growing (m : List ℕ) (n nodes : ℕ) : Type 0 where
 
 -- the new node, if there is one, got its range, and no other word changed
 pub record Grown (m m′ : List ℕ) (k n nodes : ℕ) : Type 0 where
-  pub other : Other m m′ (1205 + 12 * n) (1207 + 12 * n)
+  pub other : Other m m′ (rangeLow n) (rangeEnd n)
   pub tables : Tables m′ k nodes
 
 -- ---- points

@@ -15,6 +15,7 @@ use Rattle.simulation.specs.Path.{begins, End}
 use Rattle.simulation.specs.Lister as lister
 use Rattle.simulation.specs.Lister.{go, over, then, next, Start, finish, back, path}
 use Rattle.simulation.specs.Placed.{Placed}
+use Rattle.machine.specs.Layout.{outcomePlace}
 use Rattle.machine.specs.Memory.{outcomesIn}
 use Rattle.settings.specs.declared.Tally.{Tally}
 use Rattle.settings.specs.declared.Tried.{Tried}
@@ -41,7 +42,7 @@ forcedIn m (Forced k) = some (outcomesIn m 0 k)
 -- of n choices the newest true one was taken back, if there is one; no word but an outcome's changed
 pub record NewestBack (m m′ : List ℕ) (n : ℕ) (r : Next) : Type 0 where
   pub is : forcedIn m′ r ≡ next (outcomesIn m 0 n)
-  pub other : (i : ℕ) → ((j : ℕ) → j < n → i ≡ 1211 + 12 * j → ⊥) → getD m′ i 0 ≡ getD m i 0
+  pub other : (i : ℕ) → ((j : ℕ) → j < n → i ≡ outcomePlace j → ⊥) → getD m′ i 0 ≡ getD m i 0
 
 -- ---- the answer
 

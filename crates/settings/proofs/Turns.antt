@@ -20,6 +20,7 @@ use Rattle.simulation.specs.Odometer.{filled, lowest, after}
 use Rattle.simulation.proofs.Odometer.{AtHigh, after-last, after-up}
 use Rattle.intervals.specs.Meaning.{ofPairs}
 use Rattle.window_memory.specs.Memory.{pairsAt}
+use Rattle.machine.specs.Layout.{windowLow, windowHigh, valuePlace}
 use Rattle.machine.specs.Memory.{windowsIn, settingIn}
 use Rattle.settings.specs.Table.{windowAt, valueAt, Wrote, Anew, First, Follows}
 use Rattle.settings.proofs.Entries.{upTo, setting-is}
@@ -61,13 +62,13 @@ tab-same f g i (suc d) h = ap₂ (λ x l. x ∷ l) (h i (omega arith) (omega ari
 
 -- ---- windows and setting
 
-take-pairs : (m : List ℕ) (i k n : ℕ) → k ≤ n → take k (ofPairs (pairsAt m (1120 + 2 * i) n)) ≡ tab (windowAt m) i k
+take-pairs : (m : List ℕ) (i k n : ℕ) → k ≤ n → take k (ofPairs (pairsAt m (windowLow i) n)) ≡ tab (windowAt m) i k
 unfolding pairsAt tab
 take-pairs m i zero n h = refl
 take-pairs m i (suc k) zero h = absurd (omega arith)
 take-pairs m i (suc k) (suc n) h = ap₂ (λ (w : Window) (ws : List Window). w ∷ ws)
-    (ap (λ (j : ℕ). to (toZ w32 (getD m (1120 + 2 * i) 0)) (toZ w32 (getD m j 0))) {x = 1120 + 2 * i + 1} {y = 1121 + 2 * i} (omega arith))
-    (ap (λ (j : ℕ). take k (ofPairs (pairsAt m j n))) {x = 1120 + 2 * i + 2} {y = 1120 + 2 * suc i} (omega arith) ∙ take-pairs m (suc i) k n (omega arith))
+    (ap (λ (j : ℕ). to (toZ w32 (getD m (windowLow i) 0)) (toZ w32 (getD m j 0))) {x = windowLow i + 1} {y = windowHigh i} (omega arith))
+    (ap (λ (j : ℕ). take k (ofPairs (pairsAt m j n))) {x = windowLow i + 2} {y = windowLow (suc i)} (omega arith) ∙ take-pairs m (suc i) k n (omega arith))
 
 pub windows-tab : (m : List ℕ) (k : ℕ) → k ≤ 8 → windowsIn m k ≡ tab (windowAt m) 0 k
 windows-tab m k h = take-pairs m 0 k 8 h
@@ -134,17 +135,17 @@ follows-none m k h g = record {
 }
 
 module _ (m m₁ m₂ : List ℕ) (i k : ℕ) (small : k ≤ 8) (l : i < k) (below : T (ltZ (valueAt m i) (windowAt m i .high))) (tops : (j : ℕ) → i < j → j < k → Top m j)
-    (w : Wrote m m₁ (1136 + i) (sucℤ (valueAt m i))) (a : Anew m₁ m₂ (i + 1) k) where
+    (w : Wrote m m₁ (valuePlace i) (sucℤ (valueAt m i))) (a : Anew m₁ m₂ (i + 1) k) where
   before : tab (valueAt m₂) 0 i ≡ tab (valueAt m) 0 i
-  before = tab-same (valueAt m₂) (valueAt m) 0 i (λ j p q. ap (toZ w32) (a .other .outside (1136 + j) (λ x y. omega arith) ∙ w .other .outside (1136 + j) (λ x y. omega arith)))
+  before = tab-same (valueAt m₂) (valueAt m) 0 i (λ j p q. ap (toZ w32) (a .other .outside (valuePlace j) (λ x y. omega arith) ∙ w .other .outside (valuePlace j) (λ x y. omega arith)))
 
   here : valueAt m₂ i ≡ sucℤ (valueAt m i)
-  here = ap (toZ w32) (a .other .outside (1136 + i) (λ x y. omega arith)) ∙ w .is
+  here = ap (toZ w32) (a .other .outside (valuePlace i) (λ x y. omega arith)) ∙ w .is
 
   behind : tab (valueAt m₂) (suc i) (k - suc i) ≡ lowest (tab (windowAt m) (suc i) (k - suc i))
   behind =
       tab-same (valueAt m₂) (λ j. windowAt m j .low) (suc i) (k - suc i)
-      (λ j p q. a .low j (omega arith) (omega arith) ∙ ap (toZ w32) (w .other .outside (1120 + 2 * j) (λ x y. omega arith)))
+      (λ j p q. a .low j (omega arith) (omega arith) ∙ ap (toZ w32) (w .other .outside (windowLow j) (λ x y. omega arith)))
       ∙ sym (lowest-tab m (suc i) (k - suc i))
 
   goes : after (windowsIn m k) (settingIn m k) ≡ some (settingIn m₂ k)

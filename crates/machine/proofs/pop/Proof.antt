@@ -25,7 +25,7 @@ sub-t7 : tie.Need-sub-t7
 sub-t7 c = search needs
 
 returns-2 : tie.Need-returns-2
-returns-2 c = popped-one (c .before .before .before .before .before .before .args .mem .now) (c .before .before .before .before .before .before .args .run) (c .before .load .result .value) (c .before .before .before .before .before .before .pre) (c .before .before .before .if1 .left) (c .before .load .ensures .0) (c .before .load .ensures .1)
+returns-2 c = popped-one (c .before .before .before .before .before .before .args .mem .now) (c .before .before .before .before .before .before .args .run) (c .before .load .result .value) (c .before .before .before .before .before .before .pre) (c .before .before .before .if1 .left) (c .before .load .ensures)
 
 pub pop-spec : {M : Type 1} → statement M
 pop-spec = tie.close (tie.spec returns sub-load mul-load add-load load-requires sub-t7 returns-2)

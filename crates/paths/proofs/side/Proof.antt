@@ -6,6 +6,7 @@ use mir.Syntax.{w32}
 use mir.Val.{SFits}
 use mir.Facts.{toZ-ofZ}
 use Rattle.semantics.specs.Search.{to}
+use Rattle.machine.specs.Layout.{nodeLeft}
 use Rattle.machine.specs.Memory.{nodesIn, windowsIn}
 use Rattle.paths.proofs.Choice.{within-open, stands-at, side-known, side-free, side-op}
 use Rattle.paths.proofs.side.Statement.{statement}
@@ -42,7 +43,7 @@ shared-slice-read-t20 : tie.Need-shared-slice-read-t20
 shared-slice-read-t20 c = omega (arith, within-open (c .before .before .before .before .before .before .before .args .v) (c .before .before .before .before .v2 .given .0 .0) (c .before .before .before .before .before .before .before .args .n) (c .before .before .before .before .v2 .given .1) (c .before .before .before .before .before .before .before .pre .1), c .before .before .before .before .before .before .before .pre .0 .room .words)
 
 cast-t21 : tie.Need-cast-t21
-cast-t21 c = omega (arith, c .shared-slice-known3 .given (1203 + 12 * c .before .before .before .before .v2 .given .0 .0))
+cast-t21 c = omega (arith, c .shared-slice-known3 .given (nodeLeft (c .before .before .before .before .v2 .given .0 .0)))
 
 returns : tie.Need-returns
 returns c =
