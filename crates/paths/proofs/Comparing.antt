@@ -8,7 +8,7 @@ use native.Mathlib.Omega.{arith}
 use lib.ListN.{length}
 use Rattle.semantics.specs.Int.{Cmp}
 use Rattle.semantics.specs.Run.{Window}
-use Rattle.semantics.specs.Search.{Value, range, decided, narrowed, byRanges}
+use Rattle.semantics.specs.Search.{Value, range, decided, narrowed, inUse}
 use Rattle.simulation.specs.Machine.{Machine}
 use Rattle.simulation.specs.Path.{State, Went, on, outcome, holding, chose, choosing, comparing}
 use Rattle.simulation.specs.Nodes.{rangeIn}
@@ -30,15 +30,15 @@ pub said : (c : Cmp) (d u : Decided) (a b : win.Window) (v w : Window) → d ≡
 said c d u a b v w e f g h = ap ofDecided (sym e) ∙ f ∙ ap₂ (decided c) g h
 
 -- what is compared, once the ranges have said what they can
-compared-some : (job : Window) (c : Cmp) (x y : Value) (k : Bool → Machine Value) (s : State) (o : Bool) → decided c (range (s .windows) x) (range (s .windows) y) ≡ some o → comparing byRanges job c x y k s ≡ on (k o) s
+compared-some : (job : Window) (c : Cmp) (x y : Value) (k : Bool → Machine Value) (s : State) (o : Bool) → decided c (range (s .windows) x) (range (s .windows) y) ≡ some o → comparing inUse job c x y k s ≡ on (k o) s
 unfolding comparing
-compared-some job c x y k s o e = ap (λ (z : Option Bool). elim z as (λ z. Went) [ some o ↦ on (k o) s | none ↦ choosing byRanges job c x y k s (outcome (s .forced)) ]) e
+compared-some job c x y k s o e = ap (λ (z : Option Bool). elim z as (λ z. Went) [ some o ↦ on (k o) s | none ↦ choosing inUse job c x y k s (outcome (s .forced)) ]) e
 
 compared-none : (job : Window) (c : Cmp) (x y : Value) (k : Bool → Machine Value) (s : State) (o : Bool) → decided c (range (s .windows) x) (range (s .windows) y) ≡ none → o ≡ outcome (s .forced)
-    → comparing byRanges job c x y k s ≡ on (k o) (chose c x y o (narrowed (holding o c) x y (s .windows)) s)
+    → comparing inUse job c x y k s ≡ on (k o) (chose c x y o (narrowed (holding o c) x y (s .windows)) s)
 unfolding comparing choosing
 compared-none job c x y k s o e q =
-    ap (λ (z : Option Bool). elim z as (λ z. Went) [ some o ↦ on (k o) s | none ↦ choosing byRanges job c x y k s (outcome (s .forced)) ]) e
+    ap (λ (z : Option Bool). elim z as (λ z. Went) [ some o ↦ on (k o) s | none ↦ choosing inUse job c x y k s (outcome (s .forced)) ]) e
     ∙ ap (λ (o : Bool). on (k o) (chose c x y o (narrowed (holding o c) x y (s .windows)) s)) (sym q)
 
 module _ (m : List ℕ) (p : Point) (c : Cmp) (v w : code.Value) (h : Standing m p) (r : Ready m (p .run)) where

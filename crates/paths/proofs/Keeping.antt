@@ -6,7 +6,7 @@ use Prim.Native.Nat.{ℕ, zero, suc, _+_, _-_, _*_, _≤_, _<_}
 use native.Mathlib.Omega.{arith}
 use lib.ListN.{length}
 use Rattle.semantics.specs.Run.{Window}
-use Rattle.semantics.specs.Search.{Value, known, work, byRanges}
+use Rattle.semantics.specs.Search.{Value, known, work, inUse}
 use Rattle.simulation.specs.Code.{Code}
 use Rattle.simulation.specs.Machine.{Machine, Doing, advance}
 use Rattle.simulation.specs.Path.{State, state, Turn, returned, failed, cut, on, ended, still, turning, turn}
@@ -60,29 +60,29 @@ growing-kept g = record { more = g .more; one = g .grows; formed = g .formed }
 -- ---- a turn is what the entry did
 
 module _ (job : Window) (c : Code) (x : Machine Value) (s : State) where
-  pub turn-is : (d : Doing Value) (s′ : State) → advance known work c x ≡ d → s′ ≡ s → turning byRanges job d s′ ≡ turn byRanges job c x s
+  pub turn-is : (d : Doing Value) (s′ : State) → advance known work c x ≡ d → s′ ≡ s → turning inUse job d s′ ≡ turn inUse job c x s
   unfolding turn
-  turn-is d s′ e f = ap₂ (turning byRanges job) (sym e) f
+  turn-is d s′ e f = ap₂ (turning inUse job) (sym e) f
 
-silent-is : (job : Window) (x : Machine Value) (s : State) → turning byRanges job (Doing.silent x) s ≡ still (on x s)
+silent-is : (job : Window) (x : Machine Value) (s : State) → turning inUse job (Doing.silent x) s ≡ still (on x s)
 unfolding turning
 silent-is job x s = refl
 
-returned-is : (job : Window) (v : Value) (s : State) → turning byRanges job (Doing.returned v) s ≡ still (ended (returned v) s)
+returned-is : (job : Window) (v : Value) (s : State) → turning inUse job (Doing.returned v) s ≡ still (ended (returned v) s)
 unfolding turning
 returned-is job v s = refl
 
-failed-is : (job : Window) (s : State) → turning byRanges job Doing.failed s ≡ still (ended failed s)
+failed-is : (job : Window) (s : State) → turning inUse job Doing.failed s ≡ still (ended failed s)
 unfolding turning
 failed-is job s = refl
 
-cut-is : (job : Window) (s : State) → turning byRanges job Doing.cut s ≡ still (ended cut s)
+cut-is : (job : Window) (s : State) → turning inUse job Doing.cut s ≡ still (ended cut s)
 unfolding turning
 cut-is job s = refl
 
 module _ (m : List ℕ) (p : Point) (job : Window) (c : Code) (h : Standing m p) where
   abbrev here : Turn
-  here = turn byRanges job c (machineAt m (p .run)) (stateAt m p)
+  here = turn inUse job c (machineAt m (p .run)) (stateAt m p)
 
   abbrev did : Doing Value
   did = advance known work c (machineAt m (p .run))
@@ -143,13 +143,13 @@ pub kept-of : (c : Code) (m : List ℕ) (p : Point) → Ready m (p .run) → dri
 kept-of c m p h = record { made = p .run .top + p .run .depth; limit = refl; sound = sound-of m (p .run) h }
 
 -- after a turn the end is nearer
-pub nearer-of : (job : Window) (c : Code) (m m′ : List ℕ) (p q : Point) (o : Bool) → Ready m (p .run) → turn byRanges job c (machineAt m (p .run)) (stateAt m p) ≡ record { move = o; went = on (machineAt m′ (q .run)) (stateAt m′ q) }
+pub nearer-of : (job : Window) (c : Code) (m m′ : List ℕ) (p q : Point) (o : Bool) → Ready m (p .run) → turn inUse job c (machineAt m (p .run)) (stateAt m p) ≡ record { move = o; went = on (machineAt m′ (q .run)) (stateAt m′ q) }
     → Nearer c (p .run .top + p .run .depth + p .steps) (turns-left c (machineAt m (p .run)) (stateAt m p)) (machineAt m′ (q .run)) (stateAt m′ q)
 nearer-of job c m m′ p q o h e =
     subst (Nears c (p .run .top + p .run .depth + p .steps) (turns-left c (machineAt m (p .run)) (stateAt m p))) (ap (λ (t : Turn). t .went) e)
-    (turn-nears c byRanges job (p .run .top + p .run .depth + p .steps) (machineAt m (p .run)) (stateAt m p) (kept-of c m p h))
+    (turn-nears c inUse job (p .run .top + p .run .depth + p .steps) (machineAt m (p .run)) (stateAt m p) (kept-of c m p h))
 
-pub onwards : (job : Window) (c : Code) (m m′ : List ℕ) (p : Point) (r : Turned) → Going m p → length m′ ≡ length m → Turning (turn byRanges job c (machineAt m (p .run)) (stateAt m p)) m′ p r → Onwards m′ r
+pub onwards : (job : Window) (c : Code) (m m′ : List ℕ) (p : Point) (r : Turned) → Going m p → length m′ ≡ length m → Turning (turn inUse job c (machineAt m (p .run)) (stateAt m p)) m′ p r → Onwards m′ r
 onwards job c m m′ p (On o q) g len h =
     let k = nearer-of job c m m′ p q o (g .ready) (h .is) .kept in
     let t : q .run .top + q .run .depth ≤ k .made = tops-le m′ (q .run) (k .made) (h .ready) (k .sound) in
@@ -171,10 +171,10 @@ pub done-as : (d : Doing Value) (m : List ℕ) (n : ℕ) (m′ : List ℕ) (k : 
 done-as d m n m′ k x y e h = subst (λ (z : Did). Done d m n m′ k z) e h
 
 module _ (m : List ℕ) (p : Point) (job : Window) (c : Code) (g : Going m p) where
-  pub turned : (m₁ m₂ : List ℕ) (r : Turned) (d : Doing Value) → Kept m m₁ (p .run .nodes) → length m₂ ≡ length m → advance known work c (machineAt m (p .run)) ≡ d → Turning (turning byRanges job d (stateAt m₁ p)) m₂ p r
-      → Turning (turn byRanges job c (machineAt m (p .run)) (stateAt m p)) m₂ p r × Onwards m₂ r
+  pub turned : (m₁ m₂ : List ℕ) (r : Turned) (d : Doing Value) → Kept m m₁ (p .run .nodes) → length m₂ ≡ length m → advance known work c (machineAt m (p .run)) ≡ d → Turning (turning inUse job d (stateAt m₁ p)) m₂ p r
+      → Turning (turn inUse job c (machineAt m (p .run)) (stateAt m p)) m₂ p r × Onwards m₂ r
   turned m₁ m₂ r d k len e h =
-      let t : Turning (turn byRanges job c (machineAt m (p .run)) (stateAt m p)) m₂ p r = subst (λ (t : Turn). Turning t m₂ p r) (turn-is job c (machineAt m (p .run)) (stateAt m p) d (stateAt m₁ p) e (state-kept p k)) h in
+      let t : Turning (turn inUse job c (machineAt m (p .run)) (stateAt m p)) m₂ p r = subst (λ (t : Turn). Turning t m₂ p r) (turn-is job c (machineAt m (p .run)) (stateAt m p) d (stateAt m₁ p) e (state-kept p k)) h in
       (t, onwards job c m m₂ p r g len t)
 
   pub test-asked : (m₁ : List ℕ) (o : ℕ) (v w : code.Value) (r : Run) → Tested (advance known work c (machineAt m (p .run))) m (p .run .nodes) m₁ o v w r
@@ -190,8 +190,8 @@ module _ (m : List ℕ) (p : Point) (job : Window) (c : Code) (g : Going m p) wh
   )
 
   pub test-turned : (m₁ m₂ : List ℕ) (r : Turned) (o : ℕ) (v w : code.Value) (run : Run) → length m₂ ≡ length m → Tested (advance known work c (machineAt m (p .run))) m (p .run .nodes) m₁ o v w run
-      → Turning (turning byRanges job (Doing.test (comparison o) (meant m₁ (p .run .nodes) v) (meant m₁ (p .run .nodes) w) (λ b. machineAt m₁ (flagged run b))) (stateAt m₁ p)) m₂ p r
-      → Turning (turn byRanges job c (machineAt m (p .run)) (stateAt m p)) m₂ p r × Onwards m₂ r
+      → Turning (turning inUse job (Doing.test (comparison o) (meant m₁ (p .run .nodes) v) (meant m₁ (p .run .nodes) w) (λ b. machineAt m₁ (flagged run b))) (stateAt m₁ p)) m₂ p r
+      → Turning (turn inUse job c (machineAt m (p .run)) (stateAt m p)) m₂ p r × Onwards m₂ r
   test-turned m₁ m₂ r o v w run len t h =
       turned m m₂ r (Doing.test (comparison o) (meant m (p .run .nodes) v) (meant m (p .run .nodes) w) (λ b. machineAt m (flagged run b))) kept-none len (t .is)
-      (subst (λ (l : List ℕ). Turning (turning byRanges job (Doing.test (comparison o) (meant l (p .run .nodes) v) (meant l (p .run .nodes) w) (λ b. machineAt l (flagged run b))) (stateAt l p)) m₂ p r) (t .same) h)
+      (subst (λ (l : List ℕ). Turning (turning inUse job (Doing.test (comparison o) (meant l (p .run .nodes) v) (meant l (p .run .nodes) w) (λ b. machineAt l (flagged run b))) (stateAt l p)) m₂ p r) (t .same) h)

@@ -6,7 +6,7 @@ use Prim.Native.Nat.{ℕ, _+_, _-_, _*_, _≤_, _<_}
 use lib.ListN.{getD}
 use Rattle.semantics.specs.Int.{Cmp}
 use Rattle.semantics.specs.Run.{Window}
-use Rattle.semantics.specs.Search.{narrowed, byRanges}
+use Rattle.semantics.specs.Search.{narrowed, inUse}
 use Rattle.simulation.specs.Path.{State, state, outcome, holding, chose, on, comparing}
 use Rattle.simulation.specs.Nodes.{Within, Noted, testOf}
 use Rattle.machine.specs.Layout.{windowsPlace, tempPlace, nodeEnd}
@@ -86,5 +86,5 @@ pub record Follows (m m′ : List ℕ) (p : Point) (r : Run) (s : State) (q : Po
 pub record Compared (m m′ : List ℕ) (p : Point) (c : Cmp) (v w : code.Value) (q : Point) : Type 0 where
   pub outcome : Bool
   pub after : State
-  pub is : (job : Window) → comparing byRanges job c (meant m (p .run .nodes) v) (meant m (p .run .nodes) w) (λ b. machineAt m (flagged (p .run) b)) (stateAt m p) ≡ on (machineAt m (flagged (p .run) outcome)) after
+  pub is : (job : Window) → comparing inUse job c (meant m (p .run .nodes) v) (meant m (p .run .nodes) w) (λ b. machineAt m (flagged (p .run) b)) (stateAt m p) ≡ on (machineAt m (flagged (p .run) outcome)) after
   pub follows : Follows m m′ (chosen p) (flagged (p .run) outcome) after q

@@ -6,7 +6,7 @@ ghost use Prim.Native.Nat.{_+_, _-_, _*_, _<_, _≤_};
 ghost use lib.ListN.{length, getD};
 ghost use Rattle.semantics.specs.Int.{Cmp};
 ghost use Rattle.semantics.specs.Run.{Window as WindowS};
-ghost use Rattle.semantics.specs.Search.{all32, clipped, unknown, byRanges};
+ghost use Rattle.semantics.specs.Search.{all32, clipped, unknown, inUse};
 ghost use Rattle.simulation.specs.Machine.{Machine, Doing};
 ghost use Rattle.simulation.specs.Path.{holding as holdingS, turning as turningS, turn as turnS};
 ghost use Rattle.simulation.specs.Words.{codeIn};
@@ -373,7 +373,7 @@ fn declare(p: Point, run: Run) -> Point
 // A step.
 fn after_step(mem: &mut [u32], p: Point, run: Run) -> Turned
     requires { ⌜ Standing (now mem) p × Ready (now mem) run × Growing (now mem) (p .run .nodes) (run .nodes) ⌝ }
-    ensures { λ r. ⌜ ((job : WindowS) → Turning (turningS byRanges job (Doing.step (machineAt (now (mem .entry)) run)) (stateAt (now (mem .entry)) p)) (now (mem .exit)) p r) ⌝ }
+    ensures { λ r. ⌜ ((job : WindowS) → Turning (turningS inUse job (Doing.step (machineAt (now (mem .entry)) run)) (stateAt (now (mem .entry)) p)) (now (mem .exit)) p r) ⌝ }
 {
     if p.steps == 0 {
         return Turned::Cut;
@@ -386,7 +386,7 @@ fn after_step(mem: &mut [u32], p: Point, run: Run) -> Turned
 // A comparison, by its number.
 fn after_test(mem: &mut [u32], p: Point, run: Run, c: u32, v: Value, w: Value) -> Turned
     requires { ⌜ Standing (now mem) p × Ready (now mem) run × (run .nodes ≡ p .run .nodes) × Room (now mem) (p .choices + p .steps + 1) × (c < 6) × Usable (p .run .nodes) v × Usable (p .run .nodes) w ⌝ }
-    ensures { λ r. ⌜ ((job : WindowS) → Turning (turningS byRanges job (Doing.test (comparison c) (meant (now (mem .entry)) (p .run .nodes) v) (meant (now (mem .entry)) (p .run .nodes) w) (λ b. machineAt (now (mem .entry)) (flagged run b))) (stateAt (now (mem .entry)) p)) (now (mem .exit)) p r) ⌝ }
+    ensures { λ r. ⌜ ((job : WindowS) → Turning (turningS inUse job (Doing.test (comparison c) (meant (now (mem .entry)) (p .run .nodes) v) (meant (now (mem .entry)) (p .run .nodes) w) (λ b. machineAt (now (mem .entry)) (flagged run b))) (stateAt (now (mem .entry)) p)) (now (mem .exit)) p r) ⌝ }
 {
     if p.steps == 0 {
         return Turned::Cut;
@@ -397,7 +397,7 @@ fn after_test(mem: &mut [u32], p: Point, run: Run, c: u32, v: Value, w: Value) -
 // A free declaration.
 fn after_free(mem: &mut [u32], p: Point, run: Run, job: Window) -> Turned
     requires { ⌜ Standing (now mem) p × Ready (now mem) run × (run .nodes ≡ p .run .nodes + 1) × (nodeAt (now mem) (p .run .nodes) ≡ nodes.unknown (p .windows)) × Filled (ofWindow job) ⌝ }
-    ensures { λ r. ⌜ ((next : Sym → Machine Sym) → next (unknown (p .windows)) ≡ machineAt (now (mem .entry)) run → Turning (turningS byRanges (ofWindow job) (Doing.free next) (stateAt (now (mem .entry)) p)) (now (mem .exit)) p r) ⌝ }
+    ensures { λ r. ⌜ ((next : Sym → Machine Sym) → next (unknown (p .windows)) ≡ machineAt (now (mem .entry)) run → Turning (turningS inUse (ofWindow job) (Doing.free next) (stateAt (now (mem .entry)) p)) (now (mem .exit)) p r) ⌝ }
 {
     if p.steps == 0 {
         return Turned::Cut;
@@ -427,7 +427,7 @@ fn proceed(p: Point, run: Run) -> Point
 // One turn of the path: one entry of the code is worked, within the limits.
 fn turn(code: &[u32], size: usize, mem: &mut [u32], job: Window, p: Point) -> Turned
     requires { ⌜ (2 * size + 16 ≤ length (now code)) × (size < 65536) × Going (now mem) p × Filled (ofWindow job) ⌝ }
-    ensures { λ r. ⌜ Turning (turnS byRanges (ofWindow job) (codeIn (now (code .entry)) size) (machineAt (now (mem .entry)) (p .run)) (stateAt (now (mem .entry)) p)) (now (mem .exit)) p r × Onwards (now (mem .exit)) r ⌝ }
+    ensures { λ r. ⌜ Turning (turnS inUse (ofWindow job) (codeIn (now (code .entry)) size) (machineAt (now (mem .entry)) (p .run)) (stateAt (now (mem .entry)) p)) (now (mem .exit)) p r × Onwards (now (mem .exit)) r ⌝ }
 {
     let run = p.run;
     match machine::advance(code, size, mem, run, p.windows as u32) {

@@ -5,7 +5,7 @@ use mathlib.Core.List.{List}
 use native.Mathlib.Omega.{arith}
 use borrow.Author.Needs.{needs}
 use lib.ListN.{length}
-use Rattle.semantics.specs.Search.{spent, byRanges}
+use Rattle.semantics.specs.Search.{spent, inUse}
 use Rattle.simulation.specs.Lister.{over, closed}
 use Rattle.simulation.specs.Path.{returned, failed, cut, turn}
 use Rattle.simulation.specs.Words.{codeIn}
@@ -56,7 +56,7 @@ returns c =
     let m = l .mem in
     let p = l .p in
     let m′ = c .before .before .before .before .before .before .before .turn .last .1 .1 .0 in
-    let here = turn byRanges job x (machineAt m (p .run)) (stateAt m p) in
+    let here = turn inUse job x (machineAt m (p .run)) (stateAt m p) in
     let same = forced-same x job (a .limit) (a .mem .now) m₀ (c .before .before .before .before .before .before .before .before .before .before .before .before .start .result) (c .before .before .before .before .before .before .before .before .before .before .before .before .start .ensures) (s .pre .2) (c .before .before .before .before .before .before .before .before .before .before .before .before .start .kept .0) (a .forced) in
     let o = c .before .before .before .o .given .0 .0 in
     let q = c .before .before .before .o .given .0 .1 .0 in
@@ -78,7 +78,7 @@ loop-less c =
     let m = l .mem in
     let p = l .p in
     let m′ = c .before .before .before .before .before .before .before .turn .last .1 .1 .0 in
-    let here = turn byRanges job x (machineAt m (p .run)) (stateAt m p) in
+    let here = turn inUse job x (machineAt m (p .run)) (stateAt m p) in
     let same = forced-same x job (a .limit) (a .mem .now) m₀ (c .before .before .before .before .before .before .before .before .before .before .before .before .start .result) (c .before .before .before .before .before .before .before .before .before .before .before .before .start .ensures) (s .pre .2) (c .before .before .before .before .before .before .before .before .before .before .before .before .start .kept .0) (a .forced) in
     let o = c .before .before .before .o .given .0 .0 in
     let q = c .before .before .before .o .given .0 .1 .0 in
@@ -97,7 +97,7 @@ loop-again c =
     let m = l .mem in
     let p = l .p in
     let m′ = c .before .before .before .before .before .before .before .turn .last .1 .1 .0 in
-    let here = turn byRanges job x (machineAt m (p .run)) (stateAt m p) in
+    let here = turn inUse job x (machineAt m (p .run)) (stateAt m p) in
     let same = forced-same x job (a .limit) (a .mem .now) m₀ (c .before .before .before .before .before .before .before .before .before .before .before .before .start .result) (c .before .before .before .before .before .before .before .before .before .before .before .before .start .ensures) (s .pre .2) (c .before .before .before .before .before .before .before .before .before .before .before .before .start .kept .0) (a .forced) in
     let o = c .before .before .before .o .given .0 .0 in
     let q = c .before .before .before .o .given .0 .1 .0 in
@@ -116,7 +116,7 @@ loop-less-2 c =
     let m = l .mem in
     let p = l .p in
     let m′ = c .before .before .before .before .before .before .turn .last .1 .1 .0 in
-    let here = turn byRanges job x (machineAt m (p .run)) (stateAt m p) in
+    let here = turn inUse job x (machineAt m (p .run)) (stateAt m p) in
     let same = forced-same x job (a .limit) (a .mem .now) m₀ (c .before .before .before .before .before .before .before .before .before .before .before .start .result) (c .before .before .before .before .before .before .before .before .before .before .before .start .ensures) (s .pre .2) (c .before .before .before .before .before .before .before .before .before .before .before .start .kept .0) (a .forced) in
     let o = c .before .before .o .given .0 .0 in
     let q = c .before .before .o .given .0 .1 .0 in
@@ -135,7 +135,7 @@ loop-again-2 c =
     let m = l .mem in
     let p = l .p in
     let m′ = c .before .before .before .before .before .before .turn .last .1 .1 .0 in
-    let here = turn byRanges job x (machineAt m (p .run)) (stateAt m p) in
+    let here = turn inUse job x (machineAt m (p .run)) (stateAt m p) in
     let same = forced-same x job (a .limit) (a .mem .now) m₀ (c .before .before .before .before .before .before .before .before .before .before .before .start .result) (c .before .before .before .before .before .before .before .before .before .before .before .start .ensures) (s .pre .2) (c .before .before .before .before .before .before .before .before .before .before .before .start .kept .0) (a .forced) in
     let o = c .before .before .o .given .0 .0 in
     let q = c .before .before .o .given .0 .1 .0 in
@@ -160,7 +160,7 @@ returns-2 c =
     let m = l .mem in
     let p = l .p in
     let m′ = c .before .before .before .before .before .turn .last .1 .1 .0 in
-    let here = turn byRanges job x (machineAt m (p .run)) (stateAt m p) in
+    let here = turn inUse job x (machineAt m (p .run)) (stateAt m p) in
     let same = forced-same x job (a .limit) (a .mem .now) m₀ (c .before .before .before .before .before .before .before .before .before .before .start .result) (c .before .before .before .before .before .before .before .before .before .before .start .ensures) (s .pre .2) (c .before .before .before .before .before .before .before .before .before .before .start .kept .0) (a .forced) in
     let v = c .before .v .given .0 .0 in
     let g = turned-as here m′ p (c .before .before .before .before .before .turn .result) (Turned.Returned v) (c .before .v .given .1) (c .before .before .before .before .before .turn .ensures) in
@@ -184,7 +184,7 @@ returns-3 c =
     let m = l .mem in
     let p = l .p in
     let m′ = c .before .before .before .before .turn .last .1 .1 .0 in
-    let here = turn byRanges job x (machineAt m (p .run)) (stateAt m p) in
+    let here = turn inUse job x (machineAt m (p .run)) (stateAt m p) in
     let same = forced-same x job (a .limit) (a .mem .now) m₀ (c .before .before .before .before .before .before .before .before .before .start .result) (c .before .before .before .before .before .before .before .before .before .start .ensures) (s .pre .2) (c .before .before .before .before .before .before .before .before .before .start .kept .0) (a .forced) in
     let g = turned-as here m′ p (c .before .before .before .before .turn .result) Turned.Failed (c .enum-told .given .1) (c .before .before .before .before .turn .ensures) in
     subst (λ (fs : List Bool). Ends x job (a .limit) (a .budget) fs m′ failed p (l .left)) same (reaches-end x job (a .limit) (a .budget) fs m m′ p failed (l .left) (l .inv .0) (g .0))
@@ -207,7 +207,7 @@ returns-4 c =
     let m = l .mem in
     let p = l .p in
     let m′ = c .before .before .before .before .turn .last .1 .1 .0 in
-    let here = turn byRanges job x (machineAt m (p .run)) (stateAt m p) in
+    let here = turn inUse job x (machineAt m (p .run)) (stateAt m p) in
     let same = forced-same x job (a .limit) (a .mem .now) m₀ (c .before .before .before .before .before .before .before .before .before .start .result) (c .before .before .before .before .before .before .before .before .before .start .ensures) (s .pre .2) (c .before .before .before .before .before .before .before .before .before .start .kept .0) (a .forced) in
     let g = turned-as here m′ p (c .before .before .before .before .turn .result) Turned.Cut (c .enum-told2 .given .1) (c .before .before .before .before .turn .ensures) in
     subst (λ (fs : List Bool). Ends x job (a .limit) (a .budget) fs m′ cut p (l .left)) same (reaches-end x job (a .limit) (a .budget) fs m m′ p cut (l .left) (l .inv .0) (g .0))
