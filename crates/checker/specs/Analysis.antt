@@ -79,7 +79,7 @@ pub record Inspected (text ps vs nodes items heads before slots : List ℕ) (n r
 pub record Lent (ks nodes items heads scope : List ℕ) : Type 0 where
   pub tokens : Tokens ks
   pub few : length ks ≤ TOKENS
-  pub table : length nodes ≡ TOKENS0
+  pub table : length nodes ≡ NODES
   pub words : length items ≡ EVENTS
   pub functions : HEADS ≤ length heads
   pub blocks : SCOPE ≤ length scope
@@ -89,7 +89,7 @@ pub record Slices (ks ps vs nodes items heads scope : List ℕ) : Type 0 where
   pub kinds : length ks ≡ TOKENS
   pub places : length ps ≡ TOKENS
   pub values : length vs ≡ TOKENS
-  pub table : length nodes ≡ TOKENS0
+  pub table : length nodes ≡ NODES
   pub words : length items ≡ EVENTS
   pub functions : HEADS ≤ length heads
   pub blocks : SCOPE ≤ length scope
