@@ -12,7 +12,7 @@ use Rattle.syntax.specs.declared.Node.{Node}
 use Rattle.syntax.specs.Fetch.{Fetched}
 use Rattle.syntax.specs.Ast.{Sort, Ast, expr, args, cond, stmt, stmts, body, params}
 use Rattle.syntax.specs.Ast as A
-use Rattle.syntax.specs.Table.{At, Holds, nCall, nBracket, nMoreArgs, nAssign, nEval, nBlock, nIfElse, nWhile, nReturn, nMoreStmts, nBraced, nMoreParams, nFunction, nMoreFuns, at-number, at-negative, at-name, at-call, at-bracket, at-times, at-plus, at-minus, at-no-args, at-more-args, at-always, at-never, at-compare, at-both, at-either, at-empty, at-declare, at-declare-free, at-assign, at-eval, at-block, at-if-else, at-while, at-return, at-fail, at-no-stmts, at-more-stmts, at-braced, at-no-params, at-more-params, at-function, at-no-funs, at-more-funs}
+use Rattle.syntax.specs.Table.{nodeToken, nodeWords, At, Holds, nCall, nBracket, nMoreArgs, nAssign, nEval, nBlock, nIfElse, nWhile, nReturn, nMoreStmts, nBraced, nMoreParams, nFunction, nMoreFuns, at-number, at-negative, at-name, at-call, at-bracket, at-times, at-plus, at-minus, at-no-args, at-more-args, at-always, at-never, at-compare, at-both, at-either, at-empty, at-declare, at-declare-free, at-assign, at-eval, at-block, at-if-else, at-while, at-return, at-fail, at-no-stmts, at-more-stmts, at-braced, at-no-params, at-more-params, at-function, at-no-funs, at-more-funs}
 use Rattle.events.specs.Event.{Event, function, parameter, thing, opens, closes, uses, calls, ends, first, count, stops, closing, eventsAt}
 use Rattle.events.specs.Walk.{Below}
 use Rattle.events.specs.Visit.{level}
@@ -24,7 +24,7 @@ two-of P a k lo hi x y = ⊎-elim (λ e. subst P e x) (λ h. let e : a + 1 ≡ k
 pub three-of : (P : ℕ → Type 0) (a k : ℕ) → a ≤ k → k < a + 3 → P a → P (a + 1) → P (a + 2) → P k
 three-of P a k lo hi x y z = ⊎-elim (λ e. subst P e x) (λ h. two-of P (a + 1) k (omega (arith, h)) (omega (arith, hi)) y (let e : a + 2 ≡ a + 1 + 1 = omega arith in subst P e z)) (eq-or-lt-of-le lo)
 
-kind-of : {l : List ℕ} {s : Sort} {i k : ℕ} {t : Ast s} → At l s i k t → getD l (5 * i) 0 ≡ k
+kind-of : {l : List ℕ} {s : Sort} {i k : ℕ} {t : Ast s} → At l s i k t → getD l (nodeWords * i) 0 ≡ k
 kind-of (at-number r) = r .kind
 kind-of (at-negative r) = r .kind
 kind-of (at-name r) = r .kind
@@ -64,7 +64,7 @@ pub at-kind : {l : List ℕ} {s : Sort} {i : ℕ} {n : Node} {t : Ast s} (k : �
 at-kind {l} {s} {i} {n} {t} k f e h = subst (λ (j : ℕ). At l s i j t) (sym (kind-of (h .at)) ∙ sym (f .kind) ∙ e) (h .at)
 
 -- the tokens that a tree below m names
-token-at : {l : List ℕ} {s : Sort} {i k : ℕ} {t : Ast s} (m : ℕ) → 0 < m → At l s i k t → Below m t → getD l (5 * i + 1) 0 < m
+token-at : {l : List ℕ} {s : Sort} {i k : ℕ} {t : Ast s} (m : ℕ) → 0 < m → At l s i k t → Below m t → getD l (nodeWords * i + nodeToken) 0 < m
 unfolding Below
 token-at m pos (at-number r) b = omega (arith, r .token, b)
 token-at m pos (at-negative r) b = omega (arith, r .token, b)

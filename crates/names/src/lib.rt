@@ -4,19 +4,21 @@ ghost use mathlib.Core.List.{[]};
 ghost use Prim.Native.Nat.{_+_, _*_, _^_, _≤_, _<_};
 ghost use lib.ListN.{length, set};
 ghost use Rattle.text_rules.specs.Spelling.{sameName};
-ghost use Rattle.events.specs.Stored.{stored};
+ghost use Rattle.events.specs.Stored.{eventWords, stored};
 ghost use Rattle.text_rules.specs.Rules as R;
 ghost use Rattle.text_rules.specs.Rules.{functionOf};
 ghost use Rattle.text_rules.specs.Names.{ifFound, repeated};
-ghost use Rattle.text_rules.specs.Answers.{event, place, leastWith, storedHeads};
-ghost use Rattle.scopes.specs.Memory.{Held, blocksOf, scopeOf};
+ghost use Rattle.events.specs.Read.{asEvent};
+ghost use Rattle.text_rules.specs.Answers.{headWords, place, leastWith, storedHeads};
+ghost use Rattle.scopes.specs.Memory.{scopeWords, Held, blocksOf, scopeOf};
 ghost use Rattle.names.specs.Steps.{SeenDeclaration, SeenVariable, SeenCall, SeenEvent, SeenEvents, Named};
 use text_rules::broken::Broken;
 use text_rules::broken::lesser;
 use text_rules::heads::Found;
+use text_rules::heads::HEAD_WORDS;
 use text_rules::heads::function_of;
-use text_rules::item::Item;
-use text_rules::item::item_at;
+use events::event::Event;
+use events::event::event_at;
 use text_rules::spelling::word;
 use scopes::lookup::Sought;
 use scopes::lookup::seek;
@@ -91,7 +93,7 @@ fn see_call(
     i: usize,
     best: Broken,
 ) -> Broken
-    requires { ⌜ (2 * h ≤ length (now heads)) × (h < 2 ^ 32) ⌝ }
+    requires { ⌜ (headWords * h ≤ length (now heads)) × (h < 2 ^ 32) ⌝ }
     ensures { λ r. ⌜ SeenCall (sameName (now (text .entry)) (now (places .entry)) (now (values .entry))) (storedHeads (now (heads .entry)) h) i (place best) (now (slots .entry)) (place r) (now (slots .exit)) ⌝ }
 {
     match function_of(text, places, values, heads, h, i) {
@@ -113,16 +115,16 @@ fn see(
     scope: &[u32],
     s: Scope,
     slots: &mut [u32],
-    item: Item,
+    event: Event,
     best: Broken,
 ) -> Broken
-    requires { ⌜ (2 * h ≤ length (now heads)) × (h < 2 ^ 32) × (Held (now scope) (s .blocks) (s .seen)) × (s .next < 2 ^ 32) ⌝ }
-    ensures { λ r. ⌜ SeenEvent (sameName (now (text .entry)) (now (places .entry)) (now (values .entry))) (storedHeads (now (heads .entry)) h) (scopeOf (now (scope .entry)) s) (event item) (place best) (now (slots .entry)) (place r) (now (slots .exit)) ⌝ }
+    requires { ⌜ (headWords * h ≤ length (now heads)) × (h < 2 ^ 32) × (Held (now scope) (s .blocks) (s .seen)) × (s .next < 2 ^ 32) ⌝ }
+    ensures { λ r. ⌜ SeenEvent (sameName (now (text .entry)) (now (places .entry)) (now (values .entry))) (storedHeads (now (heads .entry)) h) (scopeOf (now (scope .entry)) s) (asEvent event) (place best) (now (slots .entry)) (place r) (now (slots .exit)) ⌝ }
 {
     let blocks = s.blocks;
     let seen = s.seen;
-    match item {
-        Item::Parameter(i) => see_declaration(
+    match event {
+        Event::Parameter(i) => see_declaration(
             text,
             places,
             values,
@@ -134,7 +136,7 @@ fn see(
             i,
             best,
         ),
-        Item::Declares(i) => see_declaration(
+        Event::Declares(i) => see_declaration(
             text,
             places,
             values,
@@ -146,8 +148,8 @@ fn see(
             i,
             best,
         ),
-        Item::Uses(i) => see_variable(text, places, values, scope, blocks, seen, slots, i, best),
-        Item::Calls { token, count: _ } => see_call(
+        Event::Uses(i) => see_variable(text, places, values, scope, blocks, seen, slots, i, best),
+        Event::Calls { token, count: _ } => see_call(
             text,
             places,
             values,
@@ -173,7 +175,7 @@ fn see_all(
     scope: &mut [u32],
     slots: &mut [u32],
 ) -> Broken
-    requires { ⌜ (3 * n ≤ length (now events)) × (n < 2 ^ 32) × (2 * h ≤ length (now heads)) × (h < 2 ^ 32) × (3 * n ≤ length (now scope)) ⌝ }
+    requires { ⌜ (eventWords * n ≤ length (now events)) × (n < 2 ^ 32) × (headWords * h ≤ length (now heads)) × (h < 2 ^ 32) × (scopeWords * n ≤ length (now scope)) ⌝ }
     ensures { λ r. ⌜ SeenEvents (sameName (now (text .entry)) (now (places .entry)) (now (values .entry))) (storedHeads (now (heads .entry)) h) (stored (now (events .entry)) n) (now (slots .entry)) (place r) (now (slots .exit)) ⌝ }
 {
     let mut best = Broken::Nowhere;
@@ -184,9 +186,9 @@ fn see_all(
     };
     let mut k = 0;
     while k < n {
-        let item = item_at(events, k);
-        best = see(text, places, values, heads, h, scope, s, slots, item, best);
-        s = enter(scope, s, item);
+        let event = event_at(events, k);
+        best = see(text, places, values, heads, h, scope, s, slots, event, best);
+        s = enter(scope, s, event);
         k += 1;
     }
     best
@@ -202,7 +204,7 @@ fn repeat(
     i: usize,
     best: Broken,
 ) -> Broken
-    requires { ⌜ 2 * k ≤ length (now heads) ⌝ }
+    requires { ⌜ headWords * k ≤ length (now heads) ⌝ }
     ensures { λ r. ⌜ place r ≡ leastWith (ifFound (sameName (now (text .entry)) (now (places .entry)) (now (values .entry))) (functionOf (sameName (now (text .entry)) (now (places .entry)) (now (values .entry))) (storedHeads (now (heads .entry)) k) i) i) (place best) ⌝ }
 {
     match function_of(text, places, values, heads, k, i) {
@@ -220,13 +222,13 @@ fn repeats(
     h: usize,
     before: Broken,
 ) -> Broken
-    requires { ⌜ 2 * h ≤ length (now heads) ⌝ }
+    requires { ⌜ headWords * h ≤ length (now heads) ⌝ }
     ensures { λ r. ⌜ place r ≡ leastWith (repeated (sameName (now (text .entry)) (now (places .entry)) (now (values .entry))) [] (storedHeads (now (heads .entry)) h)) (place before) ⌝ }
 {
     let mut best = before;
     let mut k = 0;
     while k < h {
-        best = repeat(text, places, values, heads, k, word(heads, 2 * k), best);
+        best = repeat(text, places, values, heads, k, word(heads, HEAD_WORDS * k), best);
         k += 1;
     }
     best
@@ -244,7 +246,7 @@ pub fn resolve(
     scope: &mut [u32],
     slots: &mut [u32],
 ) -> Broken
-    requires { ⌜ (3 * n ≤ length (now events)) × (n < 2 ^ 32) × (2 * h ≤ length (now heads)) × (storedHeads (now heads) h ≡ R.heads (stored (now events) n)) × (3 * n ≤ length (now scope)) ⌝ }
+    requires { ⌜ (eventWords * n ≤ length (now events)) × (n < 2 ^ 32) × (headWords * h ≤ length (now heads)) × (storedHeads (now heads) h ≡ R.heads (stored (now events) n)) × (scopeWords * n ≤ length (now scope)) ⌝ }
     ensures { λ r. ⌜ Named (sameName (now (text .entry)) (now (places .entry)) (now (values .entry))) (stored (now (events .entry)) n) (now (slots .entry)) (place r) (now (slots .exit)) ⌝ }
 {
     let best = see_all(text, places, values, events, n, heads, h, scope, slots);

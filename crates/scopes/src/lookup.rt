@@ -5,6 +5,9 @@ ghost use Rattle.text_rules.specs.Spelling.{sameName};
 ghost use Rattle.text_rules.specs.Names as N;
 ghost use Rattle.scopes.specs.Memory.{Held, blocksOf};
 ghost use Rattle.scopes.specs.Answers.{slotOf, orZero};
+use crate::scope::SCOPE_SLOT;
+use crate::scope::SCOPE_START;
+use crate::scope::SCOPE_WORDS;
 use text_rules::spelling::same_name;
 use text_rules::spelling::word;
 
@@ -35,11 +38,11 @@ pub fn seek(
     let mut end = seen;
     'blocks: while 0 < block {
         block -= 1;
-        let start = word(scope, 3 * block + 2);
+        let start = word(scope, SCOPE_WORDS * block + SCOPE_START);
         let mut k = start;
         while k < end {
-            if same_name(text, places, values, word(scope, 3 * k), i) {
-                found = Sought::At(Address(word(scope, 3 * k + 1)));
+            if same_name(text, places, values, word(scope, SCOPE_WORDS * k), i) {
+                found = Sought::At(Address(word(scope, SCOPE_WORDS * k + SCOPE_SLOT)));
                 break 'blocks;
             }
             k += 1;

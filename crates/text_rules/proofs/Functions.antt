@@ -14,13 +14,10 @@ use borrow.Author.Tests.{lt-ltb, le-ltb}
 use Rattle.text_rules.specs.Scan.{when, least}
 use Rattle.text_rules.specs.Rules.{Head, functionOf, arityOf, mains, withParameters, badMain}
 use Rattle.text_rules.specs.Resolve.{mainOf}
-use Rattle.text_rules.specs.Answers.{head, headsFrom, storedHeads, leastWith}
+use Rattle.text_rules.specs.Answers.{headArity, headWords, head, headAt, headsFrom, storedHeads, leastWith}
 use Rattle.text_rules.proofs.Scans.{with-append, with-none}
 
 -- ---- functions from a place on
-
-abbrev pub headAt : List ℕ → ℕ → Head
-headAt l k = head (getD l (2 * k) 0) (getD l (2 * k + 1) 0)
 
 -- what is left of h functions from function k on
 abbrev pub left : List ℕ → ℕ → ℕ → List Head
@@ -63,13 +60,13 @@ module _ (p : ℕ → Bool) (l : List ℕ) (h : ℕ) where
   unfolding first
   first-start = omega (arith, ap (mainOf p) (left-all l h))
 
-  pub first-miss : (k : ℕ) → k < h → p (getD l (2 * k) 0) ≡ false → first (k + 1) ≡ first k
+  pub first-miss : (k : ℕ) → k < h → p (getD l (headWords * k) 0) ≡ false → first (k + 1) ≡ first k
   unfolding first mainOf
   first-miss k lt e =
       let f : mainOf p (left l h k) ≡ suc (mainOf p (left l h (k + 1))) = ap (mainOf p) (left-more l h k lt) ∙ rw e in
       omega arith
 
-  pub first-hit : (k : ℕ) → k < h → p (getD l (2 * k) 0) ≡ true → first k ≡ k
+  pub first-hit : (k : ℕ) → k < h → p (getD l (headWords * k) 0) ≡ true → first k ≡ k
   unfolding first mainOf
   first-hit k lt e =
       let f : mainOf p (left l h k) ≡ 0 = ap (mainOf p) (left-more l h k lt) ∙ rw e in
@@ -117,7 +114,7 @@ module _ (same : ℕ → ℕ → Bool) (i : ℕ) where
   function-below : (l : List ℕ) (k m n : ℕ) → functionOf same (headsFrom l k m) i ≡ some n → n < m
   unfolding functionOf headsFrom
   function-below l k zero n e = let z : _≡_ {A = ℕ} 0 1 = cc in absurd (omega arith)
-  function-below l k (suc m) n e = go (same (getD l (2 * k) 0) i) (functionOf same (headsFrom l (suc k) m) i) (λ j. function-below l (suc k) m j) e
+  function-below l k (suc m) n e = go (same (getD l (headWords * k) 0) i) (functionOf same (headsFrom l (suc k) m) i) (λ j. function-below l (suc k) m j) e
     where
       go : (b : Bool) (x : Option ℕ) → ((j : ℕ) → x ≡ some j → j < m) → cond b (some 0) (elim x [ none ↦ none | some j ↦ some (suc j) ]) ≡ some n → n < suc m
       go true x f e = let z : 0 ≡ n = cc in omega arith
@@ -130,19 +127,19 @@ module _ (same : ℕ → ℕ → Bool) (i : ℕ) where
   -- its arity stands beside its name
   abbrev arityAt : List ℕ → ℕ → Option ℕ → Option ℕ
   arityAt l k none = none
-  arityAt l k (some n) = some (getD l (2 * (k + n) + 1) 0)
+  arityAt l k (some n) = some (getD l (headWords * (k + n) + headArity) 0)
 
   arity-from : (l : List ℕ) (k m : ℕ) → arityOf same (headsFrom l k m) i ≡ arityAt l k (functionOf same (headsFrom l k m) i)
   unfolding arityOf functionOf headsFrom
   arity-from l k zero = refl
-  arity-from l k (suc m) = go (same (getD l (2 * k) 0) i) (functionOf same (headsFrom l (suc k) m) i) (arity-from l (suc k) m)
+  arity-from l k (suc m) = go (same (getD l (headWords * k) 0) i) (functionOf same (headsFrom l (suc k) m) i) (arity-from l (suc k) m)
     where
-      go : (b : Bool) (x : Option ℕ) → arityOf same (headsFrom l (suc k) m) i ≡ arityAt l (suc k) x → cond b (some (getD l (2 * k + 1) 0)) (arityOf same (headsFrom l (suc k) m) i) ≡ arityAt l k (cond b (some 0) (elim x [ none ↦ none | some n ↦ some (suc n) ]))
+      go : (b : Bool) (x : Option ℕ) → arityOf same (headsFrom l (suc k) m) i ≡ arityAt l (suc k) x → cond b (some (getD l (headWords * k + headArity) 0)) (arityOf same (headsFrom l (suc k) m) i) ≡ arityAt l k (cond b (some 0) (elim x [ none ↦ none | some n ↦ some (suc n) ]))
       go true x e = rw (add-zero k)
       go false none e = e
       go false (some n) e = e ∙ rw (suc-add k n, add-suc k n)
 
-  pub arity-is : (l : List ℕ) (h : ℕ) {n : ℕ} → some n ≡ functionOf same (storedHeads l h) i → some (getD l (2 * n + 1) 0) ≡ arityOf same (storedHeads l h) i
+  pub arity-is : (l : List ℕ) (h : ℕ) {n : ℕ} → some n ≡ functionOf same (storedHeads l h) i → some (getD l (headWords * n + headArity) 0) ≡ arityOf same (storedHeads l h) i
   arity-is l h {n} e =
       let z : 0 + n ≡ n = omega arith in
       sym (arity-from l 0 h ∙ rw (← e, z))

@@ -1,5 +1,4 @@
 -- Laws of the rules.
 pub mod Collects
 pub mod Functions
-pub mod Items
 pub mod Scans

@@ -10,7 +10,7 @@ use lib.ListN.{getD}
 use lib.Dec.{leb}
 use borrow.Author.Tests.{leb-true, leb-false}
 use Rattle.events.specs.Event.{Event}
-use Rattle.events.specs.Stored.{eventOf, from, stored}
+use Rattle.events.specs.Stored.{eventAt, from, stored}
 use Rattle.text_rules.specs.Scan.{scan, on, lesser, least}
 use Rattle.text_rules.specs.Answers.{leastWith}
 
@@ -68,9 +68,6 @@ pub least-append : (a b : List ℕ) → least (a ++ b) ≡ leastWith b (least a)
 least-append a b = sym (with-none (a ++ b)) ∙ with-append a b none ∙ ap (leastWith b) (with-none a)
 
 -- ---- events from a place on
-
-abbrev pub eventAt : List ℕ → ℕ → Event
-eventAt l k = eventOf (getD l (3 * k) 0) (getD l (3 * k + 1) 0) (getD l (3 * k + 2) 0)
 
 -- what is left of n events from event i on
 abbrev pub rest : List ℕ → ℕ → ℕ → List Event
