@@ -8,12 +8,12 @@ ghost use Rattle.text_rules.specs.Spelling.{sameName};
 ghost use Rattle.text_rules.specs.Rules.{miscounted};
 ghost use Rattle.events.specs.Read.{asEvent};
 ghost use Rattle.text_rules.specs.Answers.{headWords, place, leastWith, storedHeads};
+use events::event::Event;
+use events::event::event_at;
 use text_rules::broken::Broken;
 use text_rules::broken::lesser;
 use text_rules::heads::Found;
 use text_rules::heads::arity_of;
-use events::event::Event;
-use events::event::event_at;
 
 // What breaks the rule at one event, with what was found before.
 fn miscount(

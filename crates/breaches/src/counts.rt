@@ -8,13 +8,20 @@ ghost use Rattle.text_rules.specs.Rules.{counted, over, tooMany};
 ghost use Rattle.events.specs.Read.{asEvent};
 ghost use Rattle.text_rules.specs.Answers.{place, leastWith};
 ghost use Rattle.breaches.specs.Answers.{tallied, Room};
-use text_rules::broken::Broken;
-use text_rules::broken::lesser;
 use events::event::Event;
 use events::event::event_at;
+use text_rules::broken::Broken;
+use text_rules::broken::lesser;
+
+// How many there may be.
+const FUNCTIONS: usize = 16;
+
+const PARAMETERS: usize = 4;
+
+const DECLARATIONS: usize = 16;
 
 // How many functions so far, and of the present one how many parameters, and declarations with the parameters.
-pub struct Tally {
+struct Tally {
     pub functions: usize,
     pub parameters: usize,
     pub declarations: usize,
@@ -51,22 +58,22 @@ fn exceeds(tally: Tally, event: Event, best: Broken) -> Broken
 {
     match event {
         Event::Function(token) => {
-            if 16 <= tally.functions {
+            if FUNCTIONS <= tally.functions {
                 return lesser(token, best);
             }
             best
         }
         Event::Parameter(token) => {
-            if 4 <= tally.parameters {
+            if PARAMETERS <= tally.parameters {
                 return lesser(token, best);
             }
-            if 16 <= tally.declarations {
+            if DECLARATIONS <= tally.declarations {
                 return lesser(token, best);
             }
             best
         }
         Event::Declares(token) => {
-            if 16 <= tally.declarations {
+            if DECLARATIONS <= tally.declarations {
                 return lesser(token, best);
             }
             best

@@ -7,10 +7,13 @@ ghost use Rattle.text_rules.specs.Scan.{least};
 ghost use Rattle.text_rules.specs.Rules.{deep, tooDeep};
 ghost use Rattle.events.specs.Read.{asEvent};
 ghost use Rattle.text_rules.specs.Answers.{place, leastWith};
-use text_rules::broken::Broken;
-use text_rules::broken::lesser;
 use events::event::Event;
 use events::event::event_at;
+use text_rules::broken::Broken;
+use text_rules::broken::lesser;
+
+// How deep a thing may be.
+const DEPTH: usize = 24;
 
 // What breaks the rule at one event, with what was found before.
 fn deeper(event: Event, best: Broken) -> Broken
@@ -18,7 +21,7 @@ fn deeper(event: Event, best: Broken) -> Broken
 {
     match event {
         Event::Thing { depth, token } => {
-            if 24 < depth {
+            if DEPTH < depth {
                 lesser(token, best)
             } else {
                 best
@@ -28,7 +31,7 @@ fn deeper(event: Event, best: Broken) -> Broken
     }
 }
 
-// The least of the first tokens of the things in n events that are deeper than 24.
+// The least of the first tokens of the things in n events that are too deep.
 pub fn too_deep(events: &[u32], n: usize) -> Broken
     requires { ⌜ eventWords * n ≤ length (now events) ⌝ }
     ensures { λ r. ⌜ place r ≡ least (tooDeep (stored (now (events .entry)) n)) ⌝ }

@@ -7,10 +7,10 @@ ghost use Rattle.text_rules.specs.Scan.{least};
 ghost use Rattle.text_rules.specs.Rules.{unended, openEnds};
 ghost use Rattle.events.specs.Read.{asEvent};
 ghost use Rattle.text_rules.specs.Answers.{place, leastWith};
-use text_rules::broken::Broken;
-use text_rules::broken::lesser;
 use events::event::Event;
 use events::event::event_at;
+use text_rules::broken::Broken;
+use text_rules::broken::lesser;
 
 // What breaks the rule at one event, with what was found before.
 fn reached(event: Event, best: Broken) -> Broken

@@ -24,7 +24,7 @@ fn main_with(
     arity: usize,
     best: Broken,
 ) -> Broken
-    ensures { λ r. ⌜ place r ≡ leastWith (withParameters (isMain (now (text .entry)) (now (places .entry)) (now (values .entry))) (mains (isMain (now (text .entry)) (now (places .entry)) (now (values .entry))) (head name arity ∷ []))) (place best) ⌝ }
+    ensures { λ r. ⌜ place r ≡ leastWith (withParameters (mains (isMain (now (text .entry)) (now (places .entry)) (now (values .entry))) (head name arity ∷ []))) (place best) ⌝ }
 {
     if is_main(text, places, values, name) {
         if 0 < arity {
@@ -37,7 +37,7 @@ fn main_with(
 // The least of the names of those of h functions that are main and have parameters.
 fn mains_with(text: &[u8], places: &[u32], values: &[u32], heads: &[u32], h: usize) -> Broken
     requires { ⌜ headWords * h ≤ length (now heads) ⌝ }
-    ensures { λ r. ⌜ place r ≡ least (withParameters (isMain (now (text .entry)) (now (places .entry)) (now (values .entry))) (mains (isMain (now (text .entry)) (now (places .entry)) (now (values .entry))) (storedHeads (now (heads .entry)) h))) ⌝ }
+    ensures { λ r. ⌜ place r ≡ least (withParameters (mains (isMain (now (text .entry)) (now (places .entry)) (now (values .entry))) (storedHeads (now (heads .entry)) h))) ⌝ }
 {
     let mut best = Broken::Nowhere;
     let mut k = 0;
@@ -60,7 +60,7 @@ pub fn main_rule(
     end: usize,
 ) -> Broken
     requires { ⌜ headWords * h ≤ length (now heads) ⌝ }
-    ensures { λ r. ⌜ place r ≡ least (badMain (isMain (now (text .entry)) (now (places .entry)) (now (values .entry))) end (mains (isMain (now (text .entry)) (now (places .entry)) (now (values .entry))) (storedHeads (now (heads .entry)) h))) ⌝ }
+    ensures { λ r. ⌜ place r ≡ least (badMain end (mains (isMain (now (text .entry)) (now (places .entry)) (now (values .entry))) (storedHeads (now (heads .entry)) h))) ⌝ }
 {
     if main_number(text, places, values, heads, h) < h {
         return mains_with(text, places, values, heads, h);

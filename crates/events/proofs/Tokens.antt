@@ -19,7 +19,7 @@ use Rattle.events.proofs.Nodes.{first-below}
 
 -- ---- of the tokens of a text
 
-mark-width : (o : Tree T.cmp) → width o ≡ 1
+pub mark-width : (o : Tree T.cmp) → width o ≡ 1
 unfolding onto
 mark-width (T.cmpMark o) = refl
 

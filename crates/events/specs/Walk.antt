@@ -9,10 +9,10 @@ use Rattle.syntax.specs.Table.{nodeWords, Holds}
 use Rattle.events.specs.Event.{events}
 use Rattle.events.specs.Stored.{eventWords, stored}
 
--- the tokens that a tree names are below m (a declaration names the token after its first, too)
+-- the tokens that a tree names are below m (a declaration and a negative number name the token after their first, too)
 unfoldable pub Below : {s : Sort} → ℕ → Ast s → Type 0
 Below m (A.number i) = i < m
-Below m (A.negative i) = i < m
+Below m (A.negative i) = i + 1 < m
 Below m (A.name i) = i < m
 Below m (A.call i a) = (i < m) × Below m a
 Below m (A.bracket i e) = (i < m) × Below m e

@@ -1,9 +1,8 @@
 // The events of a syntax tree: one pass over the node table.
-ghost use mathlib.Core.Path.{_≡_};
 ghost use mathlib.Core.List.{[], _∷_};
-ghost use Prim.Native.Nat.{_+_, _*_, _≤_, _<_};
+ghost use Prim.Native.Nat.{_+_, _*_, _^_, _≤_, _<_};
 ghost use lib.ListN.{length};
-ghost use Rattle.syntax.specs.Ast.{expr, args, stmt, body};
+ghost use Rattle.syntax.specs.Ast.{expr, args, body};
 ghost use Rattle.events.specs.Stored.{eventWords, eventOf};
 ghost use Rattle.events.specs.Walk.{Rooted, Ready, Walked};
 ghost use Rattle.events.specs.Visit.{Stands, Located, First, Count, Stops, Grown, Visited, Enclosed};
@@ -14,7 +13,7 @@ pub mod event;
 
 // Writes event n and answers n + 1.
 fn emit(out: &mut [u32], n: usize, k: u32, x: usize, y: usize) -> usize
-    requires { ⌜ (eventWords * n + eventWords ≤ length (now out)) × (x < 4294967296) × (y < 4294967296) ⌝ }
+    requires { ⌜ (eventWords * n + eventWords ≤ length (now out)) × (x < 2 ^ 32) × (y < 2 ^ 32) ⌝ }
     ensures { λ r. ⌜ Grown (now (out .entry)) (now (out .exit)) n r (eventOf k x y ∷ []) ⌝ }
 {
     out[event::EVENT_WORDS * n] = k;

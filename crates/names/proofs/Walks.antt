@@ -3,7 +3,7 @@ use Prim.Native.Nat.{ℕ, zero, suc, _+_, _-_, _*_, _^_, _≤_, _<_}
 use mathlib.Core.Path.{_≡_, refl, sym, ap, _∙_}
 use mathlib.Core.Bool.{Bool}
 use mathlib.Core.List.{List, [], _∷_, _++_}
-use mathlib.Core.Option.{Option, none, some}
+use mathlib.Core.Option.{Option, none}
 use native.Mathlib.Omega.{arith}
 use native.Mathlib.Numerals.{add-one}
 use lib.ListN.{length, getD}
@@ -140,7 +140,7 @@ module _ (same : ℕ → ℕ → Bool) (l : List ℕ) (h : ℕ) where
 
   pub repeats-turn :
       (k : ℕ) (p : Option ℕ) {q : Option ℕ} {i : ℕ} → k < h → i ≡ getD l (headWords * k) 0
-      → q ≡ leastWith (ifFound same (functionOf same (storedHeads l k) i) i) p
+      → q ≡ leastWith (ifFound (functionOf same (storedHeads l k) i) i) p
       → repeatsAhead (k + 1) q ≡ repeatsAhead k p
   unfolding repeatsAhead repeated
   repeats-turn k p lt x z =
@@ -149,8 +149,8 @@ module _ (same : ℕ → ℕ → Bool) (l : List ℕ) (h : ℕ) where
       rw (z, x)
       (sym
       (ap (λ (hs : List Head). leastWith (repeated same (storedHeads l k) hs) p) (left-more l h k lt)
-      ∙ with-append (ifFound same (functionOf same (storedHeads l k) (getD l (headWords * k) 0)) (getD l (headWords * k) 0)) (repeated same (storedHeads l k ++ headAt l k ∷ []) (left l h (k + 1))) p
-      ∙ ap (λ (hs : List Head). leastWith (repeated same hs (left l h (k + 1))) (leastWith (ifFound same (functionOf same (storedHeads l k) (getD l (headWords * k) 0)) (getD l (headWords * k) 0)) p)) snoc))
+      ∙ with-append (ifFound (functionOf same (storedHeads l k) (getD l (headWords * k) 0)) (getD l (headWords * k) 0)) (repeated same (storedHeads l k ++ headAt l k ∷ []) (left l h (k + 1))) p
+      ∙ ap (λ (hs : List Head). leastWith (repeated same hs (left l h (k + 1))) (leastWith (ifFound (functionOf same (storedHeads l k) (getD l (headWords * k) 0)) (getD l (headWords * k) 0)) p)) snoc))
 
   pub repeats-end : (k : ℕ) (p : Option ℕ) → h ≤ k → repeatsAhead k p ≡ p
   unfolding repeatsAhead repeated leastWith

@@ -12,20 +12,21 @@ ghost use Rattle.events.specs.Read.{asEvent};
 ghost use Rattle.text_rules.specs.Answers.{headWords, place, leastWith, storedHeads};
 ghost use Rattle.scopes.specs.Memory.{scopeWords, Held, blocksOf, scopeOf};
 ghost use Rattle.names.specs.Steps.{SeenDeclaration, SeenVariable, SeenCall, SeenEvent, SeenEvents, Named};
+use code::Address;
+use events::event::Event;
+use events::event::event_at;
+use scopes::lookup::Sought;
+use scopes::lookup::seek;
+use scopes::scope::Scope;
+use scopes::scope::enter;
 use text_rules::broken::Broken;
 use text_rules::broken::lesser;
 use text_rules::heads::Found;
 use text_rules::heads::HEAD_WORDS;
 use text_rules::heads::function_of;
-use events::event::Event;
-use events::event::event_at;
 use text_rules::spelling::word;
-use scopes::lookup::Sought;
-use scopes::lookup::seek;
-use scopes::scope::Scope;
-use scopes::scope::enter;
 
-// What token i means; a token past the end is passed over.
+// What token i means, as a number; a token past the end is passed over.
 fn write(slots: &mut [u32], i: usize, means: usize)
     requires { ⌜ means < 2 ^ 32 ⌝ }
     ensures { λ r. ⌜ now (slots .exit) ≡ set (now (slots .entry)) i means ⌝ }
@@ -35,7 +36,15 @@ fn write(slots: &mut [u32], i: usize, means: usize)
     }
 }
 
-// Token i declares a variable, with the number `next`.
+// Token i names a variable.
+fn write_address(slots: &mut [u32], i: usize, address: Address)
+    requires { ⌜ address .0 < 2 ^ 32 ⌝ }
+    ensures { λ r. ⌜ now (slots .exit) ≡ set (now (slots .entry)) i (address .0) ⌝ }
+{
+    write(slots, i, address.0);
+}
+
+// Token i declares a variable.
 fn see_declaration(
     text: &[u8],
     places: &[u32],
@@ -43,15 +52,15 @@ fn see_declaration(
     scope: &[u32],
     blocks: usize,
     seen: usize,
-    next: usize,
+    address: Address,
     slots: &mut [u32],
     i: usize,
     best: Broken,
 ) -> Broken
-    requires { ⌜ (Held (now scope) blocks seen) × (next < 2 ^ 32) ⌝ }
-    ensures { λ r. ⌜ SeenDeclaration (sameName (now (text .entry)) (now (places .entry)) (now (values .entry))) (blocksOf (now (scope .entry)) blocks seen) next i (place best) (now (slots .entry)) (place r) (now (slots .exit)) ⌝ }
+    requires { ⌜ (Held (now scope) blocks seen) × (address .0 < 2 ^ 32) ⌝ }
+    ensures { λ r. ⌜ SeenDeclaration (sameName (now (text .entry)) (now (places .entry)) (now (values .entry))) (blocksOf (now (scope .entry)) blocks seen) (address .0) i (place best) (now (slots .entry)) (place r) (now (slots .exit)) ⌝ }
 {
-    write(slots, i, next);
+    write_address(slots, i, address);
     match seek(text, places, values, scope, blocks, seen, i) {
         Sought::Nothing => best,
         Sought::At(_) => lesser(i, best),
@@ -76,7 +85,7 @@ fn see_variable(
     match seek(text, places, values, scope, blocks, seen, i) {
         Sought::Nothing => lesser(i, best),
         Sought::At(address) => {
-            write(slots, i, address.0);
+            write_address(slots, i, address);
             best
         }
     }
@@ -131,7 +140,7 @@ fn see(
             scope,
             blocks,
             seen,
-            s.next,
+            Address(s.next),
             slots,
             i,
             best,
@@ -143,7 +152,7 @@ fn see(
             scope,
             blocks,
             seen,
-            s.next,
+            Address(s.next),
             slots,
             i,
             best,
@@ -205,7 +214,7 @@ fn repeat(
     best: Broken,
 ) -> Broken
     requires { ⌜ headWords * k ≤ length (now heads) ⌝ }
-    ensures { λ r. ⌜ place r ≡ leastWith (ifFound (sameName (now (text .entry)) (now (places .entry)) (now (values .entry))) (functionOf (sameName (now (text .entry)) (now (places .entry)) (now (values .entry))) (storedHeads (now (heads .entry)) k) i) i) (place best) ⌝ }
+    ensures { λ r. ⌜ place r ≡ leastWith (ifFound (functionOf (sameName (now (text .entry)) (now (places .entry)) (now (values .entry))) (storedHeads (now (heads .entry)) k) i) i) (place best) ⌝ }
 {
     match function_of(text, places, values, heads, k, i) {
         Found::Nothing => best,
@@ -228,7 +237,8 @@ fn repeats(
     let mut best = before;
     let mut k = 0;
     while k < h {
-        best = repeat(text, places, values, heads, k, word(heads, HEAD_WORDS * k), best);
+        let name = word(heads, HEAD_WORDS * k);
+        best = repeat(text, places, values, heads, k, name, best);
         k += 1;
     }
     best

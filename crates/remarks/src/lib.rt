@@ -13,10 +13,10 @@ ghost use Rattle.checker.specs.Analysis.{Slices};
 ghost use Rattle.remarks.specs.Remarks.{begun, callTo, calledBy, Remarked, Answers, verdict};
 ghost use Rattle.remarks.specs.Steps.{fresh, callsIn, Marks, Unmarked, offsetIn, Apart, Fair, Lists};
 use checker::Analysed;
-use text_rules::heads::Found;
-use text_rules::heads::function_of;
 use events::event::Event;
 use events::event::event_at;
+use text_rules::heads::Found;
+use text_rules::heads::function_of;
 use text_rules::mains::main_number;
 use text_rules::spelling::word;
 

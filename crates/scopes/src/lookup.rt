@@ -8,11 +8,9 @@ ghost use Rattle.scopes.specs.Answers.{slotOf, orZero};
 use crate::scope::SCOPE_SLOT;
 use crate::scope::SCOPE_START;
 use crate::scope::SCOPE_WORDS;
+use code::Address;
 use text_rules::spelling::same_name;
 use text_rules::spelling::word;
-
-// A variable's address in its function's frame: the number of its declaration in the function, parameters first.
-pub struct Address(pub usize);
 
 // What a lookup finds.
 pub enum Sought {

@@ -1,8 +1,8 @@
 -- The table that holds an abstract syntax tree: five words for each node, its kind, a token's number and three more. A node's children have smaller numbers.
-use Prim.Native.Nat.{ℕ, _+_, _*_, _≤_, _<_}
+use Prim.Native.Nat.{ℕ, _+_, _*_, _<_}
 use mathlib.Core.Path.{_≡_}
 use mathlib.Core.List.{List}
-use lib.ListN.{length, getD, set}
+use lib.ListN.{getD, set}
 use Rattle.syntax.specs.Tree.{Cmp, less, lessEq, greater, greaterEq, equal, unequal}
 use Rattle.syntax.specs.Ast as A
 use Rattle.syntax.specs.Ast.{Sort, Ast}

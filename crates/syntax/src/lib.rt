@@ -9,7 +9,7 @@ pub mod kind;
 pub mod token;
 
 // The words of a node: its kind, a token and three more.
-pub const NODE_WORDS: usize = 5;
+const NODE_WORDS: usize = 5;
 
 const TOKEN: usize = 1;
 

@@ -1,6 +1,6 @@
 -- Laws of collecting the functions of a text.
 use Prim.Native.Nat.{ℕ, zero, suc, _+_, _-_, _*_, _≤_, _<_}
-use mathlib.Core.Path.{_≡_, refl, sym, ap, subst, _∙_}
+use mathlib.Core.Path.{_≡_, refl, sym, ap, _∙_}
 use mathlib.Core.Bool.{Bool, true, false, not, cond}
 use mathlib.Core.List.{List, [], _∷_, _++_, append-assoc, append-nil}
 use native.Mathlib.Omega.{arith}
@@ -11,13 +11,14 @@ use lib.Seq.{getD-set-same, getD-set-other}
 use lib.Dec.{eqb}
 use types.Run.{OneOf}
 use Rattle.events.specs.Event.{Event, function, parameter, thing, opens, closes, declares, uses, calls, ends}
-use Rattle.events.specs.Stored.{eventAt, eventOf, from, stored}
+use Rattle.events.specs.Stored.{eFunction, eParameter, eThing, eOpens, eDeclares, eUses, eCalls, eEnds, eventAt, eventOf, from, stored}
 use Rattle.events.specs.declared.event.Event as C
 use Rattle.events.specs.declared.event.Event.the-variants.{Function, Parameter, Thing, Opens, Closes, Declares, Uses, Calls, Ends}
 use Rattle.text_rules.specs.Rules.{Head, heads, parameters}
 use Rattle.events.specs.Read.{asEvent}
 use Rattle.text_rules.specs.Answers.{headArity, headWords, head, headAt, headsFrom, storedHeads}
 use Rattle.events.proofs.Variants.{number, not-one}
+use Rattle.events.proofs.Laws.{from-length}
 use Rattle.text_rules.proofs.Scans.{rest, rest-more, rest-none, rest-all}
 
 -- ---- the parameters that events begin with
@@ -66,20 +67,15 @@ parameters-few (uses i ∷ es) = omega arith
 parameters-few (calls i n ∷ es) = omega arith
 parameters-few (ends i b ∷ es) = omega arith
 
-length-from : (l : List ℕ) (k m : ℕ) → length (from l k m) ≡ m
-unfolding from
-length-from l k zero = refl
-length-from l k (suc m) = ap suc (length-from l (suc k) m)
-
 pub few : (l : List ℕ) (k m : ℕ) → parameters (from l k m) ≤ m
-few l k m = omega (arith, parameters-few (from l k m), length-from l k m)
+few l k m = omega (arith, parameters-few (from l k m), from-length l k m)
 
 -- ---- one more function
 
 -- the name of a function is the event's second word
 pub function-word : (k x y t : ℕ) → function t ≡ eventOf k x y → t ≡ x
 unfolding eventOf
-function-word k x y t e = go (eqb k 1) (eqb k 2) (eqb k 3) (eqb k 4) (eqb k 5) (eqb k 6) (eqb k 7) (eqb k 8) e
+function-word k x y t e = go (eqb k eFunction) (eqb k eParameter) (eqb k eThing) (eqb k eOpens) (eqb k eDeclares) (eqb k eUses) (eqb k eCalls) (eqb k eEnds) e
   where
     go : (b₁ b₂ b₃ b₄ b₅ b₆ b₇ b₈ : Bool) → function t ≡ cond b₁ (function x) (cond b₂ (parameter x) (cond b₃ (thing y x) (cond b₄ opens (cond b₅ (declares x) (cond b₆ (uses x) (cond b₇ (calls x y) (cond b₈ (ends x (not (eqb y 0))) closes))))))) → t ≡ x
     go true b₂ b₃ b₄ b₅ b₆ b₇ b₈ e = cc

@@ -1,20 +1,19 @@
 -- Laws of the functions in a slice: the first one with a name, main, and what one more function adds.
 use Prim.Native.Nat.{ℕ, zero, suc, _+_, _-_, _*_, _≤_, _<_}
-use mathlib.Core.Path.{_≡_, refl, sym, ap, subst, _∙_}
+use mathlib.Core.Path.{_≡_, refl, sym, ap, _∙_}
 use mathlib.Core.Bool.{Bool, true, false, cond}
-use mathlib.Core.List.{List, [], _∷_, _++_, append-assoc, append-nil}
+use mathlib.Core.List.{List, [], _∷_, _++_, append-nil}
 use mathlib.Core.Option.{Option, none, some}
 use native.Mathlib.Omega.{arith}
 use native.Mathlib.Numerals.{add-one}
 use native.Mathlib.Nat.{add-zero, add-suc, suc-add}
-use lib.ListN.{length, getD, set, length-set}
-use lib.Seq.{getD-set-same, getD-set-other}
+use lib.ListN.{length, getD}
 use lib.Dec.{ltb, leb·suc-suc}
 use borrow.Author.Tests.{lt-ltb, le-ltb}
 use Rattle.text_rules.specs.Scan.{when, least}
 use Rattle.text_rules.specs.Rules.{Head, functionOf, arityOf, mains, withParameters, badMain}
 use Rattle.text_rules.specs.Resolve.{mainOf}
-use Rattle.text_rules.specs.Answers.{headArity, headWords, head, headAt, headsFrom, storedHeads, leastWith}
+use Rattle.text_rules.specs.Answers.{headArity, headWords, headAt, headsFrom, storedHeads, leastWith}
 use Rattle.text_rules.proofs.Scans.{with-append, with-none}
 
 -- ---- functions from a place on
@@ -151,43 +150,43 @@ module _ (same : ℕ → ℕ → Bool) (i : ℕ) where
 
 module _ (p : ℕ → Bool) where
   -- one function's share of the rule
-  one-more : (h : Head) (hs : List Head) → withParameters p (mains p (h ∷ hs)) ≡ withParameters p (mains p (h ∷ [])) ++ withParameters p (mains p hs)
+  one-more : (h : Head) (hs : List Head) → withParameters (mains p (h ∷ hs)) ≡ withParameters (mains p (h ∷ [])) ++ withParameters (mains p hs)
   unfolding withParameters mains
   one-more h hs = go (p (h .name))
     where
-      go : (b : Bool) → withParameters p (cond b (h ∷ mains p hs) (mains p hs)) ≡ withParameters p (cond b (h ∷ []) []) ++ withParameters p (mains p hs)
-      go true = ap (λ (x : List ℕ). x ++ withParameters p (mains p hs)) (sym (append-nil (when (ltb 0 (h .arity)) (h .name))))
+      go : (b : Bool) → withParameters (cond b (h ∷ mains p hs) (mains p hs)) ≡ withParameters (cond b (h ∷ []) []) ++ withParameters (mains p hs)
+      go true = ap (λ (x : List ℕ). x ++ withParameters (mains p hs)) (sym (append-nil (when (ltb 0 (h .arity)) (h .name))))
       go false = refl
 
   module _ (l : List ℕ) (h : ℕ) where
     -- what the rule will have found at the end: q is the least token before function k
     pub mainAhead : ℕ → Option ℕ → Option ℕ
-    mainAhead k q = leastWith (withParameters p (mains p (left l h k))) q
+    mainAhead k q = leastWith (withParameters (mains p (left l h k))) q
 
-    pub main-start : mainAhead 0 none ≡ least (withParameters p (mains p (storedHeads l h)))
+    pub main-start : mainAhead 0 none ≡ least (withParameters (mains p (storedHeads l h)))
     unfolding mainAhead
-    main-start = with-none (withParameters p (mains p (left l h 0))) ∙ ap (λ (hs : List Head). least (withParameters p (mains p hs))) (left-all l h)
+    main-start = with-none (withParameters (mains p (left l h 0))) ∙ ap (λ (hs : List Head). least (withParameters (mains p hs))) (left-all l h)
 
-    pub main-turn : (k : ℕ) (q : Option ℕ) {r : Option ℕ} → k < h → r ≡ leastWith (withParameters p (mains p (headAt l k ∷ []))) q → mainAhead (k + 1) r ≡ mainAhead k q
+    pub main-turn : (k : ℕ) (q : Option ℕ) {r : Option ℕ} → k < h → r ≡ leastWith (withParameters (mains p (headAt l k ∷ []))) q → mainAhead (k + 1) r ≡ mainAhead k q
     unfolding mainAhead
     main-turn k q lt e =
         rw e
         (sym
-        (ap (λ (hs : List Head). leastWith (withParameters p (mains p hs)) q) (left-more l h k lt)
+        (ap (λ (hs : List Head). leastWith (withParameters (mains p hs)) q) (left-more l h k lt)
         ∙ ap (λ (x : List ℕ). leastWith x q) (one-more (headAt l k) (left l h (k + 1)))
-        ∙ with-append (withParameters p (mains p (headAt l k ∷ []))) (withParameters p (mains p (left l h (k + 1)))) q))
+        ∙ with-append (withParameters (mains p (headAt l k ∷ []))) (withParameters (mains p (left l h (k + 1)))) q))
 
     pub main-end : (k : ℕ) (q : Option ℕ) → h ≤ k → mainAhead k q ≡ q
     unfolding mainAhead withParameters mains leastWith
-    main-end k q le = ap (λ (hs : List Head). leastWith (withParameters p (mains p hs)) q) (left-none l h k le)
+    main-end k q le = ap (λ (hs : List Head). leastWith (withParameters (mains p hs)) q) (left-none l h k le)
 
   -- is there a main?
-  some-main : (end : ℕ) (hs : List Head) → mainOf p hs < length hs → badMain p end (mains p hs) ≡ withParameters p (mains p hs)
+  some-main : (end : ℕ) (hs : List Head) → mainOf p hs < length hs → badMain end (mains p hs) ≡ withParameters (mains p hs)
   unfolding mainOf mains badMain
   some-main end [] lt = absurd (omega arith)
   some-main end (h ∷ hs) lt = go (p (h .name)) (some-main end hs) lt
     where
-      go : (b : Bool) → (mainOf p hs < length hs → badMain p end (mains p hs) ≡ withParameters p (mains p hs)) → cond b 0 (suc (mainOf p hs)) < suc (length hs) → badMain p end (cond b (h ∷ mains p hs) (mains p hs)) ≡ withParameters p (cond b (h ∷ mains p hs) (mains p hs))
+      go : (b : Bool) → (mainOf p hs < length hs → badMain end (mains p hs) ≡ withParameters (mains p hs)) → cond b 0 (suc (mainOf p hs)) < suc (length hs) → badMain end (cond b (h ∷ mains p hs) (mains p hs)) ≡ withParameters (cond b (h ∷ mains p hs) (mains p hs))
       go true f lt = refl
       go false f lt = f (omega arith)
 
@@ -200,9 +199,9 @@ module _ (p : ℕ → Bool) where
       go true f le = absurd (omega arith)
       go false f le = f (omega arith)
 
-  pub bad-some : (end : ℕ) (l : List ℕ) (h : ℕ) → mainOf p (storedHeads l h) < h → badMain p end (mains p (storedHeads l h)) ≡ withParameters p (mains p (storedHeads l h))
+  pub bad-some : (end : ℕ) (l : List ℕ) (h : ℕ) → mainOf p (storedHeads l h) < h → badMain end (mains p (storedHeads l h)) ≡ withParameters (mains p (storedHeads l h))
   bad-some end l h lt = some-main end (storedHeads l h) (omega (arith, length-heads l 0 h))
 
-  pub bad-none : (end : ℕ) (l : List ℕ) (h : ℕ) → h ≤ mainOf p (storedHeads l h) → badMain p end (mains p (storedHeads l h)) ≡ end ∷ []
+  pub bad-none : (end : ℕ) (l : List ℕ) (h : ℕ) → h ≤ mainOf p (storedHeads l h) → badMain end (mains p (storedHeads l h)) ≡ end ∷ []
   unfolding badMain
-  bad-none end l h le = ap (badMain p end) (no-main (storedHeads l h) (omega (arith, length-heads l 0 h)))
+  bad-none end l h le = ap (badMain end) (no-main (storedHeads l h) (omega (arith, length-heads l 0 h)))

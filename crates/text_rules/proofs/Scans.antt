@@ -1,12 +1,11 @@
 -- One law for every rule: to go through the events with the least token so far is to take the least of all that the rule gives.
-use Prim.Native.Nat.{ℕ, zero, suc, _+_, _-_, _*_, _≤_, _<_}
+use Prim.Native.Nat.{ℕ, suc, _+_, _-_, _≤_, _<_}
 use mathlib.Core.Path.{_≡_, refl, sym, ap, _∙_}
 use mathlib.Core.Bool.{Bool, true, false, cond}
 use mathlib.Core.List.{List, [], _∷_, _++_}
 use mathlib.Core.Option.{Option, none, some}
 use native.Mathlib.Omega.{arith}
 use native.Mathlib.Numerals.{add-one}
-use lib.ListN.{getD}
 use lib.Dec.{leb}
 use borrow.Author.Tests.{leb-true, leb-false}
 use Rattle.events.specs.Event.{Event}
@@ -48,7 +47,7 @@ unfolding lesser
 lesser-turn i j none = ap some (less-swap i j)
 lesser-turn i j (some k) = ap some (less-turn i j k)
 
-lesser-with : (i : ℕ) (l : List ℕ) (p : Option ℕ) → lesser i (leastWith l p) ≡ leastWith l (lesser i p)
+pub lesser-with : (i : ℕ) (l : List ℕ) (p : Option ℕ) → lesser i (leastWith l p) ≡ leastWith l (lesser i p)
 unfolding leastWith
 lesser-with i [] p = refl
 lesser-with i (j ∷ l) p = lesser-turn i j (leastWith l p) ∙ ap (lesser j) (lesser-with i l p)

@@ -1,15 +1,15 @@
 // The functions of a text: two words for each, its name and how many parameters it has.
 ghost use mathlib.Core.Path.{_≡_};
-ghost use Prim.Native.Nat.{_+_, _-_, _*_, _≤_, _<_};
-ghost use lib.ListN.{length, getD, set};
+ghost use Prim.Native.Nat.{_+_, _-_, _*_, _^_, _≤_, _<_};
+ghost use lib.ListN.{length, set};
 ghost use Rattle.events.specs.Stored.{eventWords, from};
 ghost use Rattle.text_rules.specs.Spelling.{sameName};
 ghost use Rattle.text_rules.specs.Rules.{parameters, functionOf, arityOf};
 ghost use Rattle.text_rules.specs.Answers.{headArity, headWords, found, storedHeads, Collected};
-use events::event::Event;
-use events::event::event_at;
 use crate::spelling::same_name;
 use crate::spelling::word;
+use events::event::Event;
+use events::event::event_at;
 
 // The words of a function: its name, and how many parameters it has.
 pub const HEAD_WORDS: usize = 2;
@@ -39,7 +39,7 @@ fn arity(events: &[u32], n: usize, k: usize) -> usize
 
 // Writes function h.
 fn put(heads: &mut [u32], h: usize, name: usize, arity: usize)
-    requires { ⌜ (headWords * h + headWords ≤ length (now heads)) × (name < 4294967296) × (arity < 4294967296) ⌝ }
+    requires { ⌜ (headWords * h + headWords ≤ length (now heads)) × (name < 2 ^ 32) × (arity < 2 ^ 32) ⌝ }
     ensures { λ r. ⌜ now (heads .exit) ≡ set (set (now (heads .entry)) (headWords * h) name) (headWords * h + headArity) arity ⌝ }
 {
     heads[HEAD_WORDS * h] = name as u32;
@@ -48,7 +48,7 @@ fn put(heads: &mut [u32], h: usize, name: usize, arity: usize)
 
 // Writes the functions of n events, in order, and answers how many there are.
 pub fn collect_heads(events: &[u32], n: usize, heads: &mut [u32]) -> usize
-    requires { ⌜ (eventWords * n ≤ length (now events)) × (headWords * n ≤ length (now heads)) × (n < 4294967296) ⌝ }
+    requires { ⌜ (eventWords * n ≤ length (now events)) × (headWords * n ≤ length (now heads)) × (n < 2 ^ 32) ⌝ }
     ensures { λ r. ⌜ Collected (now (events .entry)) n (now (heads .entry)) (now (heads .exit)) r ⌝ }
 {
     let mut h = 0;

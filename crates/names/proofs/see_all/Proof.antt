@@ -1,10 +1,8 @@
-use Prim.Native.Nat.{_+_, _*_, _-_, _≤_}
-use mathlib.Core.Path.{_≡_, sym, _∙_}
+use Prim.Native.Nat.{_+_, _*_, _-_}
 use native.Mathlib.Omega.{arith}
 use lib.ListN.{length}
 use borrow.Author.Needs.{needs}
 use Rattle.text_rules.specs.Spelling.{sameName}
-use Rattle.events.specs.Read.{asEvent}
 use Rattle.events.specs.Stored.{eventToken, eventWords}
 use Rattle.text_rules.specs.Answers.{place, storedHeads}
 use Rattle.names.proofs.Walks.{Walk, walk-starts, walk-turn, walk-ends, walk-room, token-small}

@@ -2,7 +2,6 @@ use Prim.Native.Nat.{ℕ, _+_, _-_, _*_, _≤_}
 use mathlib.Core.Path.{_≡_, refl, sym, ap, _∙_}
 use mathlib.Core.Bool.{Bool}
 use mathlib.Core.List.{List, _∷_}
-use mathlib.Core.Option.{Option, none, some}
 use native.Mathlib.Omega.{arith}
 use borrow.Author.Needs.{needs}
 use Rattle.text_rules.specs.Spelling.{sameName}
@@ -10,7 +9,7 @@ use Rattle.text_rules.specs.Names.{sought}
 use Rattle.scopes.specs.Memory.{scopeSlot, scopeWords, from, blocksOf, Ordered}
 use Rattle.scopes.specs.Answers.{slotOf}
 use Rattle.scopes.specs.declared.lookup.Sought.{Sought}
-use Rattle.scopes.specs.declared.lookup.Sought.the-variants.{Nothing, At}
+use Rattle.scopes.specs.declared.lookup.Sought.the-variants.{Nothing}
 use Rattle.scopes.proofs.Seeking.{hit, miss, over, taken, begins, nowhere}
 use Rattle.scopes.proofs.lookup.seek.Statement.{statement}
 use Rattle.scopes.proofs.lookup.seek.Tie as tie
