@@ -45,3 +45,11 @@ pub const RETURN: u32 = 24;
 
 // A call is done with the function's number, and so many times the count of its arguments.
 pub const FUNCTIONS: usize = 16;
+
+// Where the functions begin that a program has not: the entry where a run fails.
+pub const NOWHERE: u32 = 2;
+
+// The words of an entry: its kind, then its number.
+pub const WORDS: usize = 2;
+
+pub const NUMBER_WORD: usize = 1;

@@ -26,12 +26,13 @@ use Rattle.text_rules.specs.Rules as R
 use Rattle.text_rules.specs.Rules.{Head}
 use Rattle.text_rules.proofs.Functions.{length-heads}
 use Rattle.checker.specs.Sizes.{EVENTS, HEADS}
+use Rattle.text_rules.proofs.Counts.{few-functions}
 use Rattle.checker.specs.Analysis.{Known}
 use Rattle.checker.proofs.Analysing.{Into, as-long, token-list, few-listed}
 use Rattle.remarks.specs.Steps.{offsetIn, Apart, Fair}
 use Rattle.remarks.proofs.Marking.{clash}
 use Rattle.checker.proofs.Exactly.{Unbroken, unbroken}
-use Rattle.remarks.proofs.Accepted.{unrepeated, few-functions, has-main, other-name, nameAt, names-below, name-stored}
+use Rattle.remarks.proofs.Accepted.{unrepeated, has-main, other-name, nameAt, names-below, name-stored}
 
 -- ---- places ascend
 

@@ -6,17 +6,18 @@ ghost use lib.Dec.{ltb};
 ghost use Rattle.events.specs.Stored.{stored};
 ghost use Rattle.text_rules.specs.Spelling.{sameName, isMain};
 ghost use Rattle.text_rules.specs.Resolve.{mainOf};
-ghost use Rattle.text_rules.specs.Answers.{event, found, storedHeads};
+ghost use Rattle.events.specs.Read.{asEvent};
+ghost use Rattle.text_rules.specs.Answers.{found, storedHeads};
 ghost use Rattle.checker.specs.Check.{checked};
 ghost use Rattle.checker.specs.Analysis.{Slices};
 ghost use Rattle.remarks.specs.Remarks.{begun, callTo, calledBy, Remarked, Answers, verdict};
 ghost use Rattle.remarks.specs.Steps.{fresh, callsIn, Marks, Unmarked, offsetIn, Apart, Fair, Lists};
 use checker::Analysed;
 use checker::sizes;
+use events::event::Event;
+use events::event::event_at;
 use text_rules::heads::Found;
 use text_rules::heads::function_of;
-use text_rules::item::Item;
-use text_rules::item::item_at;
 use text_rules::mains::main_number;
 use text_rules::spelling::word;
 
@@ -37,12 +38,12 @@ fn present(f: usize) -> usize
 }
 
 // How many functions have begun after one event more.
-fn begin(f: usize, item: Item) -> usize
+fn begin(f: usize, event: Event) -> usize
     requires { ⌜ f < 9223372036854775808 ⌝ }
-    ensures { λ r. ⌜ r ≡ begun f (event item) ⌝ }
+    ensures { λ r. ⌜ r ≡ begun f (asEvent event) ⌝ }
 {
-    match item {
-        Item::Function(_) => f + 1,
+    match event {
+        Event::Function(_) => f + 1,
         _ => f,
     }
 }
@@ -74,13 +75,13 @@ fn newly_called(
     h: usize,
     reached: &[u32],
     f: usize,
-    item: Item,
+    event: Event,
 ) -> Found
     requires { ⌜ 2 * h ≤ length (now heads) ⌝ }
-    ensures { λ r. ⌜ found r ≡ fresh (now (reached .entry)) (calledBy (sameName (now (text .entry)) (now (places .entry)) (now (values .entry))) (storedHeads (now (heads .entry)) h) f (event item)) ⌝ }
+    ensures { λ r. ⌜ found r ≡ fresh (now (reached .entry)) (calledBy (sameName (now (text .entry)) (now (places .entry)) (now (values .entry))) (storedHeads (now (heads .entry)) h) f (asEvent event)) ⌝ }
 {
-    match item {
-        Item::Calls { token, count: _ } => {
+    match event {
+        Event::Calls { token, count: _ } => {
             let callee = function_of(text, places, values, heads, h, token);
             unless_reached(reached, f, callee)
         }
@@ -105,12 +106,12 @@ fn next_reached(
     let mut f = 0;
     let mut i = 0;
     while i < n {
-        let item = item_at(events, i);
-        let callee = newly_called(text, places, values, heads, h, reached, f, item);
+        let event = event_at(events, i);
+        let callee = newly_called(text, places, values, heads, h, reached, f, event);
         if let Found::Number(g) = callee {
             return Found::Number(g);
         }
-        f = begin(f, item);
+        f = begin(f, event);
         i += 1;
     }
     Found::Nothing
