@@ -18,6 +18,7 @@ use Rattle.lexer.specs.Tokens.{Scans}
 use Rattle.lexer.proofs.Theorems.{Ended, the-end, before-end, lexed-tokens, end-last, count, stored-length, stored-kinds, stored-places}
 use Rattle.grammar.specs.Text.{Tokens}
 use Rattle.checker.specs.Check.{Verdict, accepted, refused, checkedTokens, checked, kinds, places, values}
+use Rattle.checker.specs.Sizes.{TOKENS}
 use Rattle.checker.specs.Analysis.{Lent, Slices, Settles, Known, Analyses}
 use Rattle.checker.specs.Analysis as N
 use Rattle.checker.specs.declared.Analysed.{Analysed}
@@ -70,17 +71,17 @@ as-long {n} l h = sym (length-take n l ∙ omega (arith, h))
 
 -- the slices keep their lengths
 module _ {text ks ps vs ks′ ps′ vs′ : List ℕ} {r : Lexed} (x : Lexes text ks ps vs ks′ ps′ vs′ r) where
-  pub kinds-long : length ks ≡ 2049 → length ks′ ≡ 2049
+  pub kinds-long : length ks ≡ TOKENS → length ks′ ≡ TOKENS
   kinds-long e = ap length (x .kinds) ∙ length-sets ks 0 (W.kindsOf (W.written text)) ∙ e
 
-  pub places-long : length ps ≡ 2049 → length ps′ ≡ 2049
+  pub places-long : length ps ≡ TOKENS → length ps′ ≡ TOKENS
   places-long e = ap length (x .places) ∙ length-sets ps 0 (W.placesOf (W.written text)) ∙ e
 
-  pub values-long : length vs ≡ 2049 → length vs′ ≡ 2049
+  pub values-long : length vs ≡ TOKENS → length vs′ ≡ TOKENS
   values-long e = ap length (x .values) ∙ length-sets vs 0 (W.valuesOf (W.written text)) ∙ e
 
 module _ {text ks ps vs : List ℕ} {n : ℕ} (x : Into text ks ps vs n) where
-  pub few-tokens : n ≤ 2049
+  pub few-tokens : n ≤ TOKENS
   few-tokens =
       let t = lexed-tokens text (stored n ks ps vs) (x .is) in
       omega (arith, t .0, count (t .1), stored-length n ks ps vs)
@@ -88,7 +89,7 @@ module _ {text ks ps vs : List ℕ} {n : ℕ} (x : Into text ks ps vs n) where
   pub token-list : n ≤ length ks → Tokens (take n ks)
   token-list h = subst Tokens (stored-kinds n ks ps vs h) (ends-in (end-last (lexed-tokens text (stored n ks ps vs) (x .is) .1)))
 
-  pub few-listed : n ≤ length ks → length (take n ks) ≤ 2049
+  pub few-listed : n ≤ length ks → length (take n ks) ≤ TOKENS
   few-listed h = omega (arith, as-long ks h, few-tokens)
 
   -- what check says is what is said of the tokens

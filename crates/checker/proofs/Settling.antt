@@ -20,6 +20,7 @@ use Rattle.events.specs.Walk.{Ready}
 use Rattle.events.proofs.Widths.{onto-length}
 use Rattle.events.proofs.Enough.{ready}
 use Rattle.checker.specs.Check.{Verdict, accepted, refused, verdict, firstBroken, rulesOf, checkedTokens}
+use Rattle.checker.specs.Sizes.{NODES}
 use Rattle.checker.specs.Analysis.{Inspects, Inspected, Kept′, Known, Settles, Lent}
 use Rattle.checker.specs.Analysis as N
 use Rattle.checker.specs.declared.Analysed.{Analysed}
@@ -55,7 +56,7 @@ module _ (text ks ps vs nodes items heads before slots : List ℕ) where
   unfolding checkedTokens
   settles-bad e = rw (e, checkedTokens) N.refuses
 
-  pub settles-tree : {root : ℕ} {r : Analysed} → (h : Read nodes root (parsed ks)) → length nodes ≡ 20490
+  pub settles-tree : {root : ℕ} {r : Analysed} → (h : Read nodes root (parsed ks)) → length nodes ≡ NODES
       → Inspected text ps vs nodes items heads before slots (length ks) root r
       → Settles text ks ps vs nodes items heads before slots r (checkedTokens text ks ps vs)
   unfolding checkedTokens

@@ -20,6 +20,7 @@ use Rattle.text_rules.specs.Rules as R
 use Rattle.text_rules.specs.Names.{meanings, meant}
 use Rattle.text_rules.specs.Answers.{storedHeads}
 use Rattle.checker.specs.Check.{Verdict, accepted, refused, firstBroken, verdict, rulesOf}
+use Rattle.checker.specs.Sizes.{TOKENS, NODES, EVENTS, HEADS, SCOPE}
 use Rattle.checker.specs.declared.Judged.{Judged}
 use Rattle.checker.specs.declared.Judged.the-variants.{Broken, Kept}
 use Rattle.checker.specs.declared.Analysed.{Analysed}
@@ -77,18 +78,18 @@ pub record Inspected (text ps vs nodes items heads before slots : List ℕ) (n r
 -- what is lent for a text's tokens ks: a token list, room for the tree, its events, its functions and its scope
 pub record Lent (ks nodes items heads scope : List ℕ) : Type 0 where
   pub tokens : Tokens ks
-  pub few : length ks ≤ 2049
-  pub table : length nodes ≡ 20490
-  pub words : length items ≡ 12288
-  pub functions : 8192 ≤ length heads
-  pub blocks : 12288 ≤ length scope
+  pub few : length ks ≤ TOKENS
+  pub table : length nodes ≡ NODES
+  pub words : length items ≡ EVENTS
+  pub functions : HEADS ≤ length heads
+  pub blocks : SCOPE ≤ length scope
 
 -- what is lent for any text
 pub record Slices (ks ps vs nodes items heads scope : List ℕ) : Type 0 where
-  pub kinds : length ks ≡ 2049
-  pub places : length ps ≡ 2049
-  pub values : length vs ≡ 2049
-  pub table : length nodes ≡ 20490
-  pub words : length items ≡ 12288
-  pub functions : 8192 ≤ length heads
-  pub blocks : 12288 ≤ length scope
+  pub kinds : length ks ≡ TOKENS
+  pub places : length ps ≡ TOKENS
+  pub values : length vs ≡ TOKENS
+  pub table : length nodes ≡ NODES
+  pub words : length items ≡ EVENTS
+  pub functions : HEADS ≤ length heads
+  pub blocks : SCOPE ≤ length scope

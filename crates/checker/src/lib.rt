@@ -6,12 +6,15 @@ ghost use Rattle.events.specs.Stored.{stored};
 ghost use Rattle.text_rules.specs.Spelling.{sameName, isMain};
 ghost use Rattle.text_rules.specs.Answers.{storedHeads};
 ghost use Rattle.events.specs.Walk.{Ready};
+ghost use Rattle.checker.specs.Sizes.{EVENTS, HEADS, SCOPE};
 ghost use Rattle.checker.specs.Judge.{unless, chosen, Ruled, Judges};
 ghost use Rattle.checker.specs.Check.{checkedTokens, checked};
 ghost use Rattle.checker.specs.Analysis.{concluded, Inspected, Lent, Settles, Slices, Analyses, verdictOf};
 use grammar::Parsed;
 use lexer::Lexed;
 use text_rules::broken::Broken;
+
+pub mod sizes;
 
 // What the rules 5 to 10 say of a text: the number of a broken one with the first token that breaks it, or how many functions there are.
 pub enum Judged {
@@ -137,7 +140,7 @@ fn inspect(
     scope: &mut [u32],
     slots: &mut [u32],
 ) -> Analysed
-    requires { ⌜ Ready (now nodes) root (now items) × (length (now items) ≡ 12288) × (8192 ≤ length (now heads)) × (12288 ≤ length (now scope)) × (0 < n) ⌝ }
+    requires { ⌜ Ready (now nodes) root (now items) × (length (now items) ≡ EVENTS) × (HEADS ≤ length (now heads)) × (SCOPE ≤ length (now scope)) × (0 < n) ⌝ }
     ensures { λ r. ⌜ Inspected (now (text .entry)) (now (places .entry)) (now (values .entry)) (now (nodes .entry)) (now (items .exit)) (now (heads .exit)) (now (slots .entry)) (now (slots .exit)) n root r ⌝ }
 {
     let e = events::walk(nodes, root, items);
@@ -216,14 +219,14 @@ pub fn analyse(
 pub fn check(text: &[u8]) -> Checked
     ensures { λ r. ⌜ verdictOf r ≡ checked (now (text .entry)) ⌝ }
 {
-    let mut kinds = [0u8; 2049];
-    let mut places = [0u32; 2049];
-    let mut values = [0u32; 2049];
-    let mut nodes = [0u32; 20490];
-    let mut items = [0u32; 12288];
-    let mut heads = [0u32; 8192];
-    let mut scope = [0u32; 12288];
-    let mut slots = [0u32; 2049];
+    let mut kinds = [0u8; sizes::TOKENS];
+    let mut places = [0u32; sizes::TOKENS];
+    let mut values = [0u32; sizes::TOKENS];
+    let mut nodes = [0u32; sizes::NODES];
+    let mut items = [0u32; sizes::EVENTS];
+    let mut heads = [0u32; sizes::HEADS];
+    let mut scope = [0u32; sizes::SCOPE];
+    let mut slots = [0u32; sizes::TOKENS];
     let analysed = analyse(
         text,
         &mut kinds,

@@ -8,6 +8,7 @@ use Rattle.lexer.specs.Lex as L
 use Rattle.lexer.specs.Lex.{Token, lexed}
 use Rattle.grammar.specs.Text.{Tokens}
 use Rattle.checker.specs.Check.{Verdict, accepted, refused, kinds, places, values}
+use Rattle.checker.specs.Sizes.{TOKENS, HEADS}
 use Rattle.checker.specs.Analysis.{Known}
 use Rattle.simulation.specs.Words.{codeIn}
 use Rattle.simulation.specs.Placed.{Placed}
@@ -24,12 +25,12 @@ pub record Understood (text ps vs nodes : List ℕ) (root : ℕ) (heads : List �
   pub placed : places tokens ≡ ps
   pub valued : values tokens ≡ vs
   pub ended : Tokens (kinds tokens)
-  pub few : length tokens ≤ 2049
+  pub few : length tokens ≤ TOKENS
   pub items : List ℕ
   pub events : ℕ
-  pub named : 2049 ≤ length slots
-  pub functions : 8192 ≤ length heads
-  pub known : Known text (kinds tokens) ps vs nodes items heads (replicate 2049 0) slots root events h
+  pub named : TOKENS ≤ length slots
+  pub functions : HEADS ≤ length heads
+  pub known : Known text (kinds tokens) ps vs nodes items heads (replicate TOKENS 0) slots root events h
 
 -- n entries in these words are the code of the text's program
 pub record Codes (text code : List ℕ) (n : ℕ) : Type 0 where

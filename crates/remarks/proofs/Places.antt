@@ -25,6 +25,7 @@ use Rattle.text_rules.specs.Spelling.{spelled, sameName, isMain}
 use Rattle.text_rules.specs.Rules as R
 use Rattle.text_rules.specs.Rules.{Head}
 use Rattle.text_rules.proofs.Functions.{length-heads}
+use Rattle.checker.specs.Sizes.{EVENTS, HEADS}
 use Rattle.checker.specs.Analysis.{Known}
 use Rattle.checker.proofs.Analysing.{Into, as-long, token-list, few-listed}
 use Rattle.remarks.specs.Steps.{offsetIn, Apart, Fair}
@@ -122,7 +123,7 @@ module _ {text ks ps vs nodes items heads before slots : List ℕ} {n root e h :
       go f g p q z (no a) (yes b) = absurd (one-place g f q p (sym z) b)
       go f g p q z (no a) (no b) = omega (arith, a, b)
 
-  pub fair : 12288 ≤ length items → 8192 ≤ length heads → Fair text (take n ps) (take n vs) items e heads h
+  pub fair : EVENTS ≤ length items → HEADS ≤ length heads → Fair text (take n ps) (take n vs) items e heads h
   fair i j =
       let w : h ≤ 16 = omega (arith, as-many-functions, few-functions (events (ast (k .tree))) (rules .counts)) in
       record {

@@ -12,6 +12,7 @@ ghost use Rattle.checker.specs.Analysis.{Slices};
 ghost use Rattle.remarks.specs.Remarks.{begun, callTo, calledBy, Remarked, Answers, verdict};
 ghost use Rattle.remarks.specs.Steps.{fresh, callsIn, Marks, Unmarked, offsetIn, Apart, Fair, Lists};
 use checker::Analysed;
+use checker::sizes;
 use text_rules::heads::Found;
 use text_rules::heads::function_of;
 use text_rules::item::Item;
@@ -252,14 +253,14 @@ pub fn remarks(text: &[u8], offsets: &mut [u16]) -> Answer
     if offsets.len() < 16 {
         return Answer::Refused(15, 0);
     }
-    let mut kinds = [0u8; 2049];
-    let mut places = [0u32; 2049];
-    let mut values = [0u32; 2049];
-    let mut nodes = [0u32; 20490];
-    let mut items = [0u32; 12288];
-    let mut heads = [0u32; 8192];
-    let mut scope = [0u32; 12288];
-    let mut slots = [0u32; 2049];
+    let mut kinds = [0u8; sizes::TOKENS];
+    let mut places = [0u32; sizes::TOKENS];
+    let mut values = [0u32; sizes::TOKENS];
+    let mut nodes = [0u32; sizes::NODES];
+    let mut items = [0u32; sizes::EVENTS];
+    let mut heads = [0u32; sizes::HEADS];
+    let mut scope = [0u32; sizes::SCOPE];
+    let mut slots = [0u32; sizes::TOKENS];
     remark(
         text,
         &mut kinds,
