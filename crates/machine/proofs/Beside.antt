@@ -1,17 +1,15 @@
 -- What stands beside the machine stays when an entry is worked: windows, setting, ranges, numbers, tests and outcomes.
 use mathlib.Core.Path.{_≡_, refl, ap, ap₂}
 use mathlib.Core.List.{List, [], _∷_, _++_}
-use Prim.Native.Nat.{ℕ, zero, suc, _+_, _*_, _≤_, _<_}
+use Prim.Native.Nat.{ℕ, zero, suc, _+_, _*_, _≤_}
 use native.Mathlib.Omega.{arith}
-use lib.ListN.{getD, take}
-use lib.IntN.{ℤ}
+use lib.ListN.{take}
 use mir.Syntax.{w32}
 use mir.Val.{toZ}
-use Rattle.semantics.specs.Search.{to}
 use Rattle.intervals.specs.Meaning.{ofPairs}
 use Rattle.window_memory.specs.Memory.{pairsAt}
 use Rattle.machine.specs.Layout.{windowsPlace, valuePlace, tablesPlace, rangeLow, rangeHigh, numberPlace, testPlace, testLeft, testRight, outcomePlace}
-use Rattle.machine.specs.Memory.{windowsIn, settingIn, rangesIn, numbersIn, testAs, testsIn, outcomeAs, outcomesIn}
+use Rattle.machine.specs.Memory.{windowsIn, settingIn, rangesIn, numbersIn, testsIn, outcomeAs, outcomesIn}
 use Rattle.machine.specs.Contracts.{Kept}
 
 module _ {m m′ : List ℕ} {n : ℕ} (s : Kept m m′ n) where
@@ -42,7 +40,12 @@ module _ {m m′ : List ℕ} {n : ℕ} (s : Kept m m′ n) where
   pub tests-kept : (i : ℕ) → testsIn m′ i ≡ testsIn m i
   unfolding testsIn
   tests-kept zero = refl
-  tests-kept (suc i) = rw (tests-kept i, s .tables (testPlace i) i (omega arith) (omega arith), s .tables (testLeft i) i (omega arith) (omega arith), s .tables (testRight i) i (omega arith) (omega arith))
+  tests-kept (suc i) = rw (
+    tests-kept i,
+    s .tables (testPlace i) i (omega arith) (omega arith),
+    s .tables (testLeft i) i (omega arith) (omega arith),
+    s .tables (testRight i) i (omega arith) (omega arith),
+  )
 
   pub outcomes-kept : (i k : ℕ) → outcomesIn m′ i k ≡ outcomesIn m i k
   unfolding outcomesIn

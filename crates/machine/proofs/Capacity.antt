@@ -1,22 +1,20 @@
 -- How much a machine holds, so that the step limit says how long the memory must be; and the memory at the start of a path.
-use mathlib.Core.Path.{_≡_, refl, sym, ap, _∙_, subst}
-use mathlib.Core.List.{List, [], _∷_}
+use mathlib.Core.Path.{_≡_, refl, sym, ap, subst}
+use mathlib.Core.List.{List, []}
 use mathlib.Core.Bool.{false}
-use Prim.Native.Nat.{ℕ, zero, suc, _+_, _-_, _*_, _≤_, _<_}
+use Prim.Native.Nat.{ℕ, zero, suc, _+_, _-_, _*_, _≤_}
 use native.Mathlib.Omega.{arith}
 use lib.ListN.{length, getD}
 use lib.IntN.{pos}
 use Rattle.semantics.specs.Does.{frame}
-use Rattle.semantics.specs.Search as search
 use Rattle.semantics.specs.Search.{known}
-use Rattle.simulation.specs.Code.{Code}
-use Rattle.simulation.specs.Machine.{machine, start}
+use Rattle.simulation.specs.Machine.{machine}
 use Rattle.simulation.specs.Nodes as nodes
 use Rattle.simulation.specs.Nodes.{Cell, Within, meaning}
 use Rattle.simulation.proofs.Bounds.{heldBy, held, Sound}
 use Rattle.machine.specs.Layout.{frameCells, cellPlace, callerBase, tablesPlace}
-use Rattle.machine.specs.Memory.{Sym, cellAt, nodesIn, temps, frameAt, callers, machineIn, machineAt}
-use Rattle.machine.specs.Contracts.{Room, Stacked, Ready, Blank, Started}
+use Rattle.machine.specs.Memory.{cellAt, nodesIn, temps, frameAt, callers, machineAt}
+use Rattle.machine.specs.Contracts.{Stacked, Ready, Blank, Started}
 use Rattle.machine.specs.declared.Run.{Run}
 use Rattle.machine.proofs.Moves.{reads}
 use Rattle.machine.proofs.Arguments.{zero-cells}

@@ -2,9 +2,9 @@
 use mathlib.Core.Path.{_≡_, refl, sym, ap, ap₂, _∙_, subst}
 use mathlib.Core.Bool.{Bool}
 use mathlib.Core.List.{List, [], _∷_, _++_}
-use mathlib.Core.Logic.{⊎-elim, _≢_, _⊎_, inl, inr}
+use mathlib.Core.Logic.{⊎-elim, _≢_}
 use Prim.Native.Nat.{ℕ, zero, suc, _+_, _-_, _*_, _≤_, _<_}
-use native.Mathlib.Nat.{eq-or-lt-of-le, le-trans}
+use native.Mathlib.Nat.{eq-or-lt-of-le}
 use native.Mathlib.Omega.{arith}
 use lib.ListN.{length, getD}
 use lib.IntN.{pos}
@@ -13,21 +13,21 @@ use Rattle.semantics.specs.Program.{slot}
 use Rattle.semantics.specs.Does.{store}
 use Rattle.semantics.specs.Search as search
 use Rattle.semantics.specs.Search.{known}
-use Rattle.simulation.specs.Code.{Code, Act}
+use Rattle.simulation.specs.Code.{Act}
 use Rattle.simulation.specs.Machine.{machine, Doing}
 use Rattle.simulation.specs.Nodes as nodes
 use Rattle.simulation.specs.Nodes.{Cell, Node, unknown, operation, Within, meaning, working}
 use Rattle.simulation.proofs.Nodes.{working-ok, working-grows, adding-ok}
 use Rattle.simulation.specs.Words.{codeIn}
 use Rattle.machine.specs.Layout.{frameCells, framePlace, variablePlace, cellPlace, callerPlace, callerBase, tempPlace, nodePlace, nodeLeft, nodeRight, nodeEnd}
-use Rattle.machine.specs.Memory.{Sym, cellAs, cellAt, nodeAt, nodesIn, cells, temps, frameAt, callers, machineAt}
-use Rattle.machine.specs.Contracts.{cellOf, Sized, Room, Stacked, Ready, Other, Kept, Put, Noded, Worked, Formed, Reads, Taking, Paired, Goes, acts, storing, Asked}
+use Rattle.machine.specs.Memory.{Sym, cellAs, cellAt, nodeAt, nodesIn, temps, frameAt, callers, machineAt}
+use Rattle.machine.specs.Contracts.{cellOf, Room, Ready, Other, Kept, Put, Noded, Worked, Formed, Reads, Taking, Paired, Goes, acts, storing, Asked}
 use Rattle.machine.specs.declared.Value.{Value}
 use Rattle.machine.specs.declared.Value.the-variants.{Known, Open}
 use Rattle.machine.specs.declared.Run.{Run}
 use Rattle.machine.proofs.Tables.{Same, nodes-length, nodes-kept, meaning-kept, within-more, frame-cell, temp-cell, stacked-same, frame-same, temps-same, callers-same, room-same, room-less}
 use Rattle.machine.proofs.Operands.{kept-node}
-use Rattle.machine.proofs.Stays.{three, is-or-not, kept-none, kept-then, kept-low, kept-temp, held-stays, framed-stays, temps-stay, frame-stays, callers-stay, cells-set}
+use Rattle.machine.proofs.Stays.{three, is-or-not, kept-then, kept-low, kept-temp, held-stays, framed-stays, temps-stay, frame-stays, callers-stay, cells-set}
 
 pub reads : (ns : List Node) → Reads (meaning ns)
 unfolding meaning
@@ -72,7 +72,8 @@ module _ (ws : List ℕ) (size : ℕ) (m m₁ m₂ : List ℕ) (r : Run) (o : Op
 
   value-within : Within n (cellAt m₂ (tempPlace t))
   value-within = subst (Within n) (sym (q .cell ∙ w .is))
-      (subst (λ (k : ℕ). Within k (working o (cellOf x) (cellOf y) (nodesIn m (r .nodes)) .cell)) (ap length (sym nodes-are) ∙ nodes-length m₂ n) (working-grows o (cellOf x) (cellOf y) (nodesIn m (r .nodes)) .within))
+      (subst (λ (k : ℕ). Within k (working o (cellOf x) (cellOf y) (nodesIn m (r .nodes)) .cell)) (ap length (sym nodes-are) ∙ nodes-length m₂ n)
+      (working-grows o (cellOf x) (cellOf y) (nodesIn m (r .nodes)) .within))
 
   temps-are : search.work o (f₀ (cellOf x)) (f₀ (cellOf y)) ∷ temps f₀ m (r .base) (t - r .base) ≡ temps f₂ m₂ (r .base) (t + 1 - r .base)
   unfolding temps
@@ -93,7 +94,8 @@ module _ (ws : List ℕ) (size : ℕ) (m m₁ m₂ : List ℕ) (r : Run) (o : Op
 
   pub operated : Goes Doing.step 1 (acts (codeIn ws size) m r (Act.operate o d)) m (r .nodes) m₂ (record { pc = r .pc + 1; flag = r .flag; base = r .base; top = t + 1; depth = r .depth; nodes = n })
   operated = record {
-    is = ap (λ t. Doing.step (machine (suc (r .pc)) (r .flag) (search.work o (t .first) (t .second) ∷ t .rest) (frameAt f₀ m (r .depth)) (callers f₀ m (r .depth) (r .base)) (32 - r .depth))) (p .is f₀ (reads (nodesIn m (r .nodes))))
+    is = ap (λ t. Doing.step (machine (suc (r .pc)) (r .flag) (search.work o (t .first) (t .second) ∷ t .rest) (frameAt f₀ m (r .depth)) (callers f₀ m (r .depth) (r .base)) (32 - r .depth)))
+        (p .is f₀ (reads (nodesIn m (r .nodes))))
         ∙ (λ i. Doing.step (machine (pc-is i) (r .flag) (temps-are i) (f i) (g i) (32 - r .depth)));
     ready = record {
       deep = ready .deep;
@@ -102,7 +104,8 @@ module _ (ws : List ℕ) (size : ℕ) (m m₁ m₂ : List ℕ) (r : Run) (o : Op
       few = room-same len (room-less n (w .one) nodes-room);
       stack = stacked-same same (r .depth) (r .base) (omega arith) (ready .stack);
       framed = λ i l. framed-stays m m₂ r (r .depth + 1) t n same ready (p .high) (w .more) i (omega arith) l;
-      held = λ i l. ⊎-elim (λ e. subst (λ (i : ℕ). Within n (cellAt m₂ (tempPlace i))) (sym e) value-within) (λ g. held-stays m m₂ r (r .depth + 1) t n same ready (p .high) (w .more) i g) (eq-or-lt-of-le {n = i} {m = t} (omega arith));
+      held = λ i l. ⊎-elim (λ e. subst (λ (i : ℕ). Within n (cellAt m₂ (tempPlace i))) (sym e) value-within) (λ g. held-stays m m₂ r (r .depth + 1) t n same ready (p .high) (w .more) i g)
+          (eq-or-lt-of-le {n = i} {m = t} (omega arith));
     };
     kept = same .kept;
     more = w .more;
@@ -122,7 +125,8 @@ module _ (ws : List ℕ) (size : ℕ) (m m₁ m₂ : List ℕ) (r : Run) (o : Op
 -- ---- a variable
 
 -- v was put into place a of the frame, after a node may have been made
-module _ (m m₁ m₂ : List ℕ) (r : Run) (t n a : ℕ) (v : Cell) (ready : Ready m r) (low : r .base ≤ t) (small : t ≤ r .top) (more : r .nodes ≤ n) (n-room : Room m n) (len : length m₂ ≡ length m) (l : a < 16)
+module _ (m m₁ m₂ : List ℕ) (r : Run) (t n a : ℕ) (v : Cell) (ready : Ready m r) (low : r .base ≤ t) (small : t ≤ r .top) (more : r .nodes ≤ n) (n-room : Room m n)
+    (len : length m₂ ≡ length m) (l : a < 16)
     (o : Other m m₁ (nodePlace (r .nodes)) (nodeEnd (r .nodes))) (p : Put m₁ m₂ (variablePlace (r .depth) a) v) (w : Within n v) where
   abbrev varied : Run
   varied = record { pc = r .pc + 1; flag = r .flag; base = r .base; top = t; depth = r .depth; nodes = n }
@@ -163,10 +167,13 @@ module _ (m m₁ m₂ : List ℕ) (r : Run) (t n a : ℕ) (v : Cell) (ready : Re
 
   frame-set : store (frameAt h₀ m (r .depth)) (slot a) (h₂ v) ≡ frameAt h₂ m₂ (r .depth)
   frame-set = cells-set m m₂ (r .nodes) h₀ h₂ varied-agree v (framePlace (r .depth)) frameCells a l (p .cell)
-      (λ j g z. subst (λ (x : ℕ). cellAt m₂ x ≡ cellAt m x) {x = cellPlace (frameCells * r .depth + j)} {y = variablePlace (r .depth) j} (omega arith) (cell-other (frameCells * r .depth + j) (omega arith) (omega arith)))
-      (λ j g. subst (λ (x : ℕ). Within (r .nodes) (cellAt m x)) {x = cellPlace (frameCells * r .depth + j)} {y = variablePlace (r .depth) j} (omega arith) (ready .framed (frameCells * r .depth + j) (omega arith)))
+      (λ j g z. subst (λ (x : ℕ). cellAt m₂ x ≡ cellAt m x) {x = cellPlace (frameCells * r .depth + j)} {y = variablePlace (r .depth) j} (omega arith)
+      (cell-other (frameCells * r .depth + j) (omega arith) (omega arith)))
+      (λ j g. subst (λ (x : ℕ). Within (r .nodes) (cellAt m x)) {x = cellPlace (frameCells * r .depth + j)} {y = variablePlace (r .depth) j} (omega arith)
+      (ready .framed (frameCells * r .depth + j) (omega arith)))
 
-  pub varied-is : machine (suc (r .pc)) (r .flag) (temps h₀ m (r .base) (t - r .base)) (store (frameAt h₀ m (r .depth)) (slot a) (h₂ v)) (callers h₀ m (r .depth) (r .base)) (32 - r .depth) ≡ machineAt m₂ varied
+  pub varied-is : machine (suc (r .pc)) (r .flag) (temps h₀ m (r .base) (t - r .base)) (store (frameAt h₀ m (r .depth)) (slot a) (h₂ v)) (callers h₀ m (r .depth) (r .base))
+      (32 - r .depth) ≡ machineAt m₂ varied
   varied-is = λ i. machine (pc-is i) (r .flag) (ts i) (frame-set i) (cs i) (32 - r .depth)
     where
       pc-is : suc (r .pc) ≡ r .pc + 1
@@ -194,7 +201,8 @@ module _ (m m₁ m₂ : List ℕ) (r : Run) (t n a : ℕ) (v : Cell) (ready : Re
 
   -- no node was made
   pub varied-goes : {A : Type 0} (how : _ → A) (e : A) → n ≡ r .nodes
-      → e ≡ how (machine (suc (r .pc)) (r .flag) (temps h₀ m (r .base) (t - r .base)) (store (frameAt h₀ m (r .depth)) (slot a) (h₂ v)) (callers h₀ m (r .depth) (r .base)) (32 - r .depth)) → Goes how 0 e m (r .nodes) m₂ varied
+      → e ≡ how (machine (suc (r .pc)) (r .flag) (temps h₀ m (r .base) (t - r .base)) (store (frameAt h₀ m (r .depth)) (slot a) (h₂ v)) (callers h₀ m (r .depth) (r .base)) (32 - r .depth))
+      → Goes how 0 e m (r .nodes) m₂ varied
   varied-goes how e q u = record { is = u ∙ ap how varied-is; ready = varied-ready; kept = varied-kept; more = more; grows = omega arith; formed = λ j x y. absurd (omega arith) }
 
 other-none : (m : List ℕ) (i j : ℕ) → Other m m i j
@@ -202,10 +210,13 @@ other-none m i j = record { outside = λ k l. refl }
 
 module _ (ws : List ℕ) (size : ℕ) (m m₂ : List ℕ) (r : Run) (a : ℕ) (v : Value) (t : ℕ) (ready : Ready m r) (l : a < 16) (len : length m₂ ≡ length m)
     (b : Taking (codeIn ws size) m r (r .pc) v t) (p : Put m m₂ (variablePlace (r .depth) a) (cellOf v)) where
-  pub stored : Goes Doing.silent 0 (acts (codeIn ws size) m r (Act.store (slot a))) m (r .nodes) m₂ (record { pc = r .pc + 1; flag = r .flag; base = r .base; top = t; depth = r .depth; nodes = r .nodes })
+  pub stored : Goes Doing.silent 0 (acts (codeIn ws size) m r (Act.store (slot a))) m (r .nodes) m₂
+      (record { pc = r .pc + 1; flag = r .flag; base = r .base; top = t; depth = r .depth; nodes = r .nodes })
   stored = varied-goes m m m₂ r t (r .nodes) a (cellOf v) ready (b .low) (b .high) (omega arith) (ready .few) len l (other-none m _ _) p (b .within) Doing.silent _ refl
-      (ap (λ u. Doing.silent (machine (suc (r .pc)) (r .flag) (u .rest) (store (frameAt (meaning (nodesIn m (r .nodes))) m (r .depth)) (slot a) (u .value)) (callers (meaning (nodesIn m (r .nodes))) m (r .depth) (r .base)) (32 - r .depth))) (b .is (meaning (nodesIn m (r .nodes))) (reads (nodesIn m (r .nodes))))
-      ∙ ap (λ x. Doing.silent (machine (suc (r .pc)) (r .flag) (temps (meaning (nodesIn m (r .nodes))) m (r .base) (t - r .base)) (store (frameAt (meaning (nodesIn m (r .nodes))) m (r .depth)) (slot a) x) (callers (meaning (nodesIn m (r .nodes))) m (r .depth) (r .base)) (32 - r .depth)))
+      (ap (λ u. Doing.silent (machine (suc (r .pc)) (r .flag) (u .rest) (store (frameAt (meaning (nodesIn m (r .nodes))) m (r .depth)) (slot a) (u .value))
+      (callers (meaning (nodesIn m (r .nodes))) m (r .depth) (r .base)) (32 - r .depth))) (b .is (meaning (nodesIn m (r .nodes))) (reads (nodesIn m (r .nodes))))
+      ∙ ap (λ x. Doing.silent (machine (suc (r .pc)) (r .flag) (temps (meaning (nodesIn m (r .nodes))) m (r .base) (t - r .base))
+      (store (frameAt (meaning (nodesIn m (r .nodes))) m (r .depth)) (slot a) x) (callers (meaning (nodesIn m (r .nodes))) m (r .depth) (r .base)) (32 - r .depth)))
       (sym (meaning-kept kept (r .nodes) (omega arith) (cellOf v) (b .within))))
     where
       kept : Kept m m₂ (r .nodes)
@@ -213,7 +224,8 @@ module _ (ws : List ℕ) (size : ℕ) (m m₂ : List ℕ) (r : Run) (a : ℕ) (v
 
 pub cleared : (m m₂ : List ℕ) (r : Run) (a : ℕ) → Ready m r → a < 16 → length m₂ ≡ length m → Put m m₂ (variablePlace (r .depth) a) (nodes.Known (pos 0))
     → Goes (λ x. x) 0 (storing m r a (known (pos 0))) m (r .nodes) m₂ (record { pc = r .pc + 1; flag = r .flag; base = r .base; top = r .top; depth = r .depth; nodes = r .nodes })
-cleared m m₂ r a ready l len p = varied-goes m m m₂ r (r .top) (r .nodes) a (nodes.Known (pos 0)) ready (ready .low) (omega arith) (omega arith) (ready .few) len l (other-none m _ _) p tt (λ x. x) _ refl
+cleared m m₂ r a ready l len p = varied-goes m m m₂ r (r .top) (r .nodes) a (nodes.Known (pos 0)) ready (ready .low) (omega arith) (omega arith) (ready .few) len l
+    (other-none m _ _) p tt (λ x. x) _ refl
     (ap (storing m r a) (sym (reads (nodesIn m₂ (r .nodes)) (pos 0))))
 
 last-unknown : (m : List ℕ) (n k : ℕ) → nodeAt m n ≡ unknown k → meaning (nodesIn m (n + 1)) (nodes.Open n) ≡ search.unknown k
@@ -222,7 +234,8 @@ last-unknown m n k e =
     ap (λ (j : ℕ). meaning (nodesIn m j) (nodes.Open n)) {x = n + 1} {y = suc n} (omega arith)
     ∙ ap₂ (λ (j : ℕ) x. meaning (nodesIn m n ++ x ∷ []) (nodes.Open j)) (sym (nodes-length m n)) e ∙ adding-ok (nodesIn m n) (unknown k)
 
-pub asked : (m m₁ m₂ : List ℕ) (r : Run) (a k : ℕ) → Ready m r → a < 16 → Room m (r .nodes + 1) → length m₂ ≡ length m → Noded m m₁ (r .nodes) (unknown k) → Put m₁ m₂ (variablePlace (r .depth) a) (nodes.Open (r .nodes))
+pub asked : (m m₁ m₂ : List ℕ) (r : Run) (a k : ℕ) → Ready m r → a < 16 → Room m (r .nodes + 1) → length m₂ ≡ length m → Noded m m₁ (r .nodes) (unknown k)
+    → Put m₁ m₂ (variablePlace (r .depth) a) (nodes.Open (r .nodes))
     → Asked (storing m r a) m (r .nodes) m₂ k (record { pc = r .pc + 1; flag = r .flag; base = r .base; top = r .top; depth = r .depth; nodes = r .nodes + 1 })
 asked m m₁ m₂ r a k ready l room len q p = record {
   is = ap (storing m r a) (sym is-unknown) ∙ varied-is m m₁ m₂ r (r .top) (r .nodes + 1) a (nodes.Open (r .nodes)) ready (ready .low) (omega arith) (omega arith) room len l (q .other) p (omega arith);
@@ -233,7 +246,11 @@ asked m m₁ m₂ r a k ready l room len q p = record {
 }
   where
     node-is : nodeAt m₂ (r .nodes) ≡ unknown k
-    node-is = rw (p .other .outside (nodePlace (r .nodes)) (λ x y. omega (arith, ready .deep)), p .other .outside (nodeLeft (r .nodes)) (λ x y. omega (arith, ready .deep)), p .other .outside (nodeRight (r .nodes)) (λ x y. omega (arith, ready .deep))) (q .node)
+    node-is = rw (
+      p .other .outside (nodePlace (r .nodes)) (λ x y. omega (arith, ready .deep)),
+      p .other .outside (nodeLeft (r .nodes)) (λ x y. omega (arith, ready .deep)),
+      p .other .outside (nodeRight (r .nodes)) (λ x y. omega (arith, ready .deep)),
+    ) (q .node)
 
     is-unknown : meaning (nodesIn m₂ (r .nodes + 1)) (nodes.Open (r .nodes)) ≡ search.unknown k
     is-unknown = last-unknown m₂ (r .nodes) k node-is
@@ -290,7 +307,8 @@ module _ (ws : List ℕ) (size : ℕ) (m m₂ : List ℕ) (pc : ℕ) (flag : Boo
     left : Goes Doing.silent 0 (acts (codeIn ws size) m inner Act.return) m nds m₂ (record { pc = getD m (callerPlace d) 0; flag = flag; base = base₂; top = base + 1; depth = d; nodes = nds })
     unfolding callers
     left = record {
-      is = ap (λ u. Doing.silent (machine (getD m (callerPlace d) 0) flag (u .value ∷ temps g₀ m base₂ (base - base₂)) (frameAt g₀ m d) (callers g₀ m d base₂) (suc (32 - suc d)))) (b .is g₀ (reads (nodesIn m nds)))
+      is = ap (λ u. Doing.silent (machine (getD m (callerPlace d) 0) flag (u .value ∷ temps g₀ m base₂ (base - base₂)) (frameAt g₀ m d) (callers g₀ m d base₂) (suc (32 - suc d))))
+          (b .is g₀ (reads (nodesIn m nds)))
           ∙ (λ i. Doing.silent (machine (getD m (callerPlace d) 0) flag (temps-left i) (frame-left i) (callers-left i) (left-is i)));
       ready = record {
         deep = omega (arith, ready .deep);
@@ -323,6 +341,8 @@ left-deep ws size m m₂ pc flag base top (suc d) nds v t h ready room len b p =
     (record { pc = getD m (callerPlace k) 0; flag = flag; base = getD m (callerBase k) 0; top = base + 1; depth = k; nodes = nds })) {x = d} {y = suc d - 1} (omega arith)
     (left ws size m m₂ pc flag base top d nds v t ready room len b p)
 
-pub left-from : (ws : List ℕ) (size : ℕ) (m m₂ : List ℕ) (r : Run) (v : Value) (t : ℕ) → 1 ≤ r .depth → Ready m r → Room m (r .base + 1) → length m₂ ≡ length m → Taking (codeIn ws size) m r (r .pc) v t → Put m m₂ (tempPlace (r .base)) (cellOf v)
-    → Goes Doing.silent 0 (acts (codeIn ws size) m r Act.return) m (r .nodes) m₂ (record { pc = getD m (callerPlace (r .depth - 1)) 0; flag = r .flag; base = getD m (callerBase (r .depth - 1)) 0; top = r .base + 1; depth = r .depth - 1; nodes = r .nodes })
+pub left-from : (ws : List ℕ) (size : ℕ) (m m₂ : List ℕ) (r : Run) (v : Value) (t : ℕ) → 1 ≤ r .depth → Ready m r → Room m (r .base + 1) → length m₂ ≡ length m
+    → Taking (codeIn ws size) m r (r .pc) v t → Put m m₂ (tempPlace (r .base)) (cellOf v)
+    → Goes Doing.silent 0 (acts (codeIn ws size) m r Act.return) m (r .nodes) m₂
+    (record { pc = getD m (callerPlace (r .depth - 1)) 0; flag = r .flag; base = getD m (callerBase (r .depth - 1)) 0; top = r .base + 1; depth = r .depth - 1; nodes = r .nodes })
 left-from ws size m m₂ r v t h ready room len b p = left-deep ws size m m₂ (r .pc) (r .flag) (r .base) (r .top) (r .depth) (r .nodes) v t h ready room len b p

@@ -2,11 +2,11 @@
 use mathlib.Core.Path.{_≡_, refl, sym, ap, ap₂, _∙_, subst}
 use mathlib.Core.List.{List, [], _∷_, _++_}
 use mathlib.Core.Logic.{_⊎_, inl, inr}
-use Prim.Native.Nat.{ℕ, zero, suc, _+_, _-_, _*_, _/_, _%_, _≤_, _<_}
+use Prim.Native.Nat.{ℕ, zero, suc, _+_, _-_, _*_, _%_, _≤_, _<_}
 use native.Mathlib.Nat.{le-trans}
 use native.Mathlib.Numerals.{add-one}
 use native.Mathlib.Omega.{arith}
-use lib.ListN.{length, getD, drop, List·getD-eq-default}
+use lib.ListN.{getD, drop, List·getD-eq-default}
 use lib.IntN.{ℤ, pos}
 use mir.Syntax.{w32}
 use mir.Val.{toZ, SFits}
@@ -24,7 +24,7 @@ use Rattle.ints.specs.Numbers as numbers
 use Rattle.machine.specs.Kinds.{nodeOp, leftOpen, rightOpen}
 use Rattle.machine.specs.Layout.{frameCells, framePlace, variablePlace, cellPlace, tempPlace, nodePlace, nodeEnd}
 use Rattle.machine.specs.Memory.{Sym, cellAs, cellAt, nodeAs, nodeAt, nodesIn, cells, temps, frameAt}
-use Rattle.machine.specs.Contracts.{cellOf, Sized, Ready, Holds, Other, Kept, Noded, Worked, Reads, Popped, Taking, Paired, topped}
+use Rattle.machine.specs.Contracts.{cellOf, Ready, Holds, Other, Kept, Noded, Worked, Popped, Taking, Paired, topped}
 use Rattle.machine.specs.declared.Value.{Value}
 use Rattle.machine.specs.declared.Value.the-variants.{Known, Open}
 use Rattle.machine.specs.declared.Run.{Run}
@@ -99,7 +99,8 @@ pub popped-one : (m : List ℕ) (r : Run) (v : Value) → Ready m r → (r .top 
 unfolding temps
 popped-one m r v h e q = record {
   is = λ f g. ap (λ n. popped known search.work (codeIn [] 0) (temps f m (r .base) n)) {x = r .top - r .base} {y = suc (r .top - 1 - r .base)} (omega (arith, h .low))
-      ∙ ap (λ x. record { value = f x; rest = temps f m (r .base) (r .top - 1 - r .base) }) (ap (λ i. cellAt m (tempPlace i)) {x = r .base + (r .top - 1 - r .base)} {y = r .top - 1} (omega (arith, h .low)) ∙ sym (q .is));
+      ∙ ap (λ x. record { value = f x; rest = temps f m (r .base) (r .top - 1 - r .base) })
+      (ap (λ i. cellAt m (tempPlace i)) {x = r .base + (r .top - 1 - r .base)} {y = r .top - 1} (omega (arith, h .low)) ∙ sym (q .is));
   low = omega (arith, h .low);
   high = omega arith;
   sized = q .sized;
@@ -121,10 +122,12 @@ module _ (ws : List ℕ) (size : ℕ) where
   taken-out f ts (suc r) (inl e) = absurd (omega arith)
   taken-out f ts (suc r) (inr l) = ap (reading known search.work c f ts) (List·getD-eq-default (entriesIn ws 0 size) (act Act.fail) {n = r} (omega (arith, length-entries ws 0 size)))
 
-  taken-entry : (f ts : List Sym) (j : ℕ) → (j ≡ 0 → ⊥) → (size < j → ⊥) → taken known search.work c f ts j ≡ reading known search.work c f ts (entryOf (getD ws (2 * (j - 1)) 0) (getD ws (2 * (j - 1) + 1) 0))
+  taken-entry : (f ts : List Sym) (j : ℕ) → (j ≡ 0 → ⊥) → (size < j → ⊥) → taken known search.work c f ts j
+      ≡ reading known search.work c f ts (entryOf (getD ws (2 * (j - 1)) 0) (getD ws (2 * (j - 1) + 1) 0))
   taken-entry f ts zero h k = absurd (h refl)
   taken-entry f ts (suc r) h k =
-      ap (reading known search.work c f ts) (entry-in ws 0 size r (omega arith) ∙ ap₂ (λ i j. entryOf (getD ws i 0) (getD ws j 0)) {x = 0 + 2 * r} {y = 2 * (suc r - 1)} {u = suc (0 + 2 * r)} {v = 2 * (suc r - 1) + 1} (omega arith) (omega arith))
+      ap (reading known search.work c f ts) (entry-in ws 0 size r (omega arith) ∙ ap₂ (λ i j. entryOf (getD ws i 0) (getD ws j 0)) {x = 0 + 2 * r} {y = 2 * (suc r - 1)} {u = suc
+      (0 + 2 * r)} {v = 2 * (suc r - 1) + 1} (omega arith) (omega arith))
 
   -- the kinds that are no operands of their own
   abbrev Pops : List Sym → List Sym → List Entry → Type 0
@@ -174,11 +177,13 @@ module _ (ws : List ℕ) (size : ℕ) where
       unfolding entryOf
       taking-name v y a b = record {
         is = λ f u. entry _ _ ∙ ap (λ k. reading known search.work c (frameAt f m (r .depth)) (temps f m (r .base) (r .top - r .base)) (entryOf k w)) b
-            ∙ ap (λ x. record { value = x; rest = temps f m (r .base) (r .top - r .base) }) (cells-at f m (framePlace (r .depth)) frameCells (w % frameCells) (known (pos 0)) (omega arith) ∙ ap f (sym (a .is)));
+            ∙ ap (λ x. record { value = x; rest = temps f m (r .base) (r .top - r .base) })
+            (cells-at f m (framePlace (r .depth)) frameCells (w % frameCells) (known (pos 0)) (omega arith) ∙ ap f (sym (a .is)));
         low = y .low;
         high = omega arith;
         sized = a .sized;
-        within = subst (Within (r .nodes)) (ap (cellAt m) {x = cellPlace (frameCells * r .depth + w % frameCells)} {y = variablePlace (r .depth) (w % frameCells)} (omega arith) ∙ sym (a .is)) (y .framed (frameCells * r .depth + w % frameCells) (omega arith));
+        within = subst (Within (r .nodes)) (ap (cellAt m) {x = cellPlace (frameCells * r .depth + w % frameCells)} {y = variablePlace (r .depth) (w % frameCells)} (omega arith) ∙ sym (a .is))
+            (y .framed (frameCells * r .depth + w % frameCells) (omega arith));
       }
 
   pub paired : (m : List ℕ) (r : Run) (d : ℕ) (x y : Value) (tx ty : ℕ) → Taking c m r (r .pc) y ty → Taking c m (topped r ty) (r .pc - d) x tx → Paired c m r d x y tx

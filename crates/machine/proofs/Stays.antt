@@ -1,21 +1,17 @@
 -- What stays of a machine where most words stay: after a temporary was added, after a variable was written, and in the next frame.
 use mathlib.Core.Path.{_≡_, refl, sym, ap, ap₂, _∙_, subst}
-use mathlib.Core.List.{List, [], _∷_}
+use mathlib.Core.List.{List, _∷_}
 use mathlib.Core.Logic.{⊎-elim, _≢_, _⊎_, inl, inr}
 use Prim.Native.Nat.{ℕ, zero, suc, _+_, _-_, _*_, _≤_, _<_}
-use native.Mathlib.Nat.{eq-or-lt-of-le, le-trans}
 use native.Mathlib.Omega.{arith}
 use native.Mathlib.Decide.{decLt}
-use lib.ListN.{length, getD, set}
-use Rattle.semantics.specs.Program.{slot}
-use Rattle.semantics.specs.Does.{store}
-use Rattle.simulation.specs.Machine.{machine}
-use Rattle.simulation.specs.Nodes.{Cell, Within, meaning}
+use lib.ListN.{set}
+use Rattle.simulation.specs.Nodes.{Cell, Within}
 use Rattle.machine.specs.Layout.{frameCells, cellPlace, windowsPlace, tempPlace}
-use Rattle.machine.specs.Memory.{cellAs, cellAt, nodesIn, cells, temps, frameAt, callers, machineIn}
-use Rattle.machine.specs.Contracts.{Room, Ready, Other, Kept, Put, topped}
+use Rattle.machine.specs.Memory.{cellAt, cells, temps, frameAt, callers}
+use Rattle.machine.specs.Contracts.{Ready, Other, Kept, Put, topped}
 use Rattle.machine.specs.declared.Run.{Run}
-use Rattle.machine.proofs.Tables.{Same, within-more, frame-cell, temp-cell, stacked-same, cells-same, frame-same, temps-same, callers-same, room-same, room-less}
+use Rattle.machine.proofs.Tables.{Same, within-more, frame-cell, temp-cell, cells-same, frame-same, temps-same, callers-same, room-less}
 
 pub three : (x y : ℕ) → (x ≡ y) ⊎ ((x < y) ⊎ (y < x))
 three x y = go (decLt x y) (decLt y x)

@@ -2,17 +2,17 @@
 use mathlib.Core.Path.{_≡_, refl, sym, ap, ap₂, _∙_, subst}
 use mathlib.Core.List.{List, [], _∷_, _++_}
 use mathlib.Core.Logic.{⊎-elim, _≢_}
-use Prim.Native.Nat.{ℕ, zero, suc, _+_, _-_, _*_, _/_, _%_, _≤_, _<_}
+use Prim.Native.Nat.{ℕ, zero, suc, _+_, _-_, _*_, _≤_, _<_}
 use native.Mathlib.Nat.{eq-or-lt-of-le, le-trans}
 use native.Mathlib.Numerals.{add-one}
 use native.Mathlib.Omega.{arith}
 use lib.ListN.{length, getD, set, length-set, length-append}
 use lib.Seq.{getD-set-same, getD-set-other}
-use Rattle.simulation.specs.Nodes.{Cell, Known, Open, Node, meaning, Within}
+use Rattle.simulation.specs.Nodes.{Cell, Known, Open, meaning, Within}
 use Rattle.simulation.proofs.Nodes.{meaning-grows}
 use Rattle.machine.specs.Layout.{frameCells, framePlace, variablePlace, cellPlace, callersPlace, callerPlace, callerBase, tempPlace, tempEnd, nodePlace, nodeLeft, nodeRight}
 use Rattle.machine.specs.Memory.{cellAs, cellAt, nodeAs, nodeAt, nodesIn, cells, temps, frameAt, callers}
-use Rattle.machine.specs.Contracts.{Room, Stacked, Other, Kept, Put, Noded}
+use Rattle.machine.specs.Contracts.{Room, Stacked, Kept, Put, Noded}
 
 -- ---- nodes
 
@@ -92,14 +92,16 @@ cells-same m m′ n f f′ agree i (suc k) q h =
 -- what the tables stand for, if f′ reads as f the cells that n nodes are enough for
 module _ {m m′ : List ℕ} {d c t n : ℕ} (s : Same m m′ d c t n) {X : Type 0} (f f′ : Cell → X) (agree : (v : Cell) → Within n v → f′ v ≡ f v) where
   pub frame-same : (e : ℕ) → e < d → ((j : ℕ) → j < frameCells * e + frameCells → Within n (cellAt m (cellPlace j))) → frameAt f m e ≡ frameAt f′ m′ e
-  frame-same e l h = cells-same m m′ n f f′ agree (framePlace e) frameCells (λ j k. frame-cell s (variablePlace e j) (omega arith)) (λ j k. subst (λ (i : ℕ). Within n (cellAt m i)) {x = cellPlace (frameCells * e + j)} {y = variablePlace e j} (omega arith) (h (frameCells * e + j) (omega arith)))
+  frame-same e l h = cells-same m m′ n f f′ agree (framePlace e) frameCells (λ j k. frame-cell s (variablePlace e j) (omega arith))
+      (λ j k. subst (λ (i : ℕ). Within n (cellAt m i)) {x = cellPlace (frameCells * e + j)} {y = variablePlace e j} (omega arith) (h (frameCells * e + j) (omega arith)))
 
   pub temps-same : (i k : ℕ) → i + k ≤ t → ((j : ℕ) → j < t → Within n (cellAt m (tempPlace j))) → temps f m i k ≡ temps f′ m′ i k
   unfolding temps
   temps-same i zero l h = refl
   temps-same i (suc k) l h = ap₂ (λ x l. x ∷ l) (sym (ap f′ (temp-cell s (i + k) (omega arith)) ∙ agree (cellAt m (tempPlace (i + k))) (h (i + k) (omega arith)))) (temps-same i k (omega arith) h)
 
-  pub callers-same : (e top : ℕ) → e ≤ d → e ≤ c → top ≤ t → Stacked m e top → ((j : ℕ) → j < frameCells * e → Within n (cellAt m (cellPlace j))) → ((j : ℕ) → j < t → Within n (cellAt m (tempPlace j))) → callers f m e top ≡ callers f′ m′ e top
+  pub callers-same : (e top : ℕ) → e ≤ d → e ≤ c → top ≤ t → Stacked m e top → ((j : ℕ) → j < frameCells * e → Within n (cellAt m (cellPlace j)))
+      → ((j : ℕ) → j < t → Within n (cellAt m (tempPlace j))) → callers f m e top ≡ callers f′ m′ e top
   unfolding callers
   callers-same zero top l z k b g h = refl
   callers-same (suc e) top l z k b g h =
@@ -143,10 +145,12 @@ module _ (m : List ℕ) (n k x y : ℕ) (h : Room m (n + 1)) where
   apart j a b c = getD-set-other n₂ (nodePlace n + 2) j y 0 c ∙ getD-set-other n₁ (nodePlace n + 1) j x 0 b ∙ getD-set-other m (nodePlace n) j k 0 a
 
   first : getD n₃ (nodePlace n) 0 ≡ k
-  first = getD-set-other n₂ (nodePlace n + 2) (nodePlace n) y 0 (omega arith) ∙ getD-set-other n₁ (nodePlace n + 1) (nodePlace n) x 0 (omega arith) ∙ getD-set-same m (nodePlace n) k 0 (omega (arith, h .words))
+  first = getD-set-other n₂ (nodePlace n + 2) (nodePlace n) y 0 (omega arith) ∙ getD-set-other n₁ (nodePlace n + 1) (nodePlace n) x 0 (omega arith)
+      ∙ getD-set-same m (nodePlace n) k 0 (omega (arith, h .words))
 
   second : getD n₃ (nodeLeft n) 0 ≡ x
-  second = ap (λ (k : ℕ). getD n₃ k 0) {x = nodeLeft n} {y = nodePlace n + 1} (omega arith) ∙ getD-set-other n₂ (nodePlace n + 2) (nodePlace n + 1) y 0 (omega arith) ∙ getD-set-same n₁ (nodePlace n + 1) x 0 (simp length-set (omega (arith, h .words)))
+  second = ap (λ (k : ℕ). getD n₃ k 0) {x = nodeLeft n} {y = nodePlace n + 1} (omega arith) ∙ getD-set-other n₂ (nodePlace n + 2) (nodePlace n + 1) y 0 (omega arith)
+      ∙ getD-set-same n₁ (nodePlace n + 1) x 0 (simp length-set (omega (arith, h .words)))
 
   third : getD n₃ (nodeRight n) 0 ≡ y
   third = ap (λ (k : ℕ). getD n₃ k 0) {x = nodeRight n} {y = nodePlace n + 2} (omega arith) ∙ getD-set-same n₂ (nodePlace n + 2) y 0 (simp length-set (omega (arith, h .words)))

@@ -1,7 +1,7 @@
 -- What the functions of the machine promise: which words they may change, and what the memory stands for afterwards.
 use mathlib.Core.Path.{_≡_}
 use mathlib.Core.Bool.{Bool}
-use mathlib.Core.List.{List, [], _∷_, _++_, map}
+use mathlib.Core.List.{List, [], _++_, map}
 use Prim.Native.Nat.{ℕ, zero, suc, _+_, _-_, _*_, _<_, _≤_}
 use lib.ListN.{getD, length, replicate}
 use lib.IntN.{ℤ, pos}
@@ -22,7 +22,6 @@ use Rattle.machine.specs.Layout.{frameCells, frameWords, framePlace, var
 use Rattle.machine.specs.Memory.{Sym, cellAt, nodeAt, nodesIn, cells, temps, frameAt, callers, machineAt}
 use Rattle.machine.specs.declared.Value.{Value}
 use Rattle.machine.specs.declared.Value.the-variants.{Known, Open}
-use Rattle.machine.specs.declared.Cell as code
 use Rattle.machine.specs.declared.Run.{Run}
 use Rattle.machine.specs.declared.Did.{Did}
 use Rattle.machine.specs.declared.Did.the-variants.{Silent, Step, Free, Test, Returned, Failed, Cut}
@@ -116,7 +115,8 @@ Reads f = (z : ℤ) → f (nodes.Known z) ≡ known z
 
 -- the newest temporary was taken
 pub record Popped (m : List ℕ) (r : Run) (v : Value) (top : ℕ) : Type 0 where
-  pub is : (f : nodes.Cell → Sym) → Reads f → popped known search.work (codeIn [] 0) (temps f m (r .base) (r .top - r .base)) ≡ record { value = f (cellOf v); rest = temps f m (r .base) (top - r .base) }
+  pub is : (f : nodes.Cell → Sym) → Reads f → popped known search.work (codeIn [] 0) (temps f m (r .base) (r .top - r .base))
+      ≡ record { value = f (cellOf v); rest = temps f m (r .base) (top - r .base) }
   pub low : r .base ≤ top
   pub high : top ≤ r .top
   pub sized : Sized v
@@ -124,7 +124,8 @@ pub record Popped (m : List ℕ) (r : Run) (v : Value) (top : ℕ) : Type 0 wher
 
 -- the operand before entry j was taken
 pub record Taking (c : Code) (m : List ℕ) (r : Run) (j : ℕ) (v : Value) (top : ℕ) : Type 0 where
-  pub is : (f : nodes.Cell → Sym) → Reads f → taken known search.work c (frameAt f m (r .depth)) (temps f m (r .base) (r .top - r .base)) j ≡ record { value = f (cellOf v); rest = temps f m (r .base) (top - r .base) }
+  pub is : (f : nodes.Cell → Sym) → Reads f → taken known search.work c (frameAt f m (r .depth)) (temps f m (r .base) (r .top - r .base)) j
+      ≡ record { value = f (cellOf v); rest = temps f m (r .base) (top - r .base) }
   pub low : r .base ≤ top
   pub high : top ≤ r .top
   pub sized : Sized v
@@ -133,7 +134,8 @@ pub record Taking (c : Code) (m : List ℕ) (r : Run) (j : ℕ) (v : Value) (top
 -- two operands were taken
 pub record Paired (c : Code) (m : List ℕ) (r : Run) (d : ℕ) (x y : Value) (top : ℕ) : Type 0 where
   pub is : (f : nodes.Cell → Sym) → Reads f
-      → two known search.work c (frameAt f m (r .depth)) (temps f m (r .base) (r .top - r .base)) (r .pc) d ≡ record { first = f (cellOf x); second = f (cellOf y); rest = temps f m (r .base) (top - r .base) }
+      → two known search.work c (frameAt f m (r .depth)) (temps f m (r .base) (r .top - r .base)) (r .pc) d
+      ≡ record { first = f (cellOf x); second = f (cellOf y); rest = temps f m (r .base) (top - r .base) }
   pub low : r .base ≤ top
   pub high : top ≤ r .top
   pub left-sized : Sized x

@@ -1,7 +1,7 @@
 -- What the words of the lent memory stand for; where they stand is said in Layout.
 use mathlib.Core.Bool.{Bool, true, false}
 use mathlib.Core.List.{List, [], _∷_, _++_}
-use Prim.Native.Nat.{ℕ, zero, suc, _+_, _-_, _*_, _/_, _%_}
+use Prim.Native.Nat.{ℕ, zero, suc, _+_, _-_}
 use lib.ListN.{getD, take}
 use lib.IntN.{ℤ}
 use mir.Syntax.{w32}

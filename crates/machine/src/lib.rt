@@ -210,7 +210,7 @@ fn take(code: &[u32], size: usize, mem: &[u32], run: Run, j: usize) -> Took
 }
 
 // a - b, or 0.
-fn less(a: usize, b: usize) -> usize
+pub fn less(a: usize, b: usize) -> usize
     ensures { λ r. ⌜ r ≡ a - b ⌝ }
 {
     if a < b { 0 } else { a - b }

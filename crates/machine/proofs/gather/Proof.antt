@@ -8,13 +8,6 @@ use Rattle.machine.specs.Contracts.{Gathering}
 use Rattle.machine.proofs.Arguments.{gathering-none, gathering-all, gathering-turn, gathering-skip}
 use Rattle.machine.proofs.gather.Statement.{statement}
 use Rattle.machine.proofs.gather.Tie as tie
-use Rattle.machine.proofs.gather.Reads as reads
-use Rattle.machine.proofs.gather.Lts as lts
-use Rattle.machine.proofs.blank.Reads as blank-reads
-use Rattle.machine.proofs.extent.Reads as extent-reads
-use Rattle.machine.proofs.less.Reads as less-reads
-use Rattle.machine.proofs.put.Reads as put-reads
-use Rattle.machine.proofs.take.Reads as take-reads
 
 abbrev Inv-loop : tie.InvT-loop
 Inv-loop code size mem₀ run n at k₀ j₀ top₀ mem k j top = Gathering (codeIn code size) mem₀ mem run n k j top × (length mem ≡ length mem₀)
@@ -80,8 +73,10 @@ loop-again c =
     let d = c .before .before .before .before .before .before .extent in
     let j = c .before .before .before .before .before .less2 in
     let p = c .before .before .put in (
-      gathering-turn (a .code .now) (a .size) (k .last .0) (a .run) (a .n) (s .pre .2) (l .mem) (e .result) (t .result .value) (l .top) (t .result .top) (d .result) (j .result) (t .ensures) (d .ensures) (j .ensures)
-          (p .last .0) (l .k) (l .j) (c .before .before .before .before .before .before .before .before .before .before .loop-test .taken) (e .ensures) (l .inv .0) (c .before .before .before .before .if1 .taken) (omega (arith, p .kept .0)) (p .ensures),
+      gathering-turn (a .code .now) (a .size) (k .last .0) (a .run) (a .n) (s .pre .2) (l .mem) (e .result) (t .result .value) (l .top) (t .result .top) (d .result) (j .result)
+          (t .ensures) (d .ensures) (j .ensures)
+          (p .last .0) (l .k) (l .j) (c .before .before .before .before .before .before .before .before .before .before .loop-test .taken) (e .ensures) (l .inv .0)
+          (c .before .before .before .before .if1 .taken) (omega (arith, p .kept .0)) (p .ensures),
       omega (arith, p .kept .0, l .inv .1),
     )
 
@@ -98,7 +93,8 @@ loop-again-2 c =
     let t = c .before .before .before .take in
     let d = c .before .before .extent in
     let j = c .before .less2 in (
-      gathering-skip (a .code .now) (a .size) (k .last .0) (a .run) (a .n) (s .pre .2) (l .mem) (e .result) (t .result .value) (l .top) (t .result .top) (d .result) (j .result) (t .ensures) (d .ensures) (j .ensures)
+      gathering-skip (a .code .now) (a .size) (k .last .0) (a .run) (a .n) (s .pre .2) (l .mem) (e .result) (t .result .value) (l .top) (t .result .top) (d .result) (j .result)
+          (t .ensures) (d .ensures) (j .ensures)
           (l .k) (l .j) (c .before .before .before .before .before .before .loop-test .taken) (e .ensures) (l .inv .0) (c .if1 .left),
       l .inv .1,
     )

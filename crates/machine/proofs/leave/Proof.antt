@@ -1,14 +1,10 @@
-use Prim.Native.Nat.{_+_, _-_, _*_}
+use Prim.Native.Nat.{_-_}
 use native.Mathlib.Omega.{arith}
 use Rattle.machine.specs.Layout.{callerPlace, callerBase}
 use Rattle.machine.proofs.Moves.{left-from}
 use borrow.Author.Needs.{needs}
 use Rattle.machine.proofs.leave.Statement.{statement}
 use Rattle.machine.proofs.leave.Tie as tie
-use Rattle.machine.proofs.leave.Reads as reads
-use Rattle.machine.proofs.leave.Lts as lts
-use Rattle.machine.proofs.put.Reads as put-reads
-use Rattle.machine.proofs.take.Reads as take-reads
 
 take-requires : tie.Need-take-requires
 take-requires c κs = search needs

@@ -7,10 +7,6 @@ use Rattle.machine.proofs.Stays.{topped-ready}
 use borrow.Author.Needs.{needs}
 use Rattle.machine.proofs.pair.Statement.{statement}
 use Rattle.machine.proofs.pair.Tie as tie
-use Rattle.machine.proofs.pair.Reads as reads
-use Rattle.machine.proofs.pair.Lts as lts
-use Rattle.machine.proofs.less.Reads as less-reads
-use Rattle.machine.proofs.take.Reads as take-reads
 
 take-requires : tie.Need-take-requires
 take-requires c κs = search needs

@@ -8,10 +8,6 @@ use Rattle.machine.proofs.Operands.{taking-out, taking-number, taking-n
 use borrow.Author.Needs.{needs}
 use Rattle.machine.proofs.take.Statement.{statement}
 use Rattle.machine.proofs.take.Tie as tie
-use Rattle.machine.proofs.take.Reads as reads
-use Rattle.machine.proofs.take.Lts as lts
-use Rattle.ints.proofs.signed.Reads as signed-reads
-use Rattle.machine.proofs.pop.Reads as pop-reads
 
 pop-requires : tie.Need-pop-requires
 pop-requires c κs = search needs
@@ -67,7 +63,8 @@ returns-3 c =
     let l = c .before .before .before .before .if2 .left in
     let k : ℕ = getD (a .code .now) (2 * (a .j - 1)) 0 in
     let w : ℕ = getD (a .code .now) (2 * (a .j - 1) + 1) 0 in
-    taking-number (a .code .now) (a .size) (a .mem .now) (a .run) (a .j) k w h (λ q. omega arith) refl refl _ (search needs) (toZ-ofZ (record { sfits = c .signed .ok }) ∙ c .signed .ensures) (c .before .if3 .taken) (s .pre .1 .low)
+    taking-number (a .code .now) (a .size) (a .mem .now) (a .run) (a .j) k w h (λ q. omega arith) refl refl _ (search needs) (toZ-ofZ (record { sfits = c .signed .ok }) ∙ c .signed .ensures)
+    (c .before .if3 .taken) (s .pre .1 .low)
 
 cast-t19 : tie.Need-cast-t19
 cast-t19 c = omega (arith, c .before .before .shared-slice-known4 .given (2 * (c .before .before .before .before .before .before .before .before .args .j - 1) + 1))
@@ -96,7 +93,8 @@ returns-5 c =
     let l = c .before .before .before .before .before .if2 .left in
     let k : ℕ = getD (a .code .now) (2 * (a .j - 1)) 0 in
     let w : ℕ = getD (a .code .now) (2 * (a .j - 1) + 1) 0 in
-    taking-other (a .code .now) (a .size) (a .mem .now) (a .run) (a .j) k w h (λ q. omega arith) refl refl (c .pop3 .result .value) (c .pop3 .result .top) (c .before .before .if3 .left) (c .before .if4 .left) (c .pop3 .ensures)
+    taking-other (a .code .now) (a .size) (a .mem .now) (a .run) (a .j) k w h (λ q. omega arith) refl refl (c .pop3 .result .value) (c .pop3 .result .top) (c .before .before .if3 .left)
+    (c .before .if4 .left) (c .pop3 .ensures)
 
 pub take-spec : {M : Type 1} → statement M
 take-spec =
