@@ -37,7 +37,7 @@ fn wide(b: u8) -> u64
 }
 
 // The place where a byte first stands, the length where it stands nowhere.
-fn place(s: &[u8], b: u8) -> usize
+pub fn place(s: &[u8], b: u8) -> usize
     ensures { λ r. ⌜ (r ≡ placeOf b (now (s .entry))) × (r ≤ length (now (s .entry))) ⌝ }
 {
     let mut i = 0;

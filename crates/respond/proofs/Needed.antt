@@ -104,7 +104,7 @@ long-enough l h = sym (enough-line l (lineJob l) (ap (λ (b : Bool). b || ltb (p
         ap (λ (b : Bool). isSome (ground 16384 (j .low) (j .high) (j .steps)) || b) (lt-ltb (j .text + 2048) (length l) (omega (arith, h, good-holds l j e .near)))
         ∙ or-true (isSome (ground 16384 (j .low) (j .high) (j .steps)))
 
-pub beyond : (l r : List ℕ) → 2089 ≤ length l → output (l ++ r) ≡ output l
+beyond : (l r : List ℕ) → 2089 ≤ length l → output (l ++ r) ≡ output l
 beyond l r h = enough-input l r (long-enough l h)
 
 -- so the program need not read more

@@ -13,6 +13,7 @@ use Rattle.semantics.specs.Run.{Row}
 use Rattle.semantics.specs.Search as Z
 use Rattle.semantics.specs.Search.{inUse}
 use Rattle.semantics.specs.Promise.{Promised}
+use Rattle.semantics.proofs.Answer.{few-rows}
 use Rattle.list.specs.List as S
 use Rattle.list.specs.List.{Answer, Left, ground, list, answering}
 use Rattle.list.specs.Promise.{answerWith, Keeps}
@@ -25,7 +26,7 @@ use Rattle.lines.proofs.Good.{good-holds}
 use Rattle.respond.specs.Output.{textOf, rowWords, scratchWords, listing, shown, linesOf, outputFor, output}
 use Rattle.respond.specs.Parts.{Small}
 use Rattle.respond.specs.Shows.{Shows}
-use Rattle.respond.proofs.Rows.{few-rows, few-written, rows-back}
+use Rattle.respond.proofs.Rows.{few-written, rows-back}
 
 -- ---- list's answers are small
 
@@ -34,9 +35,9 @@ module _ (text : List ℕ) (low high : ℤ) (steps skip budget : ℕ) (rows : Li
   unfolding Z.listed
   small-by h (some n) v w = record { few = omega arith; near = omega arith }
   small-by h none (C.refused n p) (at-most k) = record { few = omega arith; near = k }
-  small-by h none C.accepted w = record { few = omega (arith, few-rows Z.whole (Z.search inUse (S.jobOf text low high steps)) skip (length rows / 10) budget); near = omega arith }
+  small-by h none C.accepted w = record { few = omega (arith, few-rows Z.whole (Z.search inUse (S.jobOf text low high steps)) skip (length rows / 10) budget .0); near = omega arith }
 
-  pub small : length rows / 10 ≤ 1000 → Small (list text low high steps skip budget rows scratch .answer)
+  small : length rows / 10 ≤ 1000 → Small (list text low high steps skip budget rows scratch .answer)
   unfolding list
   small h = small-by h (ground (length scratch) low high steps) (checked text) (checked-low text)
 
@@ -46,7 +47,7 @@ tens = ap (λ (n : ℕ). n / 10) (length-replicate 10000 (pos 0))
 words : length scratchWords ≡ 16384
 words = length-replicate {A = ℕ} 16384 0
 
-pub listing-small : (text : List ℕ) (low high : ℤ) (steps : ℕ) → Small (listing text low high steps .answer)
+listing-small : (text : List ℕ) (low high : ℤ) (steps : ℕ) → Small (listing text low high steps .answer)
 unfolding listing
 listing-small text low high steps = small text low high steps 0 1000000 rowWords scratchWords (omega (arith, tens))
 

@@ -1,5 +1,5 @@
--- The rows that stand in the slice are the rows found: at most as many as have a place, each with at most eight values, and read back as they were written.
-use Prim.Native.Nat.{ℕ, zero, suc, _+_, _-_, _*_, _≤_, _<_}
+-- The rows that stand in the slice are the rows found: each with at most eight values, and read back as they were written.
+use Prim.Native.Nat.{ℕ, zero, suc, _+_, _-_, _≤_}
 use native.Mathlib.Omega.{arith}
 use mathlib.Core.Path.{_≡_, refl, sym, ap, ap₂, _∙_, subst}
 use mathlib.Core.Bool.{true, false}
@@ -18,19 +18,6 @@ use Rattle.settings.specs.Rows.{wordsOf}
 use Rattle.lines.specs.Written.{rowFrom, rowsFrom}
 use Rattle.lines.proofs.Kept as K
 use Rattle.lines.proofs.Kept.{read-back}
-
--- ---- as many as have a place
-
-pub few-rows : (c : Close) (ms : List Move) (skip room budget : ℕ) → length (answer c ms skip room budget .rows) ≤ room
-unfolding answer
-few-rows c [] skip room budget = omega arith
-few-rows c (m ∷ ms) skip room zero = omega arith
-few-rows c (plain k ∷ ms) skip room (suc n) = few-rows c ms skip room n
-few-rows c (probe false ∷ ms) skip room (suc n) = few-rows c ms skip room n
-few-rows c (probe true ∷ ms) skip room (suc n) = few-rows _ ms skip room n
-few-rows c (found r ∷ ms) (suc k) room (suc n) = few-rows c ms k room n
-few-rows c (found r ∷ ms) zero zero (suc n) = omega arith
-few-rows c (found r ∷ ms) zero (suc k) (suc n) = omega (arith, few-rows c ms zero k n)
 
 -- ---- at most eight values
 

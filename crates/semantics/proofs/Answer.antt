@@ -116,6 +116,19 @@ module _ (v : Solver) (sound : Sound v) (j : Job) (small : Sub (j .window) all32
   unfolding listed
   promise = promised (answer whole (search v j) skip room budget) (outcome whole (search v j) skip room budget)
 
+-- ---- each row written has a place, and was a move
+
+pub few-rows : (c : Close) (ms : List Move) (skip room budget : ℕ) → (length (answer c ms skip room budget .rows) ≤ room) × (length (answer c ms skip room budget .rows) ≤ budget)
+unfolding answer
+few-rows c [] skip room budget = (omega arith, omega arith)
+few-rows c (m ∷ ms) skip room zero = (omega arith, omega arith)
+few-rows c (plain k ∷ ms) skip room (suc n) = let h = few-rows c ms skip room n in (h .0, omega (arith, h .1))
+few-rows c (probe false ∷ ms) skip room (suc n) = let h = few-rows c ms skip room n in (h .0, omega (arith, h .1))
+few-rows c (probe true ∷ ms) skip room (suc n) = let h = few-rows cuts ms skip room n in (h .0, omega (arith, h .1))
+few-rows c (found r ∷ ms) (suc k) room (suc n) = let h = few-rows c ms k room n in (h .0, omega (arith, h .1))
+few-rows c (found r ∷ ms) zero zero (suc n) = (omega arith, omega arith)
+few-rows c (found r ∷ ms) zero (suc k) (suc n) = let h = few-rows c ms zero k n in (omega (arith, h .0), omega (arith, h .1))
+
 -- ---- the promise leaves nothing open: an answer that keeps it is list's
 
 rows-mono : (ms : List Move) (m n : ℕ) → m ≤ n → length (rowsIn (take m ms)) ≤ length (rowsIn (take n ms))

@@ -48,12 +48,12 @@ module _ {A : Type 0} where
   split-member x (y ∷ front) rest = there (split-member x front rest)
 
 module _ {A B : Type 0} where
-  pub map-member : (f : A → B) (x : A) (xs : List A) → x ∈ xs → f x ∈ map f xs
+  map-member : (f : A → B) (x : A) (xs : List A) → x ∈ xs → f x ∈ map f xs
   map-member f x [] m = absurd (nowhere m)
   map-member f x (y ∷ xs) (here e) = here (ap f e)
   map-member f x (y ∷ xs) (there m) = there (map-member f x xs m)
 
-  pub each-member : (f : A → List B) (x : A) (xs : List A) (y : B) → x ∈ xs → y ∈ f x → y ∈ each f xs
+  each-member : (f : A → List B) (x : A) (xs : List A) (y : B) → x ∈ xs → y ∈ f x → y ∈ each f xs
   unfolding each
   each-member f x [] y m n = absurd (nowhere m)
   each-member f x (z ∷ xs) y (here e) n = Memᴰ·append-left (each f xs) (subst (λ z. y ∈ f z) e n)

@@ -32,13 +32,13 @@ in-window w v h = (→leZ (w .low) v (h .least), →leZ v (w .high) (h .most))
 window-in : (w : Window) (v : ℤ) → InWindow w v → In w v
 window-in w v h = record { least = leZ→ (w .low) v (h .0); most = leZ→ v (w .high) (h .1) }
 
-pub belongs-only : (j : Job) (c : Choice) → c ∈ choices j → Belongs j c
+belongs-only : (j : Job) (c : Choice) → c ∈ choices j → Belongs j c
 unfolding choices
 belongs-only j c m =
     let p = belonging-only (run (meaning j)) (lists 8 (j .window)) c m in
     record { inside = λ v n. in-window (j .window) v (all-member (lists-all 8 (j .window) (c .values) (p .0)) v n); runs = p .1 }
 
-pub belongs-has : (j : Job) (c : Choice) → Belongs j c → c ∈ choices j
+belongs-has : (j : Job) (c : Choice) → Belongs j c → c ∈ choices j
 unfolding choices meaning
 belongs-has j c b =
     belonging-has (run (meaning j)) (lists 8 (j .window)) (c .values) (c .ran)

@@ -25,7 +25,7 @@ pub use Rattle.semantics.proofs.Sound.{byRanges-sound, inUse-sound}
 -- programs on which readings of the paper differ
 pub use Rattle.semantics.proofs.Examples.{further-hold}
 
-pub in-32 : (w : Window) → In32 w → Sub w all32
+in-32 : (w : Window) → In32 w → Sub w all32
 unfolding all32
 in-32 w h = record { least = leZ→ _ (w .low) (h .0); most = leZ→ (w .high) _ (h .1) }
 

@@ -18,22 +18,22 @@ use Rattle.simulation.specs.Nodes.{Cell, Known, Open, Node, unknown, ope
 -- ---- a pass
 
 module _ {A : Type 0} (num : ℤ → A) (free : ℕ → A) (op : Op → A → A → A) where
-  pub pass-append : (l : List A) (ms ns : List Node) → pass num free op l (ms ++ ns) ≡ pass num free op (pass num free op l ms) ns
+  pass-append : (l : List A) (ms ns : List Node) → pass num free op l (ms ++ ns) ≡ pass num free op (pass num free op l ms) ns
   unfolding pass
   pass-append l [] ns = refl
   pass-append l (m ∷ ms) ns = pass-append (l ++ node num free op l m ∷ []) ms ns
 
   -- the table with one more node: nothing is worked anew but the new one
-  pub pass-last : (ns : List Node) (n : Node) → pass num free op [] (ns ++ n ∷ []) ≡ pass num free op [] ns ++ node num free op (pass num free op [] ns) n ∷ []
+  pass-last : (ns : List Node) (n : Node) → pass num free op [] (ns ++ n ∷ []) ≡ pass num free op [] ns ++ node num free op (pass num free op [] ns) n ∷ []
   unfolding pass
   pass-last ns n = pass-append [] ns (n ∷ [])
 
-  pub length-pass : (l : List A) (ns : List Node) → length (pass num free op l ns) ≡ length l + length ns
+  length-pass : (l : List A) (ns : List Node) → length (pass num free op l ns) ≡ length l + length ns
   unfolding pass
   length-pass l [] = omega arith
   length-pass l (n ∷ ns) = length-pass (l ++ node num free op l n ∷ []) ns ∙ omega (arith, length-append l (node num free op l n ∷ []))
 
-  pub pass-kept : (l : List A) (ns : List Node) (j : ℕ) (d : A) → j < length l → getD (pass num free op l ns) j d ≡ getD l j d
+  pass-kept : (l : List A) (ns : List Node) (j : ℕ) (d : A) → j < length l → getD (pass num free op l ns) j d ≡ getD l j d
   unfolding pass
   pass-kept l [] j d h = refl
   pass-kept l (n ∷ ns) j d h = pass-kept (l ++ node num free op l n ∷ []) ns j d (omega (arith, length-append l (node num free op l n ∷ []))) ∙ List·getD-append l _ d j h
@@ -94,7 +94,7 @@ unfolding range
 range-op ws o a b = refl
 
 -- the table of ranges holds the range of each node's value
-pub ranges-ok : (ws : List Window) (ns : List Node) → ranges ws ns ≡ map (range ws) (values ns)
+ranges-ok : (ws : List Window) (ns : List Node) → ranges ws ns ≡ map (range ws) (values ns)
 unfolding ranges values
 ranges-ok ws ns = sym (pass-map _ _ _ (range ws) (range-num ws) (range-free ws) (range-op ws) [] ns)
 
@@ -135,7 +135,7 @@ unfolding under
 under-op s o a b = refl
 
 -- one pass says what each node is under a setting
-pub numbers-ok : (s : List ℤ) (ns : List Node) → numbers s ns ≡ map (under s) (values ns)
+numbers-ok : (s : List ℤ) (ns : List Node) → numbers s ns ≡ map (under s) (values ns)
 unfolding numbers values
 numbers-ok s ns = sym (pass-map _ _ _ (under s) (under-num s) (under-free s) (under-op s) [] ns)
 

@@ -56,17 +56,17 @@ tokensBs (b ∷ bs) = 6 + tokensSs b + tokensBs bs
 mutual
   unfolding codeE tokensE
 
-  pub e-size : (e : Expr) → length (codeE e) ≤ tokensE e
+  e-size : (e : Expr) → length (codeE e) ≤ tokensE e
   e-size (Expr.number z) = le-refl _
   e-size (Expr.name a) = le-refl _
   e-size (Expr.op o a b) = omega (arith, e-size a, e-size b, length-append (codeE a) (codeE b ++ act (operate o (length (codeE b))) ∷ []), length-append (codeE b) (act (operate o (length (codeE b))) ∷ []))
   e-size (Expr.call g es) = omega (arith, es-size es, length-append (codeEs es) (act (call g (count es 0)) ∷ []))
 
-  pub es-size : (es : Exprs) → length (codeEs es) ≤ tokensEs es
+  es-size : (es : Exprs) → length (codeEs es) ≤ tokensEs es
   es-size Exprs.none = le-refl _
   es-size (Exprs.more e es) = omega (arith, e-size e, es-size es, length-append (codeE e) (argument (length (codeE e)) ∷ codeEs es))
 
-pub c-size : (c : Cond) → length (codeC c) ≤ tokensC c
+c-size : (c : Cond) → length (codeC c) ≤ tokensC c
 unfolding codeC tokensC
 c-size (Cond.const b) = le-refl _
 c-size (Cond.compare o a b) = omega (arith, e-size a, e-size b, length-append (codeE a) (codeE b ++ act (compare o (length (codeE b))) ∷ []), length-append (codeE b) (act (compare o (length (codeE b))) ∷ []))
@@ -76,7 +76,7 @@ c-size (Cond.or a b) = omega (arith, c-size a, c-size b, length-append (codeC a)
 mutual
   unfolding codeS tokensS
 
-  pub s-size : (s : Stmt) → length (codeS s) ≤ tokensS s
+  s-size : (s : Stmt) → length (codeS s) ≤ tokensS s
   s-size Stmt.empty = le-refl _
   s-size (Stmt.declare a) = omega arith
   s-size (Stmt.unknown a) = omega arith
@@ -90,12 +90,12 @@ mutual
   s-size (Stmt.return e) = omega (arith, e-size e, length-append (codeE e) (act return ∷ []))
   s-size Stmt.fail = le-refl _
 
-  pub ss-size : (ss : Stmts) → length (codeSs ss) ≤ tokensSs ss
+  ss-size : (ss : Stmts) → length (codeSs ss) ≤ tokensSs ss
   ss-size Stmts.end = le-refl _
   ss-size (Stmts.next s ss) = omega (arith, s-size s, ss-size ss, length-append (codeS s) (codeSs ss))
 
 -- a function has six tokens beside its body, and its code one entry
-pub bs-size : (bs : List Stmts) → length (entriesOf bs) + 5 * length bs ≤ tokensBs bs
+bs-size : (bs : List Stmts) → length (entriesOf bs) + 5 * length bs ≤ tokensBs bs
 unfolding entriesOf codeB tokensBs
 bs-size [] = le-refl _
 bs-size (b ∷ bs) = omega (arith, ss-size b, bs-size bs, length-append (codeSs b ++ act fail ∷ []) (entriesOf bs), length-append (codeSs b) (act fail ∷ []))

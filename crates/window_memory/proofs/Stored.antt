@@ -28,7 +28,7 @@ eight m k =
     let e₁₄ : k + 12 + 2 ≡ k + 14 = omega arith in
     rw (e₄, e₆, e₈, e₁₀, e₁₂, e₁₄)
 
-pub length-pair : (m : List ℕ) (k : ℕ) (p : List ℤ) → length (putPair m k p) ≡ length m
+length-pair : (m : List ℕ) (k : ℕ) (p : List ℤ) → length (putPair m k p) ≡ length m
 length-pair m k p = simp length-set
 
 pub length-put : (m : List ℕ) (k : ℕ) (ps : List (List ℤ)) → length (putPairs m k ps) ≡ length m

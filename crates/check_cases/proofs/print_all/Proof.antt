@@ -1,12 +1,7 @@
 use borrow.Author.Needs.{needs}
-use native.Mathlib.Omega.{arith}
 use Prim.Native.Nat.{_≤_, _-_, _+_}
 use Rattle.check_cases.proofs.print_all.Statement.{statement}
 use Rattle.check_cases.proofs.print_all.Tie as tie
-use Rattle.check_cases.proofs.print_all.Reads as reads
-use Rattle.check_cases.proofs.print_all.Lts as lts
-use Rattle.check_cases.proofs.end_of.Reads as end-of-reads
-use Rattle.check_cases.proofs.print_answer.Reads as print-answer-reads
 
 abbrev Inv-loop : tie.InvT-loop
 Inv-loop input n at₀ at = at ≤ n + 1

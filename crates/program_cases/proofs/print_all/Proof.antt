@@ -1,12 +1,7 @@
 use borrow.Author.Needs.{needs}
-use native.Mathlib.Omega.{arith}
 use Prim.Native.Nat.{_≤_, _-_, _+_}
 use Rattle.program_cases.proofs.print_all.Statement.{statement}
 use Rattle.program_cases.proofs.print_all.Tie as tie
-use Rattle.program_cases.proofs.print_all.Reads as reads
-use Rattle.program_cases.proofs.print_all.Lts as lts
-use Rattle.program_cases.proofs.end_of.Reads as end-of-reads
-use Rattle.program_cases.proofs.print_output.Reads as print-output-reads
 
 abbrev Inv-loop : tie.InvT-loop
 Inv-loop inputs n at₀ at = at ≤ n + 1
