@@ -1,25 +1,24 @@
 -- A whole text, from what the lexer answers and what is settled of its tokens.
-use Prim.Native.Nat.{ℕ, zero, suc, _+_, _*_, _≤_, _<_}
+use Prim.Native.Nat.{ℕ, zero, suc, _+_, _≤_, _<_}
 use mathlib.Core.Path.{_≡_, refl, sym, ap, _∙_, subst}
-use mathlib.Core.Bool.{Bool, true, false}
-use mathlib.Core.List.{List, [], _∷_, _++_, map, map-append}
+use mathlib.Core.Bool.{true, false}
+use mathlib.Core.List.{List, [], _∷_, _++_, map-append}
 use native.Mathlib.Omega.{arith}
 use lib.ListN.{length, getD, take, length-take}
 use lib.Seq.{take-suc, length-sets}
 use lib.Dec.{eqb}
 use Rattle.syntax.specs.Token.{kEnd}
 use Rattle.lexer.specs.Lex as L
-use Rattle.lexer.specs.Lex.{Token, lexed, found}
+use Rattle.lexer.specs.Lex.{Token, lexed}
 use Rattle.lexer.specs.Parts as W
 use Rattle.lexer.specs.Parts.{Lexes, stored}
 use Rattle.lexer.specs.declared.Lexed.{Lexed}
 use Rattle.lexer.specs.declared.Lexed.the-variants as X
-use Rattle.lexer.specs.Tokens.{Scans}
 use Rattle.lexer.proofs.Theorems.{Ended, the-end, before-end, lexed-tokens, end-last, count, stored-length, stored-kinds, stored-places}
 use Rattle.grammar.specs.Text.{Tokens}
 use Rattle.checker.specs.Check.{Verdict, accepted, refused, checkedTokens, checked, kinds, places, values}
 use Rattle.checker.specs.Sizes.{TOKENS}
-use Rattle.checker.specs.Analysis.{Lent, Slices, Settles, Known, Analyses}
+use Rattle.checker.specs.Analysis.{Settles, Analyses}
 use Rattle.checker.specs.Analysis as N
 use Rattle.checker.specs.declared.Analysed.{Analysed}
 use Rattle.checker.specs.declared.Analysed.the-variants.{Refused, Fine}

@@ -75,15 +75,28 @@ places-ascend (above q a) (suc i) (suc j) h k = places-ascend a i j (omega (arit
 
 -- ---- the first rule that is broken
 
+none-before : (r : Rule) → r ∈ [] → r .broken ≡ []
+none-before r m = absurd (nowhere m)
+
+-- it is found
+finds : (before : List Rule) (r : Rule) (after : List Rule) (i : ℕ) → ((q : Rule) → q ∈ before → q .broken ≡ []) → least (r .broken) ≡ some i → firstBroken (before ++ r ∷ after) ≡ some (fault (r .number) i)
+unfolding firstBroken least
+finds [] r after i k e = rw (e, firstBroken)
+finds (q ∷ qs) r after i k e = rw (k q (here refl), firstBroken) (finds qs r after i (λ x m. k x (there m)) e)
+
+-- what a fault says
+abbrev Found : List Token → List Rule → Option Fault → Type 0
+Found ts rs none = Unit
+Found ts rs (some f) = Breaks ts rs (f .number) (getD (places ts) (f .token) 0)
+
+later : {ts : List Token} {rs : List Rule} {n p : ℕ} (r : Rule) → r .broken ≡ [] → Breaks ts rs n p → Breaks ts (r ∷ rs) n p
+later r e b = record { before = r ∷ b .before; broken = b .broken; after = b .after; order = ap (λ (l : List Rule). r ∷ l) (b .order); kept = kept; number = b .number; place = b .place }
+  where
+    kept : (q : Rule) → q ∈ r ∷ b .before → q .broken ≡ []
+    kept q (here f) = ap (λ (x : Rule). x .broken) f ∙ e
+    kept q (there m) = b .kept q m
+
 module _ (ts : List Token) (a : Ascending 0 ts) where
-  -- what a fault says
-  abbrev Found : List Rule → Option Fault → Type 0
-  Found rs none = Unit
-  Found rs (some f) = Breaks ts rs (f .number) (getD (places ts) (f .token) 0)
-
-  none-before : (r : Rule) → r ∈ [] → r .broken ≡ []
-  none-before r m = absurd (nowhere m)
-
   now : (r : Rule) (rs : List Rule) (i : ℕ) → Low (length ts) (r .broken) → least (r .broken) ≡ some i → Breaks ts (r ∷ rs) (r .number) (getD (places ts) i 0)
   now r rs i l e =
       let s = least-so (r .broken) i e in
@@ -97,19 +110,12 @@ module _ (ts : List Token) (a : Ascending 0 ts) where
         place = record { token = i; breaks = s .among; stands = refl; inside = low-at l; smallest = λ j m. places-ascend a i j (s .lowest j m) (low-at l j m) };
       }
 
-  later : {rs : List Rule} {n p : ℕ} (r : Rule) → r .broken ≡ [] → Breaks ts rs n p → Breaks ts (r ∷ rs) n p
-  later r e b = record { before = r ∷ b .before; broken = b .broken; after = b .after; order = ap (λ (l : List Rule). r ∷ l) (b .order); kept = kept; number = b .number; place = b .place }
-    where
-      kept : (q : Rule) → q ∈ r ∷ b .before → q .broken ≡ []
-      kept q (here f) = ap (λ (x : Rule). x .broken) f ∙ e
-      kept q (there m) = b .kept q m
-
-  first-found : (rs : List Rule) → Lows (length ts) rs → Found rs (firstBroken rs)
+  first-found : (rs : List Rule) → Lows (length ts) rs → Found ts rs (firstBroken rs)
   unfolding firstBroken
   first-found [] l = tt
   first-found (r ∷ rs) (also l ls) = go (least (r .broken)) refl (firstBroken rs) (first-found rs ls)
     where
-      go : (o : Option ℕ) → least (r .broken) ≡ o → (f : Option Fault) → Found rs f → Found (r ∷ rs) (orElse (r .number) o f)
+      go : (o : Option ℕ) → least (r .broken) ≡ o → (f : Option Fault) → Found ts rs f → Found ts (r ∷ rs) (orElse (r .number) o f)
       go none e none b = tt
       go none e (some f) b = later r (least-none (r .broken) e) b
       go (some i) e f b = now r rs i l e
@@ -119,12 +125,6 @@ module _ (ts : List Token) (a : Ascending 0 ts) where
   least-place is p i s e =
       let l = least-so is i e in
       omega (arith, s .stands, s .smallest i (l .among), places-ascend a i (s .token) (l .lowest (s .token) (s .breaks)) (s .inside (s .token) (s .breaks)))
-
-  -- the first rule that is broken is found
-  finds : (before : List Rule) (r : Rule) (after : List Rule) (i : ℕ) → ((q : Rule) → q ∈ before → q .broken ≡ []) → least (r .broken) ≡ some i → firstBroken (before ++ r ∷ after) ≡ some (fault (r .number) i)
-  unfolding firstBroken least
-  finds [] r after i k e = rw (e, firstBroken)
-  finds (q ∷ qs) r after i k e = rw (k q (here refl), firstBroken) (finds qs r after i (λ x m. k x (there m)) e)
 
   breaks-only : (rs : List Rule) (n p : ℕ) → Breaks ts rs n p → verdict (places ts) (firstBroken rs) ≡ refused n p
   breaks-only rs n p b = go (least (b .broken .broken)) refl
@@ -171,7 +171,7 @@ module _ (text : List ℕ) where
       low : Lows (length ts) rs
       low = subst (λ (m : ℕ). Lows m rs) (length-kinds ts) (broken-low (kinds ts) t k (sameName text (places ts) (values ts)) (isMain text (places ts) (values ts)))
 
-      go : (o : Option Fault) → Found ts (ascending (lexed-tokens text ts l .1)) rs o → Says text (verdict (places ts) o)
+      go : (o : Option Fault) → Found ts rs o → Says text (verdict (places ts) o)
       go none b = tt
       go (some f) b = breaks-rule l k b
 

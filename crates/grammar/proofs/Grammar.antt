@@ -51,19 +51,19 @@ only-first ks m n a b = go (decLt m n) (decLt n m)
     go (no h) (no k) = omega (arith, h, k)
 
 module _ (ks : List ℕ) (h : Tokens ks) where
-  text : P.Text ks (h .ends) (h .only) (h .filled) (parsed ks)
+  text : P.Text ks (parsed ks)
   text = P.text-right ks (h .ends) (h .only) (h .filled) (8 * length ks + 8) (omega arith)
 
   pub kept : {t : Tree prog} {m : ℕ} → parsed ks ≡ ok t m → KeepsGrammar ks t
-  kept {t} {m} e = go (subst (λ (v : Res prog). P.Text ks (h .ends) (h .only) (h .filled) v) e text)
+  kept {t} {m} e = go (subst (λ (v : Res prog). P.Text ks v) e text)
     where
-      go : P.Text ks (h .ends) (h .only) (h .filled) (ok t m) → KeepsGrammar ks t
+      go : P.Text ks (ok t m) → KeepsGrammar ks t
       go (P.kept q) = let z : ok t m ≡ ok (numbered 0 t) (width t) = sym e ∙ accepts ks t q in record { tokens = q; numbers = cc }
 
   pub first-bad : {m : ℕ} → parsed ks ≡ bad m → First-bad ks m
-  first-bad {m} e = go (subst (λ (v : Res prog). P.Text ks (h .ends) (h .only) (h .filled) v) e text)
+  first-bad {m} e = go (subst (λ (v : Res prog). P.Text ks v) e text)
     where
-      go : P.Text ks (h .ends) (h .only) (h .filled) (bad m) → First-bad ks m
+      go : P.Text ks (bad m) → First-bad ks m
       go (P.broken b) = b
 
   pub refuses : {m : ℕ} → First-bad ks m → parsed ks ≡ bad m

@@ -1,4 +1,5 @@
--- What it means that a text keeps the grammar, and which token is the first that does not fit (document 01, number 4). Both speak of trees and their tokens alone; that the readers decide this is proved in proofs/Grammar.
+-- What it means that a text keeps the grammar, and which token is the first that does not fit (document 01, number 4).
+-- Both speak of trees and their tokens alone; that the readers decide this is proved in proofs/Grammar.
 use Prim.Native.Nat.{ℕ, suc, _<_}
 use mathlib.Core.Path.{_≡_}
 use mathlib.Core.List.{List, [], _∷_, _++_}

@@ -7,7 +7,7 @@ use native.Mathlib.Omega.{arith}
 use native.Mathlib.Numerals.{add-one}
 use native.Mathlib.Nat.{add-zero, add-suc, suc-add}
 use native.Mathlib.Decide.{decLt}
-use lib.ListN.{length, getD, take, drop, set, length-drop, drop-of-length-le}
+use lib.ListN.{length, take, drop, set, length-drop}
 use lib.Seq.{drop-cons, getD-set-same, getD-set-other}
 use lib.Dec.{eqb, ltb}
 use borrow.Author.Tests.{eqb-true, lt-ltb, le-ltb, ltb-false}
@@ -19,7 +19,6 @@ use Rattle.lexer.specs.Lex.{
   longest,
   valueOf,
   Token,
-  isLarge,
   Front,
   blank,
   nothing,
@@ -31,14 +30,12 @@ use Rattle.lexer.specs.Lex.{
   before,
   scan,
   Lexing,
-  tokens,
   refused,
   noneLarge,
   lexed,
 }
 use Rattle.lexer.specs.Tokens.{Longest}
 use Rattle.lexer.specs.Parts.{limit, held, pieceOf, largeAs, firstLarge, stored}
-use Rattle.lexer.specs.declared.Piece.{Piece}
 use Rattle.lexer.specs.declared.Piece.the-variants as piece
 
 longest-le : (n : ℕ) (l : List ℕ) → longestWithin n l ≤ n
@@ -128,9 +125,6 @@ piece-token (token j n v) k m w e =
     let b : n ≡ m = cc in
     let c : held j v ≡ w = cc in
     (v, cc, sym c ∙ ap (λ (x : ℕ). held x v) a)
-
-pub piece-size : (l : List ℕ) (i : ℕ) → i < length l → (k m w : ℕ) → pieceOf (front (drop i l)) ≡ piece.Token k m w → (1 ≤ m) × (i + m ≤ length l)
-piece-size l i h k m w e = let t = piece-token (front (drop i l)) k m w e in at-size l i h k m (t .0) (t .1)
 
 -- a value that is held only up to the limit is large where the whole one is, and whole where it is not
 number-held : (v : ℕ) → ltb 2147483647 (min v limit) ≡ ltb 2147483647 v

@@ -2,14 +2,12 @@
 use Prim.Native.Nat.{ℕ, zero, suc, _+_, _-_, _≤_, _<_}
 use mathlib.Core.Path.{_≡_, refl, sym, ap, _∙_, subst}
 use mathlib.Core.Bool.{Bool, true, false, _||_}
-use mathlib.Core.List.{List, [], _∷_, _++_, map, map-append}
+use mathlib.Core.List.{List, [], _∷_, _++_, map-append}
 use native.Mathlib.Omega.{arith}
-use native.Mathlib.Numerals.{add-one}
-use native.Mathlib.Nat.{add-zero}
 use native.Mathlib.Decide.{decLt}
 use lib.ListN.{length, getD, take, drop, length-drop, length-append, drop-of-length-le, List·getD-append}
 use lib.Seq.{drop-cons, length-take-le, take-suc, getD-append-seam}
-use lib.Dec.{T, eqb, ltb}
+use lib.Dec.{eqb, ltb}
 use borrow.Author.Tests.{eqb-true, le-ltb, ltb-true, ltb-false}
 use Rattle.syntax.specs.Token.{kEnd, kNumber}
 use Rattle.lexer.specs.Lex.{
@@ -17,7 +15,6 @@ use Rattle.lexer.specs.Lex.{
   same,
   kindIn,
   kindOf,
-  longestWithin,
   longest,
   valueOf,
   Token,
@@ -233,10 +230,11 @@ pub end-last : {text : List ℕ} {p : ℕ} {ts : List Token} → Scans text p (f
 end-last (ended b) = the-end
 end-last (next size b f c) = before-end (f .is-token) (end-last c)
 
--- THEOREM. Each token lies inside the text: a number by the place of its first byte, any other with its bytes, take value (drop place text).
+-- THEOREM. The value of a token that is no number is its size.
 pub token-fits : {l : List ℕ} {k m v : ℕ} → Longest l k m v → eqb k kNumber ≡ false → v ≡ m
 token-fits {l = l} {m = m} f e = f .value-of ∙ size-value (take m l) (ap (λ (x : ℕ). eqb x kNumber) (sym (f .kind-of)) ∙ e) ∙ length-take-le m l (f .fits)
 
+-- THEOREM. Each token has its place inside the text, or at its end.
 pub inside : {text : List ℕ} {p : ℕ} {ts : List Token} → Scans text p (found ts) → (i : ℕ) (d : Token) → i < length ts → (getD ts i d) .place ≤ length text
 inside (ended b) zero d h = omega arith
 inside (ended b) (suc i) d h = absurd (omega arith)

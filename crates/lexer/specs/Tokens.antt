@@ -26,13 +26,16 @@ pub record Blanks (text : List ℕ) (p q : ℕ) : Type 0 where
   pub ordered : p ≤ q
   pub all-blank : (i : ℕ) → p ≤ i → i < q → isBlank (getD text i 0) ≡ true
 
--- What there is from place p on: blanks, then the longest token that begins there, and so on, "a token's place being its first byte"; at last blanks and the end, or blanks and "a byte that begins no token".
+-- What there is from place p on: blanks, then the longest token that begins there, and so on, "a token's place being its first byte";
+-- at last blanks and the end, or blanks and "a byte that begins no token".
 pub data Scans (text : List ℕ) : ℕ → Scanned → Type 0 where
   ended : {p : ℕ} → Blanks text p (length text) → Scans text p (found (endAt (length text) ∷ []))
   strayed : {p q : ℕ} → Blanks text p q → q < length text → front (drop q text) ≡ nothing → Scans text p (stray [] q)
-  next : {p : ℕ} {t : Token} {ts : List Token} (size : ℕ) → Blanks text p (t .place) → Longest (drop (t .place) text) (t .kind) size (t .value) → Scans text (t .place + size) (found ts)
+  next : {p : ℕ} {t : Token} {ts : List Token} (size : ℕ) → Blanks text p (t .place) → Longest (drop (t .place) text) (t .kind) size (t .value)
+      → Scans text (t .place + size) (found ts)
       → Scans text p (found (t ∷ ts))
-  next-stray : {p q : ℕ} {t : Token} {ts : List Token} (size : ℕ) → Blanks text p (t .place) → Longest (drop (t .place) text) (t .kind) size (t .value) → Scans text (t .place + size) (stray ts q)
+  next-stray : {p q : ℕ} {t : Token} {ts : List Token} (size : ℕ) → Blanks text p (t .place) → Longest (drop (t .place) text) (t .kind) size (t .value)
+      → Scans text (t .place + size) (stray ts q)
       → Scans text p (stray (t ∷ ts) q)
 
 -- "3 a name over 16 bytes or a number above 2,147,483,647", "the smallest place within a number winning": the first of the tokens that is so stands at p

@@ -11,7 +11,6 @@ use borrow.Author.Tests.{eq-eqb}
 use Rattle.syntax.specs.Tree.{Tree, prog, width}
 use Rattle.syntax.specs.Token.{kEnd}
 use Rattle.syntax.specs.Abstract.{ast}
-use Rattle.lexer.specs.Lex as L
 use Rattle.lexer.specs.Lex.{Token, same}
 use Rattle.lexer.specs.Parts.{stored}
 use Rattle.lexer.proofs.Theorems.{Ascending, no-more, above, ascending, inside, lexed-tokens, stored-length, stored-at}

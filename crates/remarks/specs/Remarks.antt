@@ -99,7 +99,8 @@ Remarkable text ts t g =
     (mainOf (isMain text (places ts) (values ts)) (heads (events (ast t))))
     g
 
--- "Else it writes the name offset of each function but main that no chain of calls in the text leads to from main, each once, in any order, into the first places, and answers the count. Other places keep their words."
+-- "Else it writes the name offset of each function but main that no chain of calls in the text leads to from main, each once, in any order, into the first places,
+-- and answers the count. Other places keep their words."
 -- A refusal writes nothing.
 pub data Answers (text before after : List ℕ) : Answer → Verdict → Type 0 where
   refuses : {n p : ℕ} → after ≡ before → Answers text before after (Refused n p) (refused n p)

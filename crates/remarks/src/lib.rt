@@ -2,10 +2,7 @@
 ghost use mathlib.Core.Path.{_≡_};
 ghost use Prim.Native.Nat.{ℕ, _-_, _*_, _≤_, _<_};
 ghost use lib.ListN.{length, getD, set};
-ghost use lib.Dec.{ltb};
-ghost use Rattle.events.specs.Stored.{stored};
-ghost use Rattle.text_rules.specs.Spelling.{sameName, isMain};
-ghost use Rattle.text_rules.specs.Resolve.{mainOf};
+ghost use Rattle.text_rules.specs.Spelling.{sameName};
 ghost use Rattle.events.specs.Read.{asEvent};
 ghost use Rattle.text_rules.specs.Answers.{found, storedHeads};
 ghost use Rattle.checker.specs.Check.{checked};
@@ -78,7 +75,8 @@ fn newly_called(
     event: Event,
 ) -> Found
     requires { ⌜ 2 * h ≤ length (now heads) ⌝ }
-    ensures { λ r. ⌜ found r ≡ fresh (now (reached .entry)) (calledBy (sameName (now (text .entry)) (now (places .entry)) (now (values .entry))) (storedHeads (now (heads .entry)) h) f (asEvent event)) ⌝ }
+    ensures { λ r. ⌜ found r ≡ fresh (now (reached .entry))
+        (calledBy (sameName (now (text .entry)) (now (places .entry)) (now (values .entry))) (storedHeads (now (heads .entry)) h) f (asEvent event)) ⌝ }
 {
     match event {
         Event::Calls { token, count: _ } => {
@@ -101,7 +99,8 @@ fn next_reached(
     reached: &[u32],
 ) -> Found
     requires { ⌜ (3 * n ≤ length (now events)) × (2 * h ≤ length (now heads)) ⌝ }
-    ensures { λ r. ⌜ found r ≡ fresh (now (reached .entry)) (callsIn (sameName (now (text .entry)) (now (places .entry)) (now (values .entry))) (now (events .entry)) n (now (heads .entry)) h) ⌝ }
+    ensures { λ r. ⌜ found r ≡ fresh (now (reached .entry))
+        (callsIn (sameName (now (text .entry)) (now (places .entry)) (now (values .entry))) (now (events .entry)) n (now (heads .entry)) h) ⌝ }
 {
     let mut f = 0;
     let mut i = 0;
@@ -129,7 +128,8 @@ fn reach(
     main: usize,
     reached: &mut [u32],
 )
-    requires { ⌜ (3 * n ≤ length (now events)) × (2 * h ≤ length (now heads)) × (h ≤ length (now reached)) × (main < length (now reached)) × ((g : ℕ) → getD (now reached) g 0 ≡ 0) ⌝ }
+    requires { ⌜ (3 * n ≤ length (now events)) × (2 * h ≤ length (now heads)) × (h ≤ length (now reached))
+        × (main < length (now reached)) × ((g : ℕ) → getD (now reached) g 0 ≡ 0) ⌝ }
     ensures { λ r. ⌜ Marks (callsIn (sameName (now (text .entry)) (now (places .entry)) (now (values .entry))) (now (events .entry)) n (now (heads .entry)) h) main (now (reached .exit)) ⌝ }
 {
     reached[main] = 1;
