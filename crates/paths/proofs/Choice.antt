@@ -3,7 +3,7 @@ use mathlib.Core.Path.{_≡_, refl, sym, ap, ap₂, _∙_, subst}
 use mathlib.Core.Bool.{Bool, true, false, not}
 use mathlib.Core.List.{List, [], _∷_, _++_}
 use mathlib.Core.Logic.{_≢_}
-use Prim.Native.Nat.{ℕ, zero, suc, _+_, _-_, _*_, _/_, _%_, _≤_, _<_}
+use Prim.Native.Nat.{ℕ, zero, suc, _+_, _-_, _*_, _%_, _≤_, _<_}
 use native.Mathlib.Numerals.{add-one}
 use native.Mathlib.Omega.{arith}
 use lib.Dec.{eqb}
@@ -17,7 +17,6 @@ use Rattle.semantics.specs.Int.{Cmp}
 use Rattle.semantics.specs.Run.{Window}
 use Rattle.semantics.specs.Search as search
 use Rattle.semantics.specs.Search.{known, open′, to, range, clipped}
-use Rattle.simulation.specs.Path.{outcome}
 use Rattle.simulation.specs.Nodes.{Known, Open, Node, unknown, operation, node, values, meaning, rangeIn, Within}
 use Rattle.simulation.proofs.Nodes.{range-ok, adding-ok}
 use Rattle.ints.specs.Numbers as numbers
@@ -64,24 +63,25 @@ pub stands-at : (m : List ℕ) (k n : ℕ) (v u : code.Value) (s : Side) → v �
 stands-at m k n v u s e h = subst (λ (v : code.Value). Stands (windowsIn m k) s (meant m n v)) (sym e) h
 
 module _ (m : List ℕ) (k n j : ℕ) where
-  pub side-free : Tables m k n → j < n → nodeOp (kind m k j) ≡ 0 → Stands (windowsIn m k) (Free (getD m (nodeLeft j) 0)) (meaning (nodesIn m n) (Open j))
+  pub side-free : Tables m k n → j < n → nodeOp (kind m j) ≡ 0 → Stands (windowsIn m k) (Free (getD m (nodeLeft j) 0)) (meaning (nodesIn m n) (Open j))
   side-free t l e =
       let x = getD m (nodeLeft j) 0 in
-      let q : nodeAt m j ≡ unknown x = ap (λ (i : ℕ). nodeBy i x (left m k j) (right m k j)) e in
+      let q : nodeAt m j ≡ unknown x = ap (λ (i : ℕ). nodeBy i x (left m j) (right m j)) e in
       let g : x < k = subst (Named k) q (t .named j l) in
-      subst (Stands (windowsIn m k) (Free x)) (sym (meaning-at m n j l ∙ ap (node known search.unknown open′ (Rattle.simulation.specs.Nodes.values (nodesIn m j))) q)) (Stands.free (omega (arith, windows-length m k (t .count))))
+      subst (Stands (windowsIn m k) (Free x)) (sym (meaning-at m n j l ∙ ap (node known search.unknown open′ (Rattle.simulation.specs.Nodes.values (nodesIn m j))) q))
+      (Stands.free (omega (arith, windows-length m k (t .count))))
 
-  pub side-op : (r : win.Window) → Tables m k n → j < n → (nodeOp (kind m k j) ≡ 0 → ⊥) → ofWindow r ≡ rangeIn (rangesIn m n) (Open j) → Stands (windowsIn m k) (Other r) (meaning (nodesIn m n) (Open j))
-  side-op r t l f e = by (nodeOp (kind m k j)) refl
+  pub side-op : (r : win.Window) → Tables m k n → j < n → (nodeOp (kind m j) ≡ 0 → ⊥) → ofWindow r ≡ rangeIn (rangesIn m n) (Open j) → Stands (windowsIn m k) (Other r) (meaning (nodesIn m n) (Open j))
+  side-op r t l f e = by (nodeOp (kind m j)) refl
     where
       is : ofWindow r ≡ range (windowsIn m k) (meaning (nodesIn m n) (Open j))
       is = e ∙ ap (λ (rs : List Window). rangeIn rs (Open j)) (t .is) ∙ range-ok (windowsIn m k) (nodesIn m n) (Open j)
 
-      by : (i : ℕ) → nodeOp (kind m k j) ≡ i → Stands (windowsIn m k) (Other r) (meaning (nodesIn m n) (Open j))
+      by : (i : ℕ) → nodeOp (kind m j) ≡ i → Stands (windowsIn m k) (Other r) (meaning (nodesIn m n) (Open j))
       by zero q = absurd (f q)
       by (suc i) q =
           let o = numbers.operation i in
-          let g : nodeAt m j ≡ operation o (left m k j) (right m k j) = ap (λ (i : ℕ). nodeBy i (getD m (nodeLeft j) 0) (left m k j) (right m k j)) q in
+          let g : nodeAt m j ≡ operation o (left m j) (right m j) = ap (λ (i : ℕ). nodeBy i (getD m (nodeLeft j) 0) (left m j) (right m j)) q in
           let v = meaning-at m n j l ∙ ap (node known search.unknown open′ (Rattle.simulation.specs.Nodes.values (nodesIn m j))) g in
           subst (Stands (windowsIn m k) (Other r)) (sym v) (Stands.operation (is ∙ ap (range (windowsIn m k)) v))
 
@@ -105,7 +105,8 @@ module _ (m : List ℕ) (t c a b x y : ℕ) (v w : code.Value) (r : Room m (t + 
   apart i f g h = getD-set-other m₂ (testRight t) i y 0 h ∙ getD-set-other m₁ (testLeft t) i x 0 g ∙ getD-set-other m (testPlace t) i (testKind c a b) 0 f
 
   first : getD m₃ (testPlace t) 0 ≡ testKind c a b
-  first = getD-set-other m₂ (testRight t) (testPlace t) y 0 (omega arith) ∙ getD-set-other m₁ (testLeft t) (testPlace t) x 0 (omega arith) ∙ getD-set-same m (testPlace t) (testKind c a b) 0 (omega (arith, r .words))
+  first = getD-set-other m₂ (testRight t) (testPlace t) y 0 (omega arith) ∙ getD-set-other m₁ (testLeft t) (testPlace t) x 0 (omega arith)
+      ∙ getD-set-same m (testPlace t) (testKind c a b) 0 (omega (arith, r .words))
 
   second : getD m₃ (testLeft t) 0 ≡ x
   second = getD-set-other m₂ (testRight t) (testLeft t) y 0 (omega arith) ∙ getD-set-same m₁ (testLeft t) x 0 (simp length-set (omega (arith, r .words)))
@@ -124,7 +125,8 @@ module _ (m : List ℕ) (t c a b x y : ℕ) (v w : code.Value) (r : Room m (t + 
   pub noting : c < 6 → a ≡ bit v → b ≡ bit w → cellAs (bit v) x ≡ cellOf v → cellAs (bit w) y ≡ cellOf w → Noting m m₃ t (testBy (numbers.comparison c) v w)
   noting l p q e f = record {
     other = record { outside = λ i h. apart i (λ u. h (omega arith) (omega arith)) (λ u. h (omega arith) (omega arith)) (λ u. h (omega arith) (omega arith)) };
-    is = rw (first, second, third) (decode l (omega (arith, p, bit-two v)) (omega (arith, q, bit-two w)) ∙ (λ i. record { compare = numbers.comparison c; left = (ap (λ (z : ℕ). cellAs z x) p ∙ e) i; right = (ap (λ (z : ℕ). cellAs z y) q ∙ f) i }));
+    is = rw (first, second, third) (decode l (omega (arith, p, bit-two v)) (omega (arith, q, bit-two w))
+        ∙ (λ i. record { compare = numbers.comparison c; left = (ap (λ (z : ℕ). cellAs z x) p ∙ e) i; right = (ap (λ (z : ℕ). cellAs z y) q ∙ f) i }));
   }
 
 -- ---- an outcome
@@ -164,10 +166,12 @@ not-true : (b : Bool) → not b ≡ true → b ≡ false
 not-true true e = absurd (subst (λ o. elim o as (λ o. Type 0) [ true ↦ ⊥ | false ↦ Unit {0} ]) e tt)
 not-true false e = refl
 
-pub idle-at : (s u : Side) (r : win.Window) → s ≡ u → ((c : Cmp) (ws : List Window) → clipped c (variableOf u) (ofWindow r) ws ≡ ws) → (c : Cmp) (ws : List Window) → clipped c (variableOf s) (ofWindow r) ws ≡ ws
+pub idle-at : (s u : Side) (r : win.Window) → s ≡ u → ((c : Cmp) (ws : List Window) → clipped c (variableOf u) (ofWindow r) ws ≡ ws) → (c : Cmp) (ws : List Window)
+    → clipped c (variableOf s) (ofWindow r) ws ≡ ws
 idle-at s u r e h c ws = subst (λ (s : Side). clipped c (variableOf s) (ofWindow r) ws ≡ ws) (sym e) (h c ws)
 
-pub idle-free : (i : ℕ) (r : win.Window) → SFits w32 (r .low) → SFits w32 (r .high) → not (eqb (ofZ w32 (r .low)) (ofZ w32 (r .high))) ≡ true → (c : Cmp) (ws : List Window) → clipped c (variableOf (Free i)) (ofWindow r) ws ≡ ws
+pub idle-free : (i : ℕ) (r : win.Window) → SFits w32 (r .low) → SFits w32 (r .high) → not (eqb (ofZ w32 (r .low)) (ofZ w32 (r .high))) ≡ true → (c : Cmp) (ws : List Window)
+    → clipped c (variableOf (Free i)) (ofWindow r) ws ≡ ws
 unfolding clipped
 idle-free i r l h e c ws = rw (sym (eq-bits (r .low) (r .high) l h) ∙ not-true (eqb (ofZ w32 (r .low)) (ofZ w32 (r .high))) e) refl
 

@@ -4,14 +4,14 @@ use mathlib.Core.Bool.{Bool, true, false}
 use mathlib.Core.Option.{none}
 use mathlib.Core.List.{List, [], _∷_, _++_, map}
 use mathlib.Core.Logic.{⊎-elim}
-use Prim.Native.Nat.{ℕ, zero, suc, _+_, _-_, _*_, _≤_, _<_}
+use Prim.Native.Nat.{ℕ, zero, suc, _+_, _-_, _≤_, _<_}
 use native.Mathlib.Nat.{eq-or-lt-of-le}
 use native.Mathlib.Numerals.{add-one}
 use native.Mathlib.Omega.{arith}
 use lib.ListN.{length, getD}
 use Rattle.semantics.specs.Int.{Cmp}
 use Rattle.semantics.specs.Search.{Value, asTest, narrowed, decided}
-use Rattle.simulation.specs.Path.{state, outcome, later, holding}
+use Rattle.simulation.specs.Path.{state, later, holding}
 use Rattle.simulation.specs.Nodes.{Node, Noted, meaning, ranges, rangeIn, testOf}
 use Rattle.intervals.proofs.Undecided.{undecided-negated}
 use Rattle.machine.specs.Layout.{windowsPlace, windowsEnd, rangeLow, rangeHigh, rangeEnd, testPlace, testLeft, testRight, testEnd, outcomePlace, indexEnd}
@@ -67,7 +67,13 @@ module _ {m m′ : List ℕ} (t : ℕ) (o : Other m m′ (testPlace t) (indexEnd
   }
 
   pub noted-undecided : (n : ℕ) (c : Cmp) (b : Bool) (v w : code.Value) → Undecided m n c v w → Undecided m′ n (holding b c) v w
-  noted-undecided n c b v w h = record { left-sized = h .left-sized; left = h .left; right-sized = h .right-sized; right = h .right; is = ap (λ rs. decided (holding b c) (rangeIn rs (cellOf v)) (rangeIn rs (cellOf w))) (noted-ranges n) ∙ by b }
+  noted-undecided n c b v w h = record {
+    left-sized = h .left-sized;
+    left = h .left;
+    right-sized = h .right-sized;
+    right = h .right;
+    is = ap (λ rs. decided (holding b c) (rangeIn rs (cellOf v)) (rangeIn rs (cellOf w))) (noted-ranges n) ∙ by b;
+  }
     where
       by : (b : Bool) → decided (holding b c) (rangeIn (rangesIn m n) (cellOf v)) (rangeIn (rangesIn m n) (cellOf w)) ≡ none
       by true = h .is
@@ -78,7 +84,8 @@ other-both a b = record { outside = λ i h. b .other .outside i (λ u v. h u (om
 
 -- ---- the choice
 
-module _ (m m₁ m₂ m₃ : List ℕ) (p : Point) (c d : Cmp) (v w : code.Value) (o : Bool) (a : Taken m m₁ (p .choices) (p .forced) o) (b : Noting m₁ m₂ (p .choices) (testBy d v w)) (s : Narrowed m₂ m₃ (p .windows) (p .run .nodes) d v w)
+module _ (m m₁ m₂ m₃ : List ℕ) (p : Point) (c d : Cmp) (v w : code.Value) (o : Bool) (a : Taken m m₁ (p .choices) (p .forced) o) (b : Noting m₁ m₂ (p .choices) (testBy d v w))
+    (s : Narrowed m₂ m₃ (p .windows) (p .run .nodes) d v w)
     (e : d ≡ holding o c) (before : Standing m p) (u : Undecided m (p .run .nodes) c v w) where
   abbrev t : ℕ
   t = p .choices
@@ -106,14 +113,16 @@ module _ (m m₁ m₂ m₃ : List ℕ) (p : Point) (c d : Cmp) (v w : code.Value
   tests-are = ap (testsIn m₃) (add-one t) ∙ ap₂ (λ (x : Noted) (l : List Noted). x ∷ l) newest (tests-same m m₃ t older)
 
   forced-are : outcomesIn m₃ (t + 1) (p .forced - 1) ≡ later (outcomesIn m t (p .forced))
-  forced-are = outcomes-same m₁ m₃ (t + 1) (p .forced - 1) (λ j f g. s .beside .other (outcomePlace j) (λ x y. omega arith) (λ k l x y. omega arith) ∙ b .other .outside (outcomePlace j) (λ x y. omega arith)) ∙ a .rest
+  forced-are = outcomes-same m₁ m₃ (t + 1) (p .forced - 1) (λ j f g. s .beside .other (outcomePlace j) (λ x y. omega arith) (λ k l x y. omega arith)
+      ∙ b .other .outside (outcomePlace j) (λ x y. omega arith)) ∙ a .rest
 
   chosen-are : outcomesIn m₃ 0 (t + 1) ≡ outcomesIn m 0 t ++ o ∷ []
   chosen-are =
       ap (outcomesIn m₃ 0) (add-one t) ∙ outcomes-more m₃ 0 t
       ∙ ap₂ (λ (l : List Bool) (x : Bool). l ++ x ∷ [])
       (outcomes-same m m₃ 0 t (λ j f g. away (outcomePlace j) (λ x y. omega arith) (λ x y. omega arith) (λ k l x y. omega arith)))
-      (ap (λ (j : ℕ). outcomeAs (getD m₃ (outcomePlace j) 0)) {x = 0 + t} {y = t} (omega arith) ∙ ap outcomeAs (s .beside .other (outcomePlace t) (λ x y. omega arith) (λ k l x y. omega arith) ∙ b .other .outside (outcomePlace t) (λ x y. omega arith)) ∙ a .is)
+      (ap (λ (j : ℕ). outcomeAs (getD m₃ (outcomePlace j) 0)) {x = 0 + t} {y = t} (omega arith)
+      ∙ ap outcomeAs (s .beside .other (outcomePlace t) (λ x y. omega arith) (λ k l x y. omega arith) ∙ b .other .outside (outcomePlace t) (λ x y. omega arith)) ∙ a .is)
 
   windows-are : windowsIn m₃ (p .windows) ≡ narrowed (holding o c) (meant m n v) (meant m n w) (windowsIn m (p .windows))
   windows-are = s .windows ∙ (λ i. narrowed (e i) (meaning (noted-nodes t both n i) (cellOf v)) (meaning (noted-nodes t both n i) (cellOf w)) (noted-windows t both (p .windows) i))
@@ -125,7 +134,8 @@ module _ (m m₁ m₂ m₃ : List ℕ) (p : Point) (c d : Cmp) (v w : code.Value
       tables = λ k j x y. away k (λ f g. omega arith) (λ f g. omega arith) (λ q l f g. omega arith);
     };
     next = a .next;
-    is = λ i. state (p .steps) (8 - p .windows) (windows-are i) ((ap₂ (λ (ns : List Node) (ts : List Noted). map (testOf ns) ts) nodes-are tests-are ∙ ap (λ (x : Cmp). asTest x (meant m n v) (meant m n w) ∷ map (testOf (nodesIn m n)) (testsIn m t)) e) i) (forced-are i) (chosen-are i);
+    is = λ i. state (p .steps) (8 - p .windows) (windows-are i) ((ap₂ (λ (ns : List Node) (ts : List Noted). map (testOf ns) ts) nodes-are tests-are
+        ∙ ap (λ (x : Cmp). asTest x (meant m n v) (meant m n w) ∷ map (testOf (nodesIn m n)) (testsIn m t)) e) i) (forced-are i) (chosen-are i);
     standing = record {
       tables = s .tables;
       tested = λ j l. ⊎-elim

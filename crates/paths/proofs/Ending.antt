@@ -38,7 +38,8 @@ module _ (c : Code) (job : Window) (limit : ℕ) (b : Start) (x : Tally → Next
   walks-opens a p placing o =
       let k = kept-start c limit (b .forced) in
       subst (OpensNext a (treeOf inUse job limit p)) walked
-      (path-ok a (treeOf inUse job limit p) inUse job c limit (most-turns c limit) (start known work c) (begins limit (b .forced)) (b .tally) (leads-start a inUse job c limit p placing b o) k (turns-le c limit (start known work c) (begins limit (b .forced)) k))
+      (path-ok a (treeOf inUse job limit p) inUse job c limit (most-turns c limit) (start known work c) (begins limit (b .forced)) (b .tally)
+      (leads-start a inUse job c limit p placing b o) k (turns-le c limit (start known work c) (begins limit (b .forced)) k))
 
   -- and its measure
   pub walks-fewer : Fewer (b .tally .budget) (x (b .tally))

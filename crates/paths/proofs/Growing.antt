@@ -2,7 +2,7 @@
 use mathlib.Core.Path.{_≡_, refl, sym, ap, ap₂, _∙_, subst}
 use mathlib.Core.List.{List, [], _∷_, _++_, map}
 use mathlib.Core.Logic.{⊎-elim}
-use Prim.Native.Nat.{ℕ, zero, suc, _+_, _-_, _*_, _≤_, _<_}
+use Prim.Native.Nat.{ℕ, zero, suc, _+_, _≤_, _<_}
 use native.Mathlib.Nat.{eq-or-lt-of-le}
 use native.Mathlib.Numerals.{add-one}
 use native.Mathlib.Omega.{arith}
@@ -86,12 +86,17 @@ tests-grow m n n′ l zero h = refl
 tests-grow m n n′ l (suc t) h =
     let x = h t (omega arith) in
     ap₂ (λ (y : Test) (ys : List Test). y ∷ ys)
-    (λ i. record { compare = testAt m t .compare; left = meaning-kept {m = m} {m′ = m} {n = n} kept-none n′ l (testAt m t .left) (x .left) i; right = meaning-kept {m = m} {m′ = m} {n = n} kept-none n′ l (testAt m t .right) (x .right) i })
+    (λ i. record {
+      compare = testAt m t .compare;
+      left = meaning-kept {m = m} {m′ = m} {n = n} kept-none n′ l (testAt m t .left) (x .left) i;
+      right = meaning-kept {m = m} {m′ = m} {n = n} kept-none n′ l (testAt m t .right) (x .right) i;
+    })
     (tests-grow m n n′ l t (λ j g. h j (omega arith)))
 
 -- ---- one node more
 
-pub tables-more : (m m′ : List ℕ) (k n : ℕ) → k ≤ 8 → Room m (n + 1) → length m′ ≡ length m → Windows (windowsIn m k) → ((j : ℕ) → j < n → Named k (nodeAt m j)) → Named k (nodeAt m n) → rangesIn m n ≡ ranges (windowsIn m k) (nodesIn m n) → Ranged m m′ k n
+pub tables-more : (m m′ : List ℕ) (k n : ℕ) → k ≤ 8 → Room m (n + 1) → length m′ ≡ length m → Windows (windowsIn m k) → ((j : ℕ) → j < n → Named k (nodeAt m j)) → Named k (nodeAt m n)
+    → rangesIn m n ≡ ranges (windowsIn m k) (nodesIn m n) → Ranged m m′ k n
     → Tables m′ k (n + 1)
 unfolding nodesIn
 tables-more m m′ k n c r len some old new is h = record {

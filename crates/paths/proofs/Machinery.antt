@@ -52,7 +52,8 @@ module _ {m m′ : List ℕ} (s : Machinery m m′) where
         (λ i. record { pc = getD m (callerPlace d) 0; temps = temps-stay b (top - b) i; frame = cells-stay (framePlace d) frameCells (omega arith) i } ∷ callers-stay d b (omega arith) i)
 
     machine-in : (r : Run) → r .depth ≤ 32 → machineIn f m′ r ≡ machineIn f m r
-    machine-in r l = λ i. machine (r .pc) (r .flag) (temps-stay (r .base) (r .top - r .base) i) (cells-stay (framePlace (r .depth)) frameCells (omega arith) i) (callers-stay (r .depth) (r .base) l i) (32 - r .depth)
+    machine-in r l = λ i. machine (r .pc) (r .flag) (temps-stay (r .base) (r .top - r .base) i) (cells-stay (framePlace (r .depth)) frameCells (omega arith) i)
+        (callers-stay (r .depth) (r .base) l i) (32 - r .depth)
 
   pub machine-stays : (r : Run) → r .depth ≤ 32 → machineAt m′ r ≡ machineAt m r
   machine-stays r l = ap (λ ns. machineIn (meaning ns) m′ r) (nodes-stay (r .nodes)) ∙ machine-in (meaning (nodesIn m (r .nodes))) r l

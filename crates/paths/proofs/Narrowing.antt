@@ -71,7 +71,8 @@ module _ (m : List ℕ) (ws : List (List ℤ)) (eight : length ws ≡ 8) where
   stored-windows k l e = ap (take k) (ap (λ (n : ℕ). ofPairs (pairsAt (putPairs m windowsPlace ws) windowsPlace n)) (sym eight) ∙ put-load m windowsPlace ws (omega arith) e)
 
 -- one more
-pub reached : (m m′ : List ℕ) (ws : List (List ℤ)) (k : ℕ) (p : List ℤ) (job : Window) → k < 8 → tablesPlace ≤ length m → m′ ≡ putPairs m windowsPlace ws → ws ≡ set (pairsAt m windowsPlace 8) k p → ofPair p ≡ job → length ws ≡ 8 → Ends ws → Reached m m′ job k
+pub reached : (m m′ : List ℕ) (ws : List (List ℤ)) (k : ℕ) (p : List ℤ) (job : Window) → k < 8 → tablesPlace ≤ length m → m′ ≡ putPairs m windowsPlace ws → ws ≡ set (pairsAt m windowsPlace 8) k p
+    → ofPair p ≡ job → length ws ≡ 8 → Ends ws → Reached m m′ job k
 unfolding pairsAt
 reached m m′ ws k p job l h q r e n f = subst (λ (m′ : List ℕ). Reached m m′ job k) (sym q) (record {
   other = stored-other m ws n;
@@ -111,19 +112,23 @@ module _ (m : List ℕ) (k n : ℕ) (t : Tables m k n) where
     some-left : Windows (narrowed c (meant m n v) (meant m n w) (windowsIn m k))
     some-left = record {
       some = λ i. filled (getD (narrowed c (meant m n v) (meant m n w) (windowsIn m k)) i all32)
-          (never-empty c (meant m n v) (meant m n w) (windowsIn m k) (λ j. ordered (getD (windowsIn m k) j all32) (t .some .some j)) (ap₂ (decided c) (sym (range-is v)) (sym (range-is w)) ∙ u .is) .0 i);
+          (never-empty c (meant m n v) (meant m n w) (windowsIn m k) (λ j. ordered (getD (windowsIn m k) j all32) (t .some .some j))
+          (ap₂ (decided c) (sym (range-is v)) (sym (range-is w)) ∙ u .is) .0 i);
     }
 
     -- neither side narrows a window
-    pub narrowed-none : (r q : win.Window) → ofWindow r ≡ rangeIn (rangesIn m n) (cellOf w) → ofWindow q ≡ rangeIn (rangesIn m n) (cellOf v) → ((c : Cmp) (ws : List Window) → clipped c (variableOf a) (ofWindow r) ws ≡ ws)
+    pub narrowed-none : (r q : win.Window) → ofWindow r ≡ rangeIn (rangesIn m n) (cellOf w) → ofWindow q ≡ rangeIn (rangesIn m n) (cellOf v)
+        → ((c : Cmp) (ws : List Window) → clipped c (variableOf a) (ofWindow r) ws ≡ ws)
         → ((c : Cmp) (ws : List Window) → clipped c (variableOf b) (ofWindow q) ws ≡ ws) → Narrowed m m k n c v w
     narrowed-none r q e f h g = record {
       beside = record { other = λ i x y. refl };
-      windows = ap (take k) (sym (ap₂ (λ (z : Window) (ws : List Window). clipped (mirrored c) (variableOf b) z ws) (side-range a v sa ∙ sym f) (ap (λ (z : Window). clipped c (variableOf a) z ps) (side-range b w sb ∙ sym e) ∙ h c ps) ∙ g (mirrored c) ps)) ∙ by-values;
+      windows = ap (take k) (sym (ap₂ (λ (z : Window) (ws : List Window). clipped (mirrored c) (variableOf b) z ws) (side-range a v sa ∙ sym f)
+          (ap (λ (z : Window). clipped c (variableOf a) z ps) (side-range b w sb ∙ sym e) ∙ h c ps) ∙ g (mirrored c) ps)) ∙ by-values;
       tables = t;
     }
 
-    module _ (m₁ : List ℕ) (ls us : List (List ℤ)) (long : tablesPlace ≤ length m) (put : m₁ ≡ putPairs m windowsPlace us) (loaded : ls ≡ pairsAt m windowsPlace 8) (is : ofPairs us ≡ narrowedBy c a b (ofPairs ls)) (eight : length us ≡ 8) (e : Ends us) where
+    module _ (m₁ : List ℕ) (ls us : List (List ℤ)) (long : tablesPlace ≤ length m) (put : m₁ ≡ putPairs m windowsPlace us) (loaded : ls ≡ pairsAt m windowsPlace 8)
+        (is : ofPairs us ≡ narrowedBy c a b (ofPairs ls)) (eight : length us ≡ 8) (e : Ends us) where
       put-windows : windowsIn m₁ k ≡ narrowed c (meant m n v) (meant m n w) (windowsIn m k)
       put-windows = ap (λ (l : List ℕ). windowsIn l k) put ∙ stored-windows m us eight k long e ∙ ap (take k) (is ∙ ap (λ (l : List (List ℤ)). narrowedBy c a b (ofPairs l)) loaded) ∙ by-values
 

@@ -2,7 +2,7 @@
 use mathlib.Core.Path.{_≡_, refl, sym, ap, ap₂, _∙_, subst}
 use mathlib.Core.List.{List, [], _∷_, _++_}
 use mathlib.Core.Logic.{⊎-elim, _≢_}
-use Prim.Native.Nat.{ℕ, zero, suc, _+_, _*_, _/_, _%_, _≤_, _<_}
+use Prim.Native.Nat.{ℕ, zero, suc, _+_, _*_, _≤_, _<_}
 use native.Mathlib.Nat.{eq-or-lt-of-le}
 use native.Mathlib.Numerals.{add-one}
 use native.Mathlib.Omega.{arith}
@@ -96,23 +96,25 @@ cell-is : (rs : List Window) (free : ℕ → Window) (v : Cell) → cell (λ z. 
 cell-is rs free (Known z) = refl
 cell-is rs free (Open j) = refl
 
+-- the kind of node j, and its two cells
+abbrev pub kind : List ℕ → ℕ → ℕ
+kind m j = getD m (nodePlace j) 0
+
+abbrev pub left : List ℕ → ℕ → Cell
+left m j = cellAs (leftOpen (kind m j)) (getD m (nodeLeft j) 0)
+
+abbrev pub right : List ℕ → ℕ → Cell
+right m j = cellAs (rightOpen (kind m j)) (getD m (nodeRight j) 0)
+
 module _ (m : List ℕ) (k j : ℕ) where
-  abbrev pub kind : ℕ
-  kind = getD m (nodePlace j) 0
+  pub range-free : nodeOp (kind m j) ≡ 0 → getD (windowsIn m k) (getD m (nodeLeft j) 0) all32 ≡ rangeAt m k j
+  range-free e = ap (λ (t : ℕ). node (λ z. to z z) (λ i. getD (windowsIn m k) i all32) (λ o v w. fitted (span o v w)) (rangesIn m j) (nodeBy t (getD m (nodeLeft j) 0) (left m j) (right m j))) (sym e)
 
-  abbrev pub left : Cell
-  left = cellAs (leftOpen kind) (getD m (nodeLeft j) 0)
-
-  abbrev pub right : Cell
-  right = cellAs (rightOpen kind) (getD m (nodeRight j) 0)
-
-  pub range-free : nodeOp kind ≡ 0 → getD (windowsIn m k) (getD m (nodeLeft j) 0) all32 ≡ rangeAt m k j
-  range-free e = ap (λ (t : ℕ). node (λ z. to z z) (λ i. getD (windowsIn m k) i all32) (λ o v w. fitted (span o v w)) (rangesIn m j) (nodeBy t (getD m (nodeLeft j) 0) left right)) (sym e)
-
-  pub range-op : (o : ℕ) → nodeOp kind ≡ suc o → fitted (span (numbers.operation o) (rangeIn (rangesIn m j) left) (rangeIn (rangesIn m j) right)) ≡ rangeAt m k j
+  pub range-op : (o : ℕ) → nodeOp (kind m j) ≡ suc o → fitted (span (numbers.operation o) (rangeIn (rangesIn m j) (left m j)) (rangeIn (rangesIn m j) (right m j))) ≡ rangeAt m k j
   range-op o e =
-      ap₂ (λ (v w : Window). fitted (span (numbers.operation o) v w)) (sym (cell-is (rangesIn m j) (λ i. getD (windowsIn m k) i all32) left)) (sym (cell-is (rangesIn m j) (λ i. getD (windowsIn m k) i all32) right))
-      ∙ ap (λ (t : ℕ). node (λ z. to z z) (λ i. getD (windowsIn m k) i all32) (λ o v w. fitted (span o v w)) (rangesIn m j) (nodeBy t (getD m (nodeLeft j) 0) left right)) (sym e)
+      ap₂ (λ (v w : Window). fitted (span (numbers.operation o) v w)) (sym (cell-is (rangesIn m j) (λ i. getD (windowsIn m k) i all32) (left m j)))
+      (sym (cell-is (rangesIn m j) (λ i. getD (windowsIn m k) i all32) (right m j)))
+      ∙ ap (λ (t : ℕ). node (λ z. to z z) (λ i. getD (windowsIn m k) i all32) (λ o v w. fitted (span o v w)) (rangesIn m j) (nodeBy t (getD m (nodeLeft j) 0) (left m j) (right m j))) (sym e)
 
 -- the range of a cell has a number where the ranges have
 pub cell-filled : (rs : List Window) (v : Cell) → Ranging rs → Filled (rangeIn rs v)
@@ -137,7 +139,8 @@ module _ (m : List ℕ) (k j a b : ℕ) (r : Room m (j + 1)) where
     other = record { outside = λ i h. elsewhere i (λ q. h (omega arith) (omega arith)) (λ q. h (omega arith) (omega arith)) };
     is = ap (rangesIn m₂) (add-one j)
         ∙ ap₂ (λ (l : List Window) (x : Window). l ++ x ∷ [])
-        (ranges-same m m₂ j (λ i g. ap₂ (λ (x y : ℕ). to (toZ w32 x) (toZ w32 y)) (elsewhere (rangeLow i) (λ q. omega arith) (λ q. omega arith)) (elsewhere (rangeHigh i) (λ q. omega arith) (λ q. omega arith))))
+        (ranges-same m m₂ j (λ i g. ap₂ (λ (x y : ℕ). to (toZ w32 x) (toZ w32 y)) (elsewhere (rangeLow i) (λ q. omega arith) (λ q. omega arith))
+        (elsewhere (rangeHigh i) (λ q. omega arith) (λ q. omega arith))))
         (ap₂ (λ (x y : ℕ). to (toZ w32 x) (toZ w32 y))
         (getD-set-other m₁ (rangeHigh j) (rangeLow j) b 0 (λ q. omega arith) ∙ getD-set-same m (rangeLow j) a 0 (omega (arith, r .words)))
         (getD-set-same m₁ (rangeHigh j) b 0 (simp length-set (omega (arith, r .words))))
@@ -147,7 +150,10 @@ module _ (m : List ℕ) (k j a b : ℕ) (r : Room m (j + 1)) where
 -- ---- a pass over the nodes
 
 pub ranging : (ws : List Window) (ns : List Node) → Windows ws → Ranging (ranges ws ns)
-ranging ws ns h = record { some = λ i. subst Filled (sym (range-ok ws ns (Open i))) (filled (range ws (meaning ns (Open i))) (range-filled ws (λ j. ordered (getD ws j all32) (h .some j)) (meaning ns (Open i)))) }
+ranging ws ns h = record {
+  some = λ i. subst Filled (sym (range-ok ws ns (Open i)))
+      (filled (range ws (meaning ns (Open i))) (range-filled ws (λ j. ordered (getD ws j all32) (h .some j)) (meaning ns (Open i))));
+}
 
 pub anew-none : (m : List ℕ) (k : ℕ) → Anew m m k 0
 unfolding rangesIn nodesIn ranges Rattle.simulation.specs.Nodes.pass

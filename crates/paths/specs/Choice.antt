@@ -3,14 +3,13 @@ use mathlib.Core.Path.{_≡_}
 use mathlib.Core.Bool.{Bool}
 use mathlib.Core.Option.{none}
 use mathlib.Core.List.{List, [], _∷_, _++_}
-use Prim.Native.Nat.{ℕ, _+_, _-_, _*_, _≤_, _<_}
+use Prim.Native.Nat.{ℕ, _+_, _-_, _≤_, _<_}
 use lib.ListN.{getD}
 use Rattle.semantics.specs.Int.{Cmp}
 use Rattle.semantics.specs.Run.{Window}
 use Rattle.semantics.specs.Search.{decided, narrowed}
 use Rattle.simulation.specs.Path.{outcome, later}
 use Rattle.simulation.specs.Nodes.{Node, unknown, operation, Within, Noted, ranges, rangeIn}
-use Rattle.ints.specs.Numbers.{comparison}
 use Rattle.machine.specs.Layout.{windowsPlace, windowsEnd, rangeLow, rangeEnd, testPlace, testEnd, outcomePlace, indexEnd}
 use Rattle.machine.specs.Memory.{nodeAt, nodesIn, windowsIn, rangesIn, testAt, outcomeAs, outcomesIn}
 use Rattle.machine.specs.Contracts.{cellOf, Sized, meant, Room, Other}

@@ -2,7 +2,7 @@
 use mathlib.Core.Path.{_≡_}
 use mathlib.Core.Bool.{Bool}
 use mathlib.Core.List.{List, map}
-use Prim.Native.Nat.{ℕ, _+_, _-_, _*_, _≤_, _<_}
+use Prim.Native.Nat.{ℕ, _+_, _-_, _≤_, _<_}
 use lib.ListN.{getD}
 use Rattle.semantics.specs.Int.{Cmp}
 use Rattle.semantics.specs.Run.{Window}
@@ -19,7 +19,8 @@ use Rattle.paths.specs.Choice.{Tables}
 
 -- the state: a choice is noted with its test, so that there are as many tests as choices
 abbrev pub stateAt : List ℕ → Point → State
-stateAt m p = state (p .steps) (8 - p .windows) (windowsIn m (p .windows)) (map (testOf (nodesIn m (p .run .nodes))) (testsIn m (p .choices))) (outcomesIn m (p .choices) (p .forced)) (outcomesIn m 0 (p .choices))
+stateAt m p = state (p .steps) (8 - p .windows) (windowsIn m (p .windows)) (map (testOf (nodesIn m (p .run .nodes))) (testsIn m (p .choices)))
+    (outcomesIn m (p .choices) (p .forced)) (outcomesIn m 0 (p .choices))
 
 -- a test on the first n nodes
 pub record Tested (n : ℕ) (t : Noted) : Type 0 where
@@ -86,5 +87,6 @@ pub record Follows (m m′ : List ℕ) (p : Point) (r : Run) (s : State) (q : Po
 pub record Compared (m m′ : List ℕ) (p : Point) (c : Cmp) (v w : code.Value) (q : Point) : Type 0 where
   pub outcome : Bool
   pub after : State
-  pub is : (job : Window) → comparing inUse job c (meant m (p .run .nodes) v) (meant m (p .run .nodes) w) (λ b. machineAt m (flagged (p .run) b)) (stateAt m p) ≡ on (machineAt m (flagged (p .run) outcome)) after
+  pub is : (job : Window) → comparing inUse job c (meant m (p .run .nodes) v) (meant m (p .run .nodes) w) (λ b. machineAt m (flagged (p .run) b)) (stateAt m p)
+      ≡ on (machineAt m (flagged (p .run) outcome)) after
   pub follows : Follows m m′ (chosen p) (flagged (p .run) outcome) after q

@@ -6,9 +6,8 @@ ghost use Prim.Native.Nat.{_+_, _-_, _*_, _<_, _≤_};
 ghost use lib.ListN.{length, getD};
 ghost use Rattle.semantics.specs.Int.{Cmp};
 ghost use Rattle.semantics.specs.Run.{Window as WindowS};
-ghost use Rattle.semantics.specs.Search.{all32, clipped, unknown, inUse};
-ghost use Rattle.simulation.specs.Machine.{Machine, Doing};
-ghost use Rattle.simulation.specs.Path.{holding as holdingS, turning as turningS, turn as turnS};
+ghost use Rattle.semantics.specs.Search.{all32, clipped, unknown};
+ghost use Rattle.simulation.specs.Path.{holding as holdingS};
 ghost use Rattle.simulation.specs.Words.{codeIn};
 ghost use Rattle.simulation.specs.Nodes as nodes;
 ghost use Rattle.simulation.specs.Nodes.{rangeIn, Within};
@@ -16,12 +15,12 @@ ghost use Rattle.ints.specs.Numbers.{comparison};
 ghost use Rattle.intervals.specs.Meaning.{Filled, ofWindow};
 ghost use Rattle.narrowing.specs.Meaning.{variableOf, Stands};
 ghost use Rattle.machine.specs.Layout.{tablesPlace};
-ghost use Rattle.machine.specs.Memory.{Sym, cellAs, nodeAt, windowsIn, rangesIn, outcomesIn, machineAt};
-ghost use Rattle.machine.specs.Contracts.{cellOf, Sized, meant, Room, Ready, flagged};
+ghost use Rattle.machine.specs.Memory.{cellAs, nodeAt, windowsIn, rangesIn, outcomesIn};
+ghost use Rattle.machine.specs.Contracts.{cellOf, Sized, meant, Room, Ready};
 ghost use Rattle.paths.specs.Table.{rangeAt, Ranging, Ranged, Windows, Anew};
 ghost use Rattle.paths.specs.Choice.{Tables, Reached, bit, testBy, Noting, Taken, Undecided, Narrowed};
-ghost use Rattle.paths.specs.Point.{stateAt, Standing, Chose, chosen, running, flagging, Usable, Compared, Going};
-ghost use Rattle.paths.specs.Turn.{Growing, Grown, spending, declaring, Turning, Onwards};
+ghost use Rattle.paths.specs.Point.{Standing, Chose, chosen, running, flagging, Usable, Compared, Going};
+ghost use Rattle.paths.specs.Turn.{Growing, Grown, spending, declaring, AfterStep, AfterTest, AfterFree, OneTurn};
 ghost use Rattle.paths.specs.Walk.{Walking};
 use intervals::Window;
 use machine::Did;
@@ -292,13 +291,6 @@ fn flag(p: Point, o: bool) -> Point
     }
 }
 
-// n - 1, or 0.
-fn before(n: usize) -> usize
-    ensures { λ r. ⌜ r ≡ n - 1 ⌝ }
-{
-    if n == 0 { 0 } else { n - 1 }
-}
-
 // The point after one more choice.
 fn count(p: Point) -> Point
     requires { ⌜ p .choices < 4294967296 ⌝ }
@@ -310,7 +302,7 @@ fn count(p: Point) -> Point
         steps: p.steps,
         windows: p.windows,
         choices: p.choices + 1,
-        forced: before(p.forced),
+        forced: machine::less(p.forced, 1),
     }
 }
 
@@ -373,7 +365,7 @@ fn declare(p: Point, run: Run) -> Point
 // A step.
 fn after_step(mem: &mut [u32], p: Point, run: Run) -> Turned
     requires { ⌜ Standing (now mem) p × Ready (now mem) run × Growing (now mem) (p .run .nodes) (run .nodes) ⌝ }
-    ensures { λ r. ⌜ ((job : WindowS) → Turning (turningS inUse job (Doing.step (machineAt (now (mem .entry)) run)) (stateAt (now (mem .entry)) p)) (now (mem .exit)) p r) ⌝ }
+    ensures { λ r. ⌜ AfterStep (now (mem .entry)) (now (mem .exit)) p run r ⌝ }
 {
     if p.steps == 0 {
         return Turned::Cut;
@@ -386,7 +378,7 @@ fn after_step(mem: &mut [u32], p: Point, run: Run) -> Turned
 // A comparison, by its number.
 fn after_test(mem: &mut [u32], p: Point, run: Run, c: u32, v: Value, w: Value) -> Turned
     requires { ⌜ Standing (now mem) p × Ready (now mem) run × (run .nodes ≡ p .run .nodes) × Room (now mem) (p .choices + p .steps + 1) × (c < 6) × Usable (p .run .nodes) v × Usable (p .run .nodes) w ⌝ }
-    ensures { λ r. ⌜ ((job : WindowS) → Turning (turningS inUse job (Doing.test (comparison c) (meant (now (mem .entry)) (p .run .nodes) v) (meant (now (mem .entry)) (p .run .nodes) w) (λ b. machineAt (now (mem .entry)) (flagged run b))) (stateAt (now (mem .entry)) p)) (now (mem .exit)) p r) ⌝ }
+    ensures { λ r. ⌜ AfterTest (now (mem .entry)) (now (mem .exit)) p run (comparison c) v w r ⌝ }
 {
     if p.steps == 0 {
         return Turned::Cut;
@@ -397,7 +389,7 @@ fn after_test(mem: &mut [u32], p: Point, run: Run, c: u32, v: Value, w: Value) -
 // A free declaration.
 fn after_free(mem: &mut [u32], p: Point, run: Run, job: Window) -> Turned
     requires { ⌜ Standing (now mem) p × Ready (now mem) run × (run .nodes ≡ p .run .nodes + 1) × (nodeAt (now mem) (p .run .nodes) ≡ nodes.unknown (p .windows)) × Filled (ofWindow job) ⌝ }
-    ensures { λ r. ⌜ ((next : Sym → Machine Sym) → next (unknown (p .windows)) ≡ machineAt (now (mem .entry)) run → Turning (turningS inUse (ofWindow job) (Doing.free next) (stateAt (now (mem .entry)) p)) (now (mem .exit)) p r) ⌝ }
+    ensures { λ r. ⌜ AfterFree (now (mem .entry)) (now (mem .exit)) p run (ofWindow job) r ⌝ }
 {
     if p.steps == 0 {
         return Turned::Cut;
@@ -427,7 +419,7 @@ fn proceed(p: Point, run: Run) -> Point
 // One turn of the path: one entry of the code is worked, within the limits.
 fn turn(code: &[u32], size: usize, mem: &mut [u32], job: Window, p: Point) -> Turned
     requires { ⌜ (2 * size + 16 ≤ length (now code)) × (size < 65536) × Going (now mem) p × Filled (ofWindow job) ⌝ }
-    ensures { λ r. ⌜ Turning (turnS inUse (ofWindow job) (codeIn (now (code .entry)) size) (machineAt (now (mem .entry)) (p .run)) (stateAt (now (mem .entry)) p)) (now (mem .exit)) p r × Onwards (now (mem .exit)) r ⌝ }
+    ensures { λ r. ⌜ OneTurn (codeIn (now (code .entry)) size) (ofWindow job) (now (mem .entry)) (now (mem .exit)) p r ⌝ }
 {
     let run = p.run;
     match machine::advance(code, size, mem, run, p.windows as u32) {

@@ -4,7 +4,7 @@ use mathlib.Core.Bool.{Bool, true, false, not, _&&_}
 use mathlib.Core.Option.{some}
 use mathlib.Core.List.{List, [], _∷_, _++_}
 use mathlib.Core.Logic.{⊎-elim}
-use Prim.Native.Nat.{ℕ, zero, suc, _+_, _-_, _*_, _≤_, _<_}
+use Prim.Native.Nat.{ℕ, zero, suc, _+_, _-_, _≤_, _<_}
 use native.Mathlib.Nat.{eq-or-lt-of-le}
 use native.Mathlib.Numerals.{add-one}
 use native.Mathlib.Omega.{arith}
@@ -41,7 +41,8 @@ module _ {A : Type 0} (f : ℕ → A) where
   unfolding tab
   tab-split i n zero d e = ap (λ (j : ℕ). tab j n) {x = i} {y = i + 0} (omega arith) ∙ ap (tab (i + 0)) {x = n} {y = d} (omega arith)
   tab-split i zero (suc a) d e = absurd (omega arith)
-  tab-split i (suc n) (suc a) d e = ap (λ (l : List A). f i ∷ l) (tab-split (suc i) n a d (omega arith)) ∙ ap (λ (k : ℕ). f i ∷ (tab (suc i) a ++ tab k d)) {x = suc i + a} {y = i + suc a} (omega arith)
+  tab-split i (suc n) (suc a) d e = ap (λ (l : List A). f i ∷ l) (tab-split (suc i) n a d (omega arith))
+      ∙ ap (λ (k : ℕ). f i ∷ (tab (suc i) a ++ tab k d)) {x = suc i + a} {y = i + suc a} (omega arith)
 
   pub tab-at : (k i : ℕ) → i < k → tab 0 k ≡ tab 0 i ++ f i ∷ tab (suc i) (k - suc i)
   unfolding tab
@@ -86,7 +87,8 @@ lowest-tab m i (suc d) = ap (λ (l : List ℤ). windowAt m i .low ∷ l) (lowest
 pub filled-first : (m : List ℕ) (k : ℕ) → k ≤ 8 → filled (windowsIn m k) ≡ filled (tab (windowAt m) 0 (k - 0))
 filled-first m k h = ap filled (windows-tab m k h) ∙ ap (λ (d : ℕ). filled (tab (windowAt m) 0 d)) {x = k} {y = k - 0} (omega arith)
 
-pub filled-one : (m : List ℕ) (k i : ℕ) (b : Bool) → i < k → leZ (windowAt m i .low) (windowAt m i .high) ≡ b → filled (tab (windowAt m) i (k - i)) ≡ b && filled (tab (windowAt m) (i + 1) (k - (i + 1)))
+pub filled-one : (m : List ℕ) (k i : ℕ) (b : Bool) → i < k → leZ (windowAt m i .low) (windowAt m i .high) ≡ b → filled (tab (windowAt m) i (k - i))
+    ≡ b && filled (tab (windowAt m) (i + 1) (k - (i + 1)))
 unfolding filled tab
 filled-one m k i b l e =
     ap (λ (d : ℕ). filled (tab (windowAt m) i d)) {x = k - i} {y = suc (k - (i + 1))} (omega arith)
@@ -151,7 +153,8 @@ module _ (m m₁ m₂ : List ℕ) (i k : ℕ) (small : k ≤ 8) (l : i < k) (bel
   goes : after (windowsIn m k) (settingIn m k) ≡ some (settingIn m₂ k)
   goes =
       ap₂ after (windows-tab m k small ∙ tab-at (windowAt m) k i l) (setting-tab m k ∙ tab-at (valueAt m) k i l)
-      ∙ after-up (tab (windowAt m) 0 i) (tab (valueAt m) 0 i) (tab-length (windowAt m) 0 i ∙ sym (tab-length (valueAt m) 0 i)) (windowAt m i) (tab (windowAt m) (suc i) (k - suc i)) (valueAt m i) (tab (valueAt m) (suc i) (k - suc i)) below
+      ∙ after-up (tab (windowAt m) 0 i) (tab (valueAt m) 0 i) (tab-length (windowAt m) 0 i ∙ sym (tab-length (valueAt m) 0 i)) (windowAt m i) (tab (windowAt m) (suc i) (k - suc i)) (valueAt m i)
+      (tab (valueAt m) (suc i) (k - suc i)) below
       (at-high m (suc i) (k - suc i) (λ j p q. tops j (omega arith) (omega arith)))
       ∙ ap some (sym (setting-tab m₂ k ∙ tab-at (valueAt m₂) k i l ∙ ap₂ (λ (x y : List ℤ). x ++ y) before (ap₂ (λ (x : ℤ) (y : List ℤ). x ∷ y) here behind)))
 

@@ -5,16 +5,15 @@ ghost use lib.Dec.{T};
 ghost use lib.ListN.{length, getD};
 ghost use lib.IntN.{pos, sucℤ};
 ghost use lib.Signed.{ltZ, leZ};
-ghost use Rattle.semantics.specs.Search.{settings as settingsS};
-ghost use Rattle.simulation.specs.Nodes.{numberIn, meaning, meetsIn};
+ghost use Rattle.simulation.specs.Nodes.{numberIn, meetsIn};
 ghost use Rattle.simulation.specs.Odometer.{filled as filledS};
-ghost use Rattle.simulation.specs.Lister.{charge as chargeS, place as placeS, trial as trialS, trials as trialsS, probe as probeS, probes as probesS};
+ghost use Rattle.simulation.specs.Lister.{charge as chargeS, place as placeS};
 ghost use Rattle.machine.specs.Layout.{valuePlace, tablesPlace, numberPlace};
-ghost use Rattle.machine.specs.Memory.{cellAs, nodesIn, windowsIn, settingIn, numbersIn, testsIn};
+ghost use Rattle.machine.specs.Memory.{cellAs, windowsIn, settingIn, numbersIn, testsIn};
 ghost use Rattle.machine.specs.Contracts.{Room, cellOf};
-ghost use Rattle.settings.specs.Table.{windowAt, valueAt, numberAt, holdsAt, Wrote, Numbered, Anew, First, Follows, Renumbered, Steady, Holding};
+ghost use Rattle.settings.specs.Table.{windowAt, valueAt, numberAt, holdsAt, Wrote, Numbered, Anew, First, Follows, Holding};
 ghost use Rattle.settings.specs.Rows.{wordsOf, rowWith, Written};
-ghost use Rattle.settings.specs.Tries.{tallyOf, spending, tests as testsS, Fair, Counted, Charged, Placing, Trying};
+ghost use Rattle.settings.specs.Tries.{tallyOf, spending, Fair, Charged, Placing, OneTrial, AllTrials, OneProbe, AllProbes};
 use machine::Value;
 use machine::kinds;
 use machine::layout;
@@ -317,7 +316,7 @@ fn trial(
     rows: &mut [i32],
 ) -> Tried
     requires { ⌜ Holding (now mem) nodes tests k × Fair (length (now rows)) t ⌝ }
-    ensures { λ r. ⌜ Trying (now (rows .entry)) (now (rows .exit)) t (trialS (meaning (nodesIn (now (mem .entry)) nodes) (cellOf v)) (testsS (now (mem .entry)) nodes tests) (settingIn (now (mem .entry)) k) (tallyOf (now (rows .entry)) t)) r × Renumbered (now (mem .entry)) (now (mem .exit)) ⌝ }
+    ensures { λ r. ⌜ OneTrial (now (mem .entry)) (now (mem .exit)) nodes tests k v (now (rows .entry)) (now (rows .exit)) t r ⌝ }
 {
     if t.budget == 0 {
         return Tried::Spent(t);
@@ -333,7 +332,7 @@ fn trial(
 // The present setting tried at a cut: a cut run, if it meets the tests.
 fn probe(mem: &mut [u32], nodes: usize, tests: usize, k: usize, t: Tally) -> Tried
     requires { ⌜ Holding (now mem) nodes tests k × (t .moves + t .budget < 4294967296) ⌝ }
-    ensures { λ r. ⌜ Charged t (λ rows. probeS (testsS (now (mem .entry)) nodes tests) (settingIn (now (mem .entry)) k) (tallyOf rows t)) r × Renumbered (now (mem .entry)) (now (mem .exit)) ⌝ }
+    ensures { λ r. ⌜ OneProbe (now (mem .entry)) (now (mem .exit)) nodes tests k t r ⌝ }
 {
     if t.budget == 0 {
         return Tried::Spent(t);
@@ -361,7 +360,7 @@ pub fn trials(
     rows: &mut [i32],
 ) -> Tried
     requires { ⌜ Holding (now mem) nodes tests k × Fair (length (now rows)) t ⌝ }
-    ensures { λ r. ⌜ Placing (now (rows .entry)) (now (rows .exit)) t (trialsS (meaning (nodesIn (now (mem .entry)) nodes) (cellOf v)) (testsS (now (mem .entry)) nodes tests) (settingsS (windowsIn (now (mem .entry)) k)) (tallyOf (now (rows .entry)) t)) r × Steady (now (mem .entry)) (now (mem .exit)) ⌝ }
+    ensures { λ r. ⌜ AllTrials (now (mem .entry)) (now (mem .exit)) nodes tests k v (now (rows .entry)) (now (rows .exit)) t r ⌝ }
 {
     if !filled(mem, k) {
         return Tried::Go(t);
@@ -385,7 +384,7 @@ pub fn trials(
 // Settings of k free variables in their windows tried at a cut, until one meets the tests; none, where a cut run was found before.
 pub fn probes(mem: &mut [u32], nodes: usize, tests: usize, k: usize, t: Tally) -> Tried
     requires { ⌜ Holding (now mem) nodes tests k × (t .moves + t .budget < 4294967296) ⌝ }
-    ensures { λ r. ⌜ Counted t (λ rows. probesS (testsS (now (mem .entry)) nodes tests) (settingsS (windowsIn (now (mem .entry)) k)) (tallyOf rows t)) r × Steady (now (mem .entry)) (now (mem .exit)) ⌝ }
+    ensures { λ r. ⌜ AllProbes (now (mem .entry)) (now (mem .exit)) nodes tests k t r ⌝ }
 {
     if !filled(mem, k) {
         return Tried::Go(t);

@@ -1,4 +1,4 @@
-use Prim.Native.Nat.{ℕ, zero, suc, _-_, _%_, _+_, _*_}
+use Prim.Native.Nat.{ℕ, zero, suc, _-_}
 use mathlib.Core.Path.{_≡_, refl, sym, ap₂, _∙_, subst}
 use native.Mathlib.Omega.{arith}
 use Rattle.semantics.specs.Run.{Window}
@@ -78,15 +78,18 @@ range-requires c κs =
     let s = c .before .before .before .before .before .before .before in
     let m = s .args .mem .now in
     let k = s .args .k in
-    let j = s .args .j in
-    (subst Filled (sym (c .before .cell-range .ensures)) (cell-filled (rangesIn m j) (left m k j) (s .pre .2)), subst Filled (sym (c .cell-range2 .ensures)) (cell-filled (rangesIn m j) (right m k j) (s .pre .2)))
+    let j = s .args .j in (
+      subst Filled (sym (c .before .cell-range .ensures)) (cell-filled (rangesIn m j) (left m j) (s .pre .2)),
+      subst Filled (sym (c .cell-range2 .ensures)) (cell-filled (rangesIn m j) (right m j) (s .pre .2)),
+    )
 
 returns-2 : tie.Need-returns-2
 returns-2 c =
     let s = c .before .before .before .before .before .before .before .before in
     let m = s .args .mem .now in
-    let o : ℕ = nodeOp (kind m (s .args .k) (s .args .j)) - 1 in
-    c .range .ensures ∙ ap₂ (λ (v w : Window). fitted (span (numbers.operation o) v w)) (c .before .before .cell-range .ensures) (c .before .cell-range2 .ensures) ∙ range-op m (s .args .k) (s .args .j) o (less (nodeOp (kind m (s .args .k) (s .args .j))) (c .before .before .before .if1 .left))
+    let o : ℕ = nodeOp (kind m (s .args .j)) - 1 in
+    c .range .ensures ∙ ap₂ (λ (v w : Window). fitted (span (numbers.operation o) v w)) (c .before .before .cell-range .ensures) (c .before .cell-range2 .ensures)
+    ∙ range-op m (s .args .k) (s .args .j) o (less (nodeOp (kind m (s .args .j))) (c .before .before .before .if1 .left))
 
 pub range-at-spec : {M : Type 1} → statement M
 range-at-spec =

@@ -1,5 +1,5 @@
 use mathlib.Core.Path.{_∙_}
-use Prim.Native.Nat.{ℕ, _+_, _-_, _*_, _/_, _%_}
+use Prim.Native.Nat.{ℕ, _-_}
 use native.Mathlib.Omega.{arith as numeric}
 use lib.IntN.{pos}
 use lib.ListN.{getD}
@@ -64,7 +64,8 @@ returns c =
     let k = getD m (nodePlace (s .j)) 0 in
     let x = getD m (nodeLeft (s .j)) 0 in
     let y = getD m (nodeRight (s .j)) 0 in
-    toZ-ofZ (record { sfits = c .value .ok }) ∙ c .value .ensures ∙ node-free (λ (i : ℕ). getD (settingIn m (s .k)) i (pos 0)) (numbersIn m (s .j)) (nodeOp k) x (cellAs (leftOpen k) x) (cellAs (rightOpen k) y) (c .before .if1 .taken)
+    toZ-ofZ (record { sfits = c .value .ok }) ∙ c .value .ensures
+    ∙ node-free (λ (i : ℕ). getD (settingIn m (s .k)) i (pos 0)) (numbersIn m (s .j)) (nodeOp k) x (cellAs (leftOpen k) x) (cellAs (rightOpen k) y) (c .before .if1 .taken)
 
 sub-operate : tie.Need-sub-operate
 sub-operate c = search needs
@@ -86,7 +87,8 @@ returns-2 c =
     let x = getD m (nodeLeft (s .j)) 0 in
     let y = getD m (nodeRight (s .j)) 0 in
     toZ-ofZ (record { sfits = c .operate .ok })
-    ∙ read₂ (arith (operation (nodeOp k - 1))) (record { sfits = c .before .before .number .ok }) (record { sfits = c .before .number2 .ok }) (c .before .before .number .ensures) (c .before .number2 .ensures) (c .operate .ensures)
+    ∙ read₂ (arith (operation (nodeOp k - 1))) (record { sfits = c .before .before .number .ok }) (record { sfits = c .before .number2 .ok }) (c .before .before .number .ensures)
+    (c .before .number2 .ensures) (c .operate .ensures)
     ∙ node-works (λ (i : ℕ). getD (settingIn m (s .k)) i (pos 0)) (numbersIn m (s .j)) (nodeOp k) x (cellAs (leftOpen k) x) (cellAs (rightOpen k) y) (c .before .before .before .if1 .left)
 
 pub number-at-spec : {M : Type 1} → statement M
