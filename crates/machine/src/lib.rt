@@ -209,13 +209,6 @@ fn take(code: &[u32], size: usize, mem: &[u32], run: Run, j: usize) -> Took
     pop(mem, run)
 }
 
-// a - b, or 0.
-pub fn less(a: usize, b: usize) -> usize
-    ensures { λ r. ⌜ r ≡ a - b ⌝ }
-{
-    if a < b { 0 } else { a - b }
-}
-
 // The two operands of the next entry, the right one of which has d entries.
 fn pair(code: &[u32], size: usize, mem: &[u32], run: Run, d: usize) -> Both
     requires { ⌜ (2 * size ≤ length (now code)) × Ready (now mem) run ⌝ }
@@ -230,7 +223,7 @@ fn pair(code: &[u32], size: usize, mem: &[u32], run: Run, d: usize) -> Both
         depth: run.depth,
         nodes: run.nodes,
     };
-    let a = take(code, size, mem, rest, less(run.pc, d));
+    let a = take(code, size, mem, rest, ints::monus(run.pc, d));
     let x = a.value;
     let y = b.value;
     Both {
@@ -400,7 +393,7 @@ fn gather(code: &[u32], size: usize, mem: &mut [u32], run: Run, n: usize) -> usi
     let mut top = run.top;
     while 0 < k {
         k -= 1;
-        let e = less(j, 1);
+        let e = ints::monus(j, 1);
         let rest = Run {
             pc: run.pc,
             flag: run.flag,
@@ -411,7 +404,7 @@ fn gather(code: &[u32], size: usize, mem: &mut [u32], run: Run, n: usize) -> usi
         };
         let t = take(code, size, mem, rest, e);
         let d = extent(code, size, e);
-        j = less(e, d);
+        j = ints::monus(e, d);
         top = t.top;
         if k < layout::CELLS {
             let v = t.value;
@@ -541,7 +534,7 @@ pub fn advance(code: &[u32], size: usize, mem: &mut [u32], run: Run, k: u32) -> 
         entry::JUMP => Did::Silent(moved(run, landing(run, false, w))),
         entry::JUMP_TRUE => Did::Silent(moved(run, landing(run, true, w))),
         entry::SKIP => Did::Silent(moved(run, run.pc + 1 + w)),
-        entry::AGAIN => Did::Step(moved(run, less(run.pc, w))),
+        entry::AGAIN => Did::Step(moved(run, ints::monus(run.pc, w))),
         entry::BEGIN => Did::Step(moved(run, run.pc + 1)),
         entry::CLEAR => Did::Step(clear(mem, run, Address(w % layout::CELLS))),
         entry::ASK => Did::Free(ask(mem, run, Address(w % layout::CELLS), k)),

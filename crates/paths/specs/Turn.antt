@@ -5,7 +5,7 @@ use mathlib.Core.List.{List}
 use Prim.Native.Nat.{ℕ, _+_, _-_, _≤_, _<_}
 use Rattle.semantics.specs.Int.{Cmp}
 use Rattle.semantics.specs.Run.{Window}
-use Rattle.semantics.specs.Search.{unknown, byRanges}
+use Rattle.semantics.specs.Search.{unknown, inUse}
 use Rattle.simulation.specs.Code.{Code}
 use Rattle.simulation.specs.Machine.{Machine, Doing}
 use Rattle.simulation.specs.Path.{turning, turn, Turn, End, returned, failed, cut, on, ended, still}
@@ -78,15 +78,15 @@ Onwards m′ Cut = Unit {0}
 -- ---- what was done after an entry was worked with this run, from the point p in the memory m: a step, a comparison, a free declaration
 
 abbrev pub AfterStep : List ℕ → List ℕ → Point → Run → Turned → Type 0
-AfterStep m m′ p run r = (job : Window) → Turning (turning byRanges job (Doing.step (machineAt m run)) (stateAt m p)) m′ p r
+AfterStep m m′ p run r = (job : Window) → Turning (turning inUse job (Doing.step (machineAt m run)) (stateAt m p)) m′ p r
 
 abbrev pub AfterTest : List ℕ → List ℕ → Point → Run → Cmp → code.Value → code.Value → Turned → Type 0
 AfterTest m m′ p run c v w r = (job : Window)
-    → Turning (turning byRanges job (Doing.test c (meant m (p .run .nodes) v) (meant m (p .run .nodes) w) (λ b. machineAt m (flagged run b))) (stateAt m p)) m′ p r
+    → Turning (turning inUse job (Doing.test c (meant m (p .run .nodes) v) (meant m (p .run .nodes) w) (λ b. machineAt m (flagged run b))) (stateAt m p)) m′ p r
 
 abbrev pub AfterFree : List ℕ → List ℕ → Point → Run → Window → Turned → Type 0
-AfterFree m m′ p run job r = (next : Sym → Machine Sym) → next (unknown (p .windows)) ≡ machineAt m run → Turning (turning byRanges job (Doing.free next) (stateAt m p)) m′ p r
+AfterFree m m′ p run job r = (next : Sym → Machine Sym) → next (unknown (p .windows)) ≡ machineAt m run → Turning (turning inUse job (Doing.free next) (stateAt m p)) m′ p r
 
 -- a whole turn
 abbrev pub OneTurn : Code → Window → List ℕ → List ℕ → Point → Turned → Type 0
-OneTurn c job m m′ p r = Turning (turn byRanges job c (machineAt m (p .run)) (stateAt m p)) m′ p r × Onwards m′ r
+OneTurn c job m m′ p r = Turning (turn inUse job c (machineAt m (p .run)) (stateAt m p)) m′ p r × Onwards m′ r

@@ -302,7 +302,7 @@ fn count(p: Point) -> Point
         steps: p.steps,
         windows: p.windows,
         choices: p.choices + 1,
-        forced: machine::less(p.forced, 1),
+        forced: ints::monus(p.forced, 1),
     }
 }
 

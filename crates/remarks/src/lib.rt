@@ -28,10 +28,7 @@ pub enum Answer {
 fn present(f: usize) -> usize
     ensures { λ r. ⌜ r ≡ f - 1 ⌝ }
 {
-    if f == 0 {
-        return 0;
-    }
-    f - 1
+    ints::monus(f, 1)
 }
 
 // How many functions have begun after one event more.

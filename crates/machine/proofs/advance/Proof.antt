@@ -79,8 +79,8 @@ add-moved-2 c =
 moved-requires-3 : tie.Need-moved-requires-3
 moved-requires-3 c κs = search needs
 
-less-requires : tie.Need-less-requires
-less-requires c κs = search needs
+monus-requires : tie.Need-monus-requires
+monus-requires c κs = search needs
 
 moved-requires-4 : tie.Need-moved-requires-4
 moved-requires-4 c κs = search needs
@@ -185,7 +185,7 @@ returns-10 c =
     let s = c .before .before .before .before .before .before .before .before .before .before .before in
     let a = s .args in
     goes-run (c .moved4 .ensures) (adv-again (a .code .now) (a .size) (a .mem .now) (a .run) (c .before .before .before .before .before .before .before .if1 .left) (c .before .before .match .keys7)
-    (c .before .less .result) (c .before .less .ensures) (s .pre .2))
+    (c .before .monus .result) (c .before .monus .ensures) (s .pre .2))
 
 returns-11 : tie.Need-returns-11
 returns-11 c =
@@ -297,7 +297,7 @@ advance-spec =
     add-moved
     add-moved-2
     moved-requires-3
-    less-requires
+    monus-requires
     moved-requires-4
     add-moved-3
     moved-requires-5
