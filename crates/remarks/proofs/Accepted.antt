@@ -9,13 +9,11 @@ use native.Mathlib.Nat.{add-zero, add-suc, suc-add}
 use native.Mathlib.Decide.{decLt}
 use lib.ListN.{length, getD, length-append, List·getD-append}
 use lib.Seq.{getD-append-seam}
-use lib.Dec.{leb}
-use borrow.Author.Tests.{leb-false}
 use Rattle.events.specs.Event.{Event, function, parameter, thing, opens, closes, declares, uses, calls, ends}
 use Rattle.events.proofs.Tokens.{Within, Each}
 use Rattle.events.proofs.Tokens as W
-use Rattle.text_rules.specs.Scan.{scan, when, on}
-use Rattle.text_rules.specs.Rules.{Head, heads, functionOf, mains, badMain, Tally, tally, counted, over, tooMany}
+use Rattle.text_rules.specs.Scan.{on}
+use Rattle.text_rules.specs.Rules.{Head, heads, functionOf, mains, badMain}
 use Rattle.text_rules.specs.Names.{ifFound, repeated, badVariables, badFunctions, badNames, uncalled}
 use Rattle.text_rules.specs.Resolve.{mainOf}
 use Rattle.text_rules.specs.Answers.{headsFrom, storedHeads}
