@@ -33,7 +33,7 @@ Flips h none = AllFalse h
 Flips h (some q) = Newest h q
 
 -- the next path's outcomes are those with the newest true one false; there is no next path where none is true
-flips : (h : List Bool) → Flips h (next h)
+pub flips : (h : List Bool) → Flips h (next h)
 unfolding next
 flips [] = tt
 flips (o ∷ p) = by o (next p) (flips p)
