@@ -57,7 +57,8 @@ pub fn miscalls(
     h: usize,
 ) -> Broken
     requires { ⌜ (eventWords * n ≤ length (now events)) × (headWords * h ≤ length (now heads)) ⌝ }
-    ensures { λ r. ⌜ place r ≡ least (on (miscounted (sameName (now (text .entry)) (now (places .entry)) (now (values .entry))) (storedHeads (now (heads .entry)) h)) (stored (now (events .entry)) n)) ⌝ }
+    ensures { λ r. ⌜ place r ≡ least (on (miscounted (sameName (now (text .entry)) (now (places .entry)) (now (values .entry)))
+        (storedHeads (now (heads .entry)) h)) (stored (now (events .entry)) n)) ⌝ }
 {
     let mut best = Broken::Nowhere;
     let mut i = 0;

@@ -58,7 +58,8 @@ fn see_declaration(
     best: Broken,
 ) -> Broken
     requires { ⌜ (Held (now scope) blocks seen) × (address .0 < 2 ^ 32) ⌝ }
-    ensures { λ r. ⌜ SeenDeclaration (sameName (now (text .entry)) (now (places .entry)) (now (values .entry))) (blocksOf (now (scope .entry)) blocks seen) (address .0) i (place best) (now (slots .entry)) (place r) (now (slots .exit)) ⌝ }
+    ensures { λ r. ⌜ SeenDeclaration (sameName (now (text .entry)) (now (places .entry)) (now (values .entry)))
+        (blocksOf (now (scope .entry)) blocks seen) (address .0) i (place best) (now (slots .entry)) (place r) (now (slots .exit)) ⌝ }
 {
     write_address(slots, i, address);
     match seek(text, places, values, scope, blocks, seen, i) {
@@ -80,7 +81,8 @@ fn see_variable(
     best: Broken,
 ) -> Broken
     requires { ⌜ Held (now scope) blocks seen ⌝ }
-    ensures { λ r. ⌜ SeenVariable (sameName (now (text .entry)) (now (places .entry)) (now (values .entry))) (blocksOf (now (scope .entry)) blocks seen) i (place best) (now (slots .entry)) (place r) (now (slots .exit)) ⌝ }
+    ensures { λ r. ⌜ SeenVariable (sameName (now (text .entry)) (now (places .entry)) (now (values .entry)))
+        (blocksOf (now (scope .entry)) blocks seen) i (place best) (now (slots .entry)) (place r) (now (slots .exit)) ⌝ }
 {
     match seek(text, places, values, scope, blocks, seen, i) {
         Sought::Nothing => lesser(i, best),
@@ -103,7 +105,8 @@ fn see_call(
     best: Broken,
 ) -> Broken
     requires { ⌜ (headWords * h ≤ length (now heads)) × (h < 2 ^ 32) ⌝ }
-    ensures { λ r. ⌜ SeenCall (sameName (now (text .entry)) (now (places .entry)) (now (values .entry))) (storedHeads (now (heads .entry)) h) i (place best) (now (slots .entry)) (place r) (now (slots .exit)) ⌝ }
+    ensures { λ r. ⌜ SeenCall (sameName (now (text .entry)) (now (places .entry)) (now (values .entry)))
+        (storedHeads (now (heads .entry)) h) i (place best) (now (slots .entry)) (place r) (now (slots .exit)) ⌝ }
 {
     match function_of(text, places, values, heads, h, i) {
         Found::Nothing => lesser(i, best),
@@ -128,7 +131,8 @@ fn see(
     best: Broken,
 ) -> Broken
     requires { ⌜ (headWords * h ≤ length (now heads)) × (h < 2 ^ 32) × (Held (now scope) (s .blocks) (s .seen)) × (s .next < 2 ^ 32) ⌝ }
-    ensures { λ r. ⌜ SeenEvent (sameName (now (text .entry)) (now (places .entry)) (now (values .entry))) (storedHeads (now (heads .entry)) h) (scopeOf (now (scope .entry)) s) (asEvent event) (place best) (now (slots .entry)) (place r) (now (slots .exit)) ⌝ }
+    ensures { λ r. ⌜ SeenEvent (sameName (now (text .entry)) (now (places .entry)) (now (values .entry)))
+        (storedHeads (now (heads .entry)) h) (scopeOf (now (scope .entry)) s) (asEvent event) (place best) (now (slots .entry)) (place r) (now (slots .exit)) ⌝ }
 {
     let blocks = s.blocks;
     let seen = s.seen;
@@ -185,7 +189,8 @@ fn see_all(
     slots: &mut [u32],
 ) -> Broken
     requires { ⌜ (eventWords * n ≤ length (now events)) × (n < 2 ^ 32) × (headWords * h ≤ length (now heads)) × (h < 2 ^ 32) × (scopeWords * n ≤ length (now scope)) ⌝ }
-    ensures { λ r. ⌜ SeenEvents (sameName (now (text .entry)) (now (places .entry)) (now (values .entry))) (storedHeads (now (heads .entry)) h) (stored (now (events .entry)) n) (now (slots .entry)) (place r) (now (slots .exit)) ⌝ }
+    ensures { λ r. ⌜ SeenEvents (sameName (now (text .entry)) (now (places .entry)) (now (values .entry)))
+        (storedHeads (now (heads .entry)) h) (stored (now (events .entry)) n) (now (slots .entry)) (place r) (now (slots .exit)) ⌝ }
 {
     let mut best = Broken::Nowhere;
     let mut s = Scope {
@@ -256,7 +261,8 @@ pub fn resolve(
     scope: &mut [u32],
     slots: &mut [u32],
 ) -> Broken
-    requires { ⌜ (eventWords * n ≤ length (now events)) × (n < 2 ^ 32) × (headWords * h ≤ length (now heads)) × (storedHeads (now heads) h ≡ R.heads (stored (now events) n)) × (scopeWords * n ≤ length (now scope)) ⌝ }
+    requires { ⌜ (eventWords * n ≤ length (now events)) × (n < 2 ^ 32) × (headWords * h ≤ length (now heads))
+        × (storedHeads (now heads) h ≡ R.heads (stored (now events) n)) × (scopeWords * n ≤ length (now scope)) ⌝ }
     ensures { λ r. ⌜ Named (sameName (now (text .entry)) (now (places .entry)) (now (values .entry))) (stored (now (events .entry)) n) (now (slots .entry)) (place r) (now (slots .exit)) ⌝ }
 {
     let best = see_all(text, places, values, events, n, heads, h, scope, slots);
