@@ -24,9 +24,6 @@ use Rattle.checker.specs.Analysis as N
 use Rattle.checker.specs.declared.Analysed.{Analysed}
 use Rattle.checker.specs.declared.Analysed.the-variants.{Refused}
 
-pub can-parse : {ks nodes items heads scope : List ℕ} → Lent ks nodes items heads scope → G.Tabled ks nodes
-can-parse h = record { filled = h .tokens .filled; few = omega (arith, h .few); room = omega (arith, h .few, h .table); ends = h .tokens .ends }
-
 -- number 4
 pub is-bad : {l : List ℕ} {m : ℕ} {v : Res T.prog} → G.Parses l (P.Bad m) v → v ≡ bad m
 is-bad G.none = refl

@@ -22,7 +22,6 @@ use Rattle.semantics.specs.Program.{Stmts}
 use Rattle.simulation.specs.Code.{codeOf}
 use Rattle.simulation.specs.Words.{entryWords, codeIn, Fits}
 use Rattle.simulation.specs.Placed.{Placed}
-use Rattle.simulation.proofs.Inside.{Closed}
 use Rattle.compiler.specs.Coded.{word, program}
 use Rattle.compiler.specs.Sound.{Sound}
 use Rattle.compiler.specs.Compile.{Tokens, Ready, Compiled}
@@ -30,7 +29,7 @@ use Rattle.compiler.proofs.Agreeing.{sound-same, part-same}
 use Rattle.compiler.proofs.Parts.{funs, funs-length}
 use Rattle.compiler.proofs.Lengths.{code-short}
 use Rattle.compiler.proofs.Meanings.{AllGood, good}
-use Rattle.compiler.proofs.Placing.{fits-program, placed-code, closed-code}
+use Rattle.compiler.proofs.Placing.{fits-program, placed-code}
 use Rattle.text_rules.proofs.Counts.{few-functions, main-lt}
 
 -- ---- good events
@@ -248,15 +247,12 @@ module _ (same : ℕ → ℕ → Bool) (t : Tree T.prog) (f : ℕ → ℕ) where
       fitting : Fits (program values slots g tree)
       fitting = fits-program m values slots g tree stands (functions-few (word values) (word slots) tree (k .ten)) (given .main)
 
-      -- in the words that it leaves the resolved program is placed, and no entry leads out of them
+      -- in the words that it leaves the resolved program is placed
       pub accepted-placed : (value : ℕ → ℕ) → ((j : ℕ) → j < m → word values j ≡ value j) → (isMain : ℕ → Bool) → g ≡ mainOf isMain (heads (events tree)) → Placed (codeIn after r) (resolved value meaningOf isMain (heads (events tree)) tree)
       accepted-placed value valued isMain e =
           subst (λ (h : ℕ). Placed (codeIn after r) (record { bodies = part value meaningOf tree []; main = h })) e
           (subst (λ (bs : List Stmts). Placed (codeIn after r) (record { bodies = bs; main = g })) (accepted-program value valued)
           (placed-code tree (given .holds) fitting (omega (arith, size, given .space)) c))
-
-      pub accepted-closed : Closed (codeIn after r)
-      accepted-closed = closed-code tree (given .holds) fitting (omega (arith, size, given .space)) c
 
       pub accepted-few : r < 65536
       accepted-few = omega (arith, c .total tree (given .holds), size, given .less)

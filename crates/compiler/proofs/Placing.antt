@@ -1,4 +1,4 @@
--- The program of a sound tree fits into words; so the words that the compiler writes are a code in which the program is placed, and which no entry leads out of.
+-- The program of a sound tree fits into words; so the words that the compiler writes are a code in which the program is placed.
 use Prim.Native.Nat.{ℕ, zero, suc, _+_, _-_, _*_, _%_, _^_, _≤_, _<_}
 use mathlib.Core.Path.{_≡_, refl, sym, ap, _∙_}
 use mathlib.Core.Bool.{Bool, cond}
@@ -21,8 +21,7 @@ use Rattle.text_rules.specs.Resolve.{Part, part}
 use Rattle.simulation.specs.Code.{codeOf}
 use Rattle.simulation.specs.Words.{entryWords, codeIn, wordsOf, wordsIn, FitsE, FitsEs, FitsC, FitsS, FitsSs, FitsBs, Fits}
 use Rattle.simulation.specs.Placed.{Placed}
-use Rattle.simulation.proofs.Inside.{Closed}
-use Rattle.simulation.proofs.Words.{length-words, placed-words, closed-words}
+use Rattle.simulation.proofs.Words.{length-words, placed-words}
 use Rattle.compiler.specs.Coded.{word, program}
 use Rattle.compiler.specs.Sound.{Sound}
 use Rattle.compiler.specs.Compile.{Compiled}
@@ -136,7 +135,3 @@ module _ {l : List ℕ} {i : ℕ} {values slots : List ℕ} {g : ℕ} {before af
   -- the program is placed in the words at exit
   pub placed-code : Placed (codeIn after r) it
   placed-code = rw (written, c .total p held) (placed-words it fitting (drop (length (wordsIn (codeOf it))) before))
-
-  -- and no entry leads out of them
-  pub closed-code : Closed (codeIn after r)
-  closed-code = rw (written, c .total p held) (closed-words it fitting (drop (length (wordsIn (codeOf it))) before))

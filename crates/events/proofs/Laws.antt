@@ -3,7 +3,6 @@ use Prim.Native.Nat.{ℕ, zero, suc, _+_, _*_, _≤_, _<_}
 use mathlib.Core.Path.{_≡_, refl, sym, ap, _∙_, subst}
 use mathlib.Core.List.{List, [], _∷_, _++_, append-nil, append-assoc}
 use native.Mathlib.Nat.{add-zero, zero-add, suc-add}
-use native.Mathlib.Numerals.{add-one}
 use native.Mathlib.Omega.{arith}
 use lib.ListN.{length, getD, set, length-set, length-append}
 use lib.Seq.{getD-set-same, getD-set-other}
@@ -18,10 +17,6 @@ use Rattle.events.specs.Visit.{Grown, level, Located}
 pub from-none : (l : List ℕ) (k : ℕ) → from l k 0 ≡ []
 unfolding from
 from-none l k = refl
-
-pub from-next : (l : List ℕ) (k m : ℕ) → from l k (m + 1) ≡ eventAt l k ∷ from l (k + 1) m
-unfolding from
-from-next l k m = rw (add-one m, add-one k)
 
 -- events fall into a front part and the rest
 pub from-split : (l : List ℕ) (k m n : ℕ) → from l k (m + n) ≡ from l k m ++ from l (k + m) n

@@ -1,8 +1,7 @@
 -- The tokens that a tree names are its own.
-use Prim.Native.Nat.{ℕ, zero, suc, _+_, _≤_, _<_}
-use mathlib.Core.Path.{_≡_, refl, sym, subst}
+use Prim.Native.Nat.{ℕ, suc, _+_, _≤_, _<_}
+use mathlib.Core.Path.{_≡_, refl}
 use mathlib.Core.List.{List, [], _∷_, _++_}
-use native.Mathlib.Nat.{add-zero}
 use native.Mathlib.Omega.{arith}
 use Rattle.syntax.specs.Token.{kMinus, kName, kClose, kComma, kTimes, kPlus, kAnd, kOr, kSemi, kInt, kLbrace, kRbrace, kElse}
 use Rattle.syntax.specs.Tree.{Cat, Tree, onto, width, numbered}
@@ -11,10 +10,8 @@ use Rattle.syntax.specs.Ast.{Sort, Ast}
 use Rattle.syntax.specs.Ast as A
 use Rattle.syntax.specs.Abstract.{ast}
 use Rattle.events.specs.Event.{Event, function, parameter, thing, opens, closes, declares, uses, calls, ends, closing, eventsAt}
-use Rattle.events.specs.Stored.{from}
 use Rattle.events.specs.Walk.{Below}
 use Rattle.events.proofs.Widths.{onto-length}
-use Rattle.events.specs.Stored.{eventAt}
 use Rattle.events.proofs.Nodes.{first-below}
 
 -- ---- of the tokens of a text
@@ -131,12 +128,3 @@ events-within m d (A.moreParams l i) b = each-append (events-within m d l (b .0)
 events-within m d (A.function i p x) b = each-append (each-append (more (b .0) (events-within m d p (b .1 .0))) (events-within m d x (b .1 .1))) (more (closing-below m x (b .1 .1)) none)
 events-within m d A.noFuns b = none
 events-within m d (A.moreFuns x y) b = each-append (events-within m d x (b .0)) (events-within m d y (b .1))
-
--- event k of those that stand in a slice
-pub each-at : {m : ℕ} (l : List ℕ) (n k : ℕ) → Each m (from l k n) → (j : ℕ) → j < n → Within m (eventAt l (k + j))
-unfolding from
-each-at l zero k p j h = absurd (omega (arith, h))
-each-at {m} l (suc n) k (more w p) zero h = subst (λ (x : ℕ). Within m (eventAt l x)) (sym (add-zero k)) w
-each-at {m} l (suc n) k (more w p) (suc j) h =
-    let e : suc k + j ≡ k + suc j = omega arith in
-    subst (λ (x : ℕ). Within m (eventAt l x)) e (each-at l n (suc k) p j (omega (arith, h)))

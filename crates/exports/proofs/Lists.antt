@@ -1,18 +1,17 @@
 -- The words of list's answer.
 use Prim.Native.Nat.{ℕ, _≤_, _<_}
-use mathlib.Core.Path.{_≡_, refl, sym, ap, _∙_, subst}
+use mathlib.Core.Path.{_≡_, sym, ap, _∙_, subst}
 use mathlib.Core.Bool.{Bool, cond}
 use mathlib.Core.List.{List}
 use native.Mathlib.Omega.{arith}
 use lib.ListN.{length}
-use lib.Dec.{ltb}
 use lib.IntN.{ℤ}
 use borrow.Author.Tests.{lt-ltb, le-ltb}
 use Rattle.list.specs.List.{Answer, refused, listed, Left, list}
 use Rattle.list.specs.Parts.{answerOf, leaves}
 use Rattle.list.specs.declared.Listed.{Listed}
 use Rattle.list.proofs.Bounds.{Small, small-answer}
-use Rattle.exports.specs.Answers.{Fits, listWords, Out, out, outWith, listOut}
+use Rattle.exports.specs.Answers.{Fits, listWords, out, outWith, listOut}
 
 fits-small : (budget : ℕ) (a : Answer) → budget < 4294967296 → Small budget a → Fits a
 fits-small budget (refused n p) h s = omega (arith, s)

@@ -1,17 +1,16 @@
 -- A verdict's place fits a word.
-use Prim.Native.Nat.{ℕ, _≤_, _<_}
+use Prim.Native.Nat.{ℕ, _≤_}
 use mathlib.Core.Bool.{Bool, true, false, cond}
 use lib.ListN.{length}
 use lib.Dec.{ltb}
 use Rattle.remarks.specs.Remarks as R
 use Rattle.remarks.specs.Remarks.{Answers, verdict}
-use Rattle.remarks.specs.declared.Answer.{Answer}
 use Rattle.remarks.specs.declared.Answer.the-variants.{Refused, Count}
-use mathlib.Core.Path.{_≡_, refl, sym, ap, _∙_, subst}
+use mathlib.Core.Path.{_≡_, sym, subst}
 use mathlib.Core.List.{List}
 use native.Mathlib.Omega.{arith}
-use Rattle.checker.specs.Check.{Verdict, accepted, refused, checked}
-use Rattle.checker.proofs.Small.{Within, fine, low, checked-low}
+use Rattle.checker.specs.Check.{Verdict, refused, checked}
+use Rattle.checker.proofs.Small.{Within, low, checked-low}
 
 low-of : {c p : ℕ} → Within 2048 (refused c p) → p ≤ 2048
 low-of (low h) = h

@@ -162,11 +162,6 @@ same-sizes (x ∷ xs) [] h = refl
 same-sizes (x ∷ xs) (y ∷ ys) h = rw (same-sizes xs ys (λ e. h (ap suc e))) (and-false (eqb x y))
 
 -- `same` is equality
-pub same-refl : (a : List ℕ) → same a a ≡ true
-unfolding same
-same-refl [] = refl
-same-refl (x ∷ xs) = rw (eq-eqb x x refl, same-refl xs)
-
 pub same-eq : (a b : List ℕ) → same a b ≡ true → a ≡ b
 unfolding same
 same-eq [] [] e = refl

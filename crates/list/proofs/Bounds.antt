@@ -1,6 +1,5 @@
 -- What list answers is small: the place of a refusal is at most 2,048, and each row written was a move.
 use Prim.Native.Nat.{ℕ, _≤_, _/_}
-use mathlib.Core.Path.{_≡_, refl, subst}
 use mathlib.Core.List.{List}
 use mathlib.Core.Option.{Option, none, some}
 use native.Mathlib.Omega.{arith}

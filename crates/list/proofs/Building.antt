@@ -10,12 +10,11 @@ use lib.Seq.{length-sets}
 use Rattle.syntax.specs.Token.{kEnd}
 use Rattle.syntax.specs.Tree.{Tree, prog, width}
 use Rattle.syntax.specs.Abstract.{ast}
-use Rattle.lexer.specs.Lex.{Token}
 use Rattle.lexer.specs.Parts.{stored}
 use Rattle.lexer.proofs.Theorems.{stored-kinds, stored-places, stored-length}
 use Rattle.grammar.specs.Text as G
 use Rattle.grammar.proofs.Grammar.{kept}
-use Rattle.events.specs.Event.{Event, events}
+use Rattle.events.specs.Event.{events}
 use Rattle.events.proofs.Widths.{onto-length}
 use Rattle.text_rules.specs.Spelling.{sameName, isMain}
 use Rattle.text_rules.specs.Rules as R
@@ -24,7 +23,7 @@ use Rattle.text_rules.specs.Resolve.{mainOf, resolved}
 use Rattle.text_rules.specs.Answers.{storedHeads}
 use Rattle.text_rules.proofs.Functions.{length-heads}
 use Rattle.names.proofs.Meanings.{meant-at}
-use Rattle.checker.specs.Check.{Verdict, kinds, places, values, programOf}
+use Rattle.checker.specs.Check.{Verdict, kinds, programOf}
 use Rattle.checker.specs.Analysis.{Known, Analyses}
 use Rattle.checker.specs.Analysis as N
 use Rattle.checker.specs.declared.Analysed.the-variants as A

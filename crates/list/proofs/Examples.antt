@@ -21,7 +21,7 @@ use Rattle.semantics.specs.Run.{Row, each, numbers, clamp, counting}
 use Rattle.semantics.specs.Search as S
 use Rattle.semantics.specs.Search.{Close, whole, cuts, full, spent, answer, search, openly, probedOnce, moves, paths, probed, tried, settings, meets, narrowed, clipped, clip, decided, always, range, fitted, span, maxZ, minZ, all32, under, work}
 use Rattle.settings.specs.Rows.{sheet}
-use Rattle.list.specs.List.{program, Answer, refused, listed, Left, ground, list}
+use Rattle.list.specs.List.{program, Answer, refused, listed, ground, list}
 
 -- ---- what is asked, and what is answered and left
 

@@ -1,5 +1,5 @@
 -- List, from its grounds, the code of the text and the search.
-use Prim.Native.Nat.{ℕ, zero, suc, _≤_, _<_}
+use Prim.Native.Nat.{ℕ, _≤_}
 use mathlib.Core.Path.{_≡_, refl, sym, ap, _∙_}
 use mathlib.Core.Bool.{Bool, true, false, cond, _||_}
 use mathlib.Core.List.{List}
@@ -21,7 +21,6 @@ use Rattle.list.specs.Code.{Codes, Translates, refuses, has, Searches}
 use Rattle.list.proofs.Values.{neither}
 use Rattle.list.specs.declared.Listed.{Listed}
 use Rattle.list.specs.declared.Listed.the-variants as L
-use Rattle.list.specs.declared.Coded.{Coded}
 use Rattle.list.specs.declared.Coded.the-variants.{Refused, Entries}
 
 -- ---- without a ground

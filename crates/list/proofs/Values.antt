@@ -2,13 +2,13 @@
 use Prim.Native.Nat.{ℕ, zero, suc, _≤_, _<_}
 use mathlib.Core.Path.{_≡_, refl, sym, ap, _∙_}
 use mathlib.Core.Bool.{Bool, true, false, _&&_, _||_}
-use mathlib.Core.List.{List, [], _∷_}
+use mathlib.Core.List.{List}
 use native.Mathlib.Omega.{arith}
 use lib.ListN.{length, getD, take, drop, length-drop, length-take}
 use lib.Dec.{eqb, ltb}
 use borrow.Author.Tests.{ltb-false}
 use Rattle.syntax.specs.Token.{kName, kNumber}
-use Rattle.lexer.specs.Lex.{Token, isLarge, kindOf, found, lexed, tokens}
+use Rattle.lexer.specs.Lex.{Token, isLarge, found, lexed, tokens}
 use Rattle.lexer.specs.Tokens.{Longest, Scans, ended, next}
 use Rattle.lexer.proofs.Fronts.{size-value}
 use Rattle.lexer.proofs.Theorems.{Small, one, lexed-tokens}

@@ -15,8 +15,6 @@ use Rattle.simulation.specs.Placed.{Placed}
 use Rattle.semantics.specs.Search as S
 use Rattle.semantics.specs.Search.{inUse}
 use Rattle.list.specs.List.{program, jobOf, Left, lists, places as placesIn}
-use Rattle.list.specs.Parts.{leaves}
-use Rattle.list.specs.declared.Listed.{Listed}
 use Rattle.list.specs.declared.Coded.{Coded}
 use Rattle.list.specs.declared.Coded.the-variants.{Refused, Entries}
 

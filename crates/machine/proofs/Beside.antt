@@ -1,6 +1,6 @@
 -- What stands beside the machine stays when an entry is worked: windows, setting, ranges, numbers, tests and outcomes.
 use mathlib.Core.Path.{_≡_, refl, ap, ap₂}
-use mathlib.Core.List.{List, [], _∷_, _++_}
+use mathlib.Core.List.{List, [], _∷_}
 use Prim.Native.Nat.{ℕ, zero, suc, _+_, _*_, _≤_}
 use native.Mathlib.Omega.{arith}
 use lib.ListN.{take}
@@ -8,8 +8,8 @@ use mir.Syntax.{w32}
 use mir.Val.{toZ}
 use Rattle.intervals.specs.Meaning.{ofPairs}
 use Rattle.window_memory.specs.Memory.{pairsAt}
-use Rattle.machine.specs.Layout.{windowsPlace, valuePlace, tablesPlace, rangeLow, rangeHigh, numberPlace, testPlace, testLeft, testRight, outcomePlace}
-use Rattle.machine.specs.Memory.{windowsIn, settingIn, rangesIn, numbersIn, testsIn, outcomeAs, outcomesIn}
+use Rattle.machine.specs.Layout.{windowsPlace, tablesPlace, rangeLow, rangeHigh, testPlace, testLeft, testRight, outcomePlace}
+use Rattle.machine.specs.Memory.{windowsIn, rangesIn, testsIn, outcomeAs, outcomesIn}
 use Rattle.machine.specs.Contracts.{Kept}
 
 module _ {m m′ : List ℕ} {n : ℕ} (s : Kept m m′ n) where
@@ -22,20 +22,10 @@ module _ {m m′ : List ℕ} {n : ℕ} (s : Kept m m′ n) where
   pub windows-kept : (i : ℕ) → windowsIn m′ i ≡ windowsIn m i
   windows-kept i = ap (λ l. take i (ofPairs l)) (pairs-kept windowsPlace 8 (omega arith) (omega arith))
 
-  pub setting-kept : (i : ℕ) → i ≤ 8 → settingIn m′ i ≡ settingIn m i
-  unfolding settingIn
-  setting-kept zero h = refl
-  setting-kept (suc i) h = ap₂ (λ l x. l ++ toZ w32 x ∷ []) (setting-kept i (omega arith)) (s .fixed (valuePlace i) (omega arith) (omega arith))
-
   pub ranges-kept : (i : ℕ) → rangesIn m′ i ≡ rangesIn m i
   unfolding rangesIn
   ranges-kept zero = refl
   ranges-kept (suc i) = rw (ranges-kept i, s .tables (rangeLow i) i (omega arith) (omega arith), s .tables (rangeHigh i) i (omega arith) (omega arith))
-
-  pub numbers-kept : (i : ℕ) → numbersIn m′ i ≡ numbersIn m i
-  unfolding numbersIn
-  numbers-kept zero = refl
-  numbers-kept (suc i) = ap₂ (λ l x. l ++ toZ w32 x ∷ []) (numbers-kept i) (s .tables (numberPlace i) i (omega arith) (omega arith))
 
   pub tests-kept : (i : ℕ) → testsIn m′ i ≡ testsIn m i
   unfolding testsIn

@@ -1,19 +1,18 @@
 -- Meanings, written one after the other, are what each token means at the end.
-use Prim.Native.Nat.{ℕ, _+_, _≤_, _<_}
+use Prim.Native.Nat.{ℕ, _≤_, _<_}
 use mathlib.Core.Path.{_≡_, refl, sym, ap, _∙_}
 use mathlib.Core.Bool.{Bool, true, false, not, cond}
 use mathlib.Core.List.{List, [], _∷_, _++_}
-use mathlib.Core.Option.{Option}
 use native.Mathlib.Omega.{arith}
 use lib.ListN.{length, getD, set, length-set}
 use lib.Seq.{getD-set-same, getD-set-other}
 use lib.Dec.{eqb}
 use borrow.Author.Tests.{eqb-true, eqb-false}
-use Rattle.events.specs.Event.{Event, function, parameter, thing, opens, closes, declares, uses, calls, ends}
+use Rattle.events.specs.Event.{function, parameter, thing, opens, closes, declares, uses, calls, ends}
 use Rattle.events.specs.Stored.{eFunction, eParameter, eThing, eOpens, eDeclares, eUses, eCalls, eEnds, eventOf}
-use Rattle.text_rules.specs.Names.{Meaning, meant, meanings}
+use Rattle.text_rules.specs.Names.{Meaning, meant}
 use Rattle.scopes.specs.Memory.{tokenOf}
-use Rattle.names.specs.Steps.{noted, Named}
+use Rattle.names.specs.Steps.{noted}
 
 pub noted-append : (l : List ℕ) (a b : List Meaning) → noted l (a ++ b) ≡ noted (noted l a) b
 unfolding noted
@@ -49,13 +48,6 @@ noted-meant l (m ∷ ms) i h =
     noted-meant (set l (m .token) (m .means)) ms i (rw (length-set l (m .token) (m .means)) h)
     ∙ meant-at (λ j. getD (set l (m .token) (m .means)) j 0) (λ j. cond (eqb (m .token) j) (m .means) (getD l j 0)) ms i
     (set-read l (m .token) (m .means) i h)
-
--- over words that are all 0, the meanings are all that is written
-pub from-zeros :
-    {same : ℕ → ℕ → Bool} {es : List Event} {slots : List ℕ} {best : Option ℕ} {slots′ : List ℕ}
-    → Named same es slots best slots′ → ((j : ℕ) → getD slots j 0 ≡ 0) → (i : ℕ) → i < length slots
-    → getD slots′ i 0 ≡ meant (λ j. 0) (meanings same es) i
-from-zeros {same} {es} {slots} n z i h = n .means i h ∙ meant-at (λ j. getD slots j 0) (λ j. 0) (meanings same es) i (z i)
 
 -- ---- the token of a stored event is its second word
 

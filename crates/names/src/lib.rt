@@ -1,7 +1,7 @@
 // Rule 6 over the events of a text, and what each name means.
 ghost use mathlib.Core.Path.{_≡_};
 ghost use mathlib.Core.List.{[]};
-ghost use Prim.Native.Nat.{_+_, _*_, _^_, _≤_, _<_};
+ghost use Prim.Native.Nat.{_*_, _^_, _≤_, _<_};
 ghost use lib.ListN.{length, set};
 ghost use Rattle.text_rules.specs.Spelling.{sameName};
 ghost use Rattle.events.specs.Stored.{eventWords, stored};

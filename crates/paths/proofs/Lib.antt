@@ -1,4 +1,4 @@
--- Theorems about the memory of a path, and what a caller takes from its end (Ending).
+-- Theorems about the memory of a path.
 pub mod Table
 pub mod Choice
 pub mod Narrowing
@@ -9,4 +9,3 @@ pub mod Growing
 pub mod Turning
 pub mod Keeping
 pub mod Walking
-pub mod Ending

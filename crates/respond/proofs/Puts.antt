@@ -1,5 +1,5 @@
 -- Lines written from the start on, and how far they reach.
-use Prim.Native.Nat.{ℕ, _+_, _*_, _≤_, _<_}
+use Prim.Native.Nat.{ℕ, _*_, _≤_, _<_}
 use native.Mathlib.Omega.{arith}
 use mathlib.Core.List.{List, _++_}
 use Rattle.semantics.specs.Search.{Close}

@@ -1,15 +1,14 @@
 -- The rows that stand in the slice are the rows found: each with at most eight values, and read back as they were written.
-use Prim.Native.Nat.{ℕ, zero, suc, _+_, _-_, _≤_}
+use Prim.Native.Nat.{ℕ, zero, suc, _-_, _≤_}
 use native.Mathlib.Omega.{arith}
 use mathlib.Core.Path.{_≡_, refl, sym, ap, ap₂, _∙_, subst}
-use mathlib.Core.Bool.{true, false}
 use mathlib.Core.List.{List, [], _∷_, _++_, append-assoc}
 use lib.ListN.{length, take, drop, replicate}
 use lib.Seq.{drop-append-seam}
 use lib.IntN.{ℤ, pos}
 use Rattle.semantics.specs.Does.{frame}
 use Rattle.semantics.specs.Run.{Row, Job, Choice, meaning, each}
-use Rattle.semantics.specs.Search.{Solver, Close, Move, plain, found, probe, Answer, answer}
+use Rattle.semantics.specs.Search.{Solver, Answer}
 use Rattle.semantics.specs.Demand.{RowOf, PlanList}
 use Rattle.semantics.specs.Promise.{Promised, atWhole, atCut, atFull, atSpent}
 use Rattle.semantics.proofs.Keep.{All, anil, acons}

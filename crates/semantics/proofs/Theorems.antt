@@ -6,7 +6,7 @@ use mathlib.Core.List.{List}
 use lib.Dec.{T}
 use Rattle.semantics.specs.Run.{Window, Job, Choice, Row}
 use Rattle.semantics.specs.Plans.{choices, plans}
-use Rattle.semantics.specs.Search.{all32, Solver, inUse, search, rowsIn, cutIn, Answer, listed}
+use Rattle.semantics.specs.Search.{all32, Solver, search, rowsIn, cutIn, Answer, listed}
 use Rattle.semantics.specs.Demand.{_∈_, In32, Belongs, PlanList, SomeCut}
 use Rattle.semantics.specs.Promise.{Promised}
 use Rattle.semantics.proofs.Order.{leZ→}

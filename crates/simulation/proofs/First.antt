@@ -2,7 +2,7 @@
 use Prim.Native.Nat.{ℕ}
 use mathlib.Core.Path.{_≡_, refl, sym, ap, ap₂, _∙_, subst}
 use mathlib.Core.Bool.{Bool, true, false}
-use mathlib.Core.Option.{Option, some}
+use mathlib.Core.Option.{some}
 use mathlib.Core.List.{List, [], _∷_, _++_, List·Memᴰ·head, List·Memᴰ·tail}
 use Rattle.semantics.specs.Run.{Window}
 use Rattle.semantics.specs.Search.{Value, known, work, Solver}
@@ -11,7 +11,7 @@ use Rattle.simulation.specs.Code.{Code}
 use Rattle.simulation.specs.Machine.{Machine, start}
 use Rattle.simulation.specs.Path.{State, begins, outcome, later, End, ended, turn}
 use Rattle.simulation.specs.Lister.{next}
-use Rattle.simulation.specs.Back.{standing, Passes, ChoiceAt, Searched, opens, follows, TakenBack}
+use Rattle.simulation.specs.Back.{Passes, ChoiceAt, Searched, opens, follows, TakenBack}
 use Rattle.simulation.proofs.Back.{Newest, Flips, flips, Some, first, others, some-append, forcing, Trace, nothing, plain, chose, Traced, traced, trace-chosen, trace-none, replay, Found, came-to, same-choice}
 
 -- ---- lists of outcomes

@@ -11,6 +11,5 @@ pub mod Back
 pub mod First
 pub mod Nodes
 pub mod Odometer
-pub mod Inside
 pub mod Size
 pub mod Words

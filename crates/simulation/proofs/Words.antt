@@ -14,7 +14,6 @@ use Rattle.simulation.specs.Code.{number, name, operate, compare, call, 
 use Rattle.simulation.specs.Words.{entryOf, entriesIn, codeIn, kindOf, wordOf, wordsOf, wordsIn, Plain, FitsE, FitsEs, FitsC, FitsS, FitsSs, FitsBs, Fits}
 use Rattle.simulation.specs.Placed.{Placed, InB}
 use Rattle.simulation.proofs.Placed.{placed}
-use Rattle.simulation.proofs.Inside.{Closed, closed}
 
 pub length-entries : (ws : List ℕ) (i n : ℕ) → length (entriesIn ws i n) ≡ n
 unfolding entriesIn
@@ -189,13 +188,3 @@ filled p h = record {
 -- a program that fits is placed in the words of its code, whatever follows them
 pub placed-words : (p : Program) → Fits p → (rest : List ℕ) → Placed (codeIn (wordsIn (codeOf p) ++ rest) (length (codeOf p .entries))) p
 placed-words p h rest = subst (λ c. Placed c p) (sym (code-back (codeOf p) (plain-code p h) rest)) (filled p (h .functions))
-
--- and no entry leads out of them
-pub closed-words : (p : Program) → Fits p → (rest : List ℕ) → Closed (codeIn (wordsIn (codeOf p) ++ rest) (length (codeOf p .entries)))
-closed-words p h rest = subst Closed (sym (code-back (codeOf p) (plain-code p h) rest)) shut
-  where
-    shut : Closed (record { entries = codeOf p .entries; starts = frame 2 16 (codeOf p .starts) })
-    shut = record { entries = closed p .entries; starts = λ g. subst (λ n. n < length (codeOf p .entries)) (sym (frame-getD 2 16 (codeOf p .starts) few g)) (closed p .starts g) }
-      where
-        few : length (codeOf p .starts) ≤ 16
-        few = few-starts p (h .functions)

@@ -1,7 +1,7 @@
 -- What it means that a choice is taken back, in a search that goes path after path on a code: "What stands when a choice is taken back is what these rules give, worked from the start of main up to that choice, with the outcomes of the choices before it: the same variables, windows and tests."
 use Prim.Native.Nat.{ℕ, suc}
 use mathlib.Core.Path.{_≡_}
-use mathlib.Core.Bool.{Bool, true, false}
+use mathlib.Core.Bool.{Bool, false}
 use mathlib.Core.Option.{none, some}
 use mathlib.Core.List.{List, [], _∷_, _++_, map}
 use Rattle.semantics.specs.Int.{Cmp}

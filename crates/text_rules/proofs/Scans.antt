@@ -62,10 +62,6 @@ unfolding leastWith least
 with-none [] = refl
 with-none (i ∷ l) = ap (lesser i) (with-none l)
 
--- the least of two lists, one after the other
-pub least-append : (a b : List ℕ) → least (a ++ b) ≡ leastWith b (least a)
-least-append a b = sym (with-none (a ++ b)) ∙ with-append a b none ∙ ap (leastWith b) (with-none a)
-
 -- ---- events from a place on
 
 -- what is left of n events from event i on

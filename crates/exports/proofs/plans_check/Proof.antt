@@ -1,8 +1,5 @@
 use native.Mathlib.Omega.{arith}
-use mathlib.Core.Path.{_≡_, refl, sym, ap, _∙_, subst}
 use borrow.Author.Tests.{lt-ltb, le-ltb}
-use Rattle.checker.specs.Analysis.{verdictOf}
-use Rattle.exports.specs.Answers.{checkWords, verdictWords}
 use Rattle.exports.proofs.Places.{low-place}
 use borrow.Author.Needs.{needs}
 use Rattle.exports.proofs.plans_check.Statement.{statement}

@@ -1,7 +1,6 @@
 use native.Mathlib.Omega.{arith}
-use lib.ListN.{length, length-set}
-use mathlib.Core.Path.{_≡_, refl, sym, ap, _∙_, subst}
-use Rattle.exports.specs.Answers.{remarkWords, Told, Remarks}
+use lib.ListN.{length-set}
+use mathlib.Core.Path.{refl}
 use Rattle.exports.proofs.Places.{low-remark, low-count}
 use Rattle.remarks.specs.declared.Answer.the-variants as A
 use borrow.Author.Needs.{needs}

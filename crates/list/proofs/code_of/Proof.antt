@@ -1,4 +1,4 @@
-use mathlib.Core.Path.{refl, sym, ap, _∙_}
+use mathlib.Core.Path.{refl}
 use borrow.Author.Needs.{needs}
 use Rattle.list.proofs.code_of.Statement.{statement}
 use Rattle.list.proofs.code_of.Tie as tie

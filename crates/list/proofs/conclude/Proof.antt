@@ -1,4 +1,3 @@
-use mathlib.Core.Path.{refl, sym, ap, _∙_}
 use borrow.Author.Needs.{needs}
 use Rattle.list.proofs.conclude.Statement.{statement}
 use Rattle.list.proofs.conclude.Tie as tie

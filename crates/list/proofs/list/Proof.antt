@@ -1,4 +1,3 @@
-use mathlib.Core.Path.{refl, sym, ap, _∙_}
 use mir.Facts.{toZ-ofZ}
 use Rattle.list.proofs.Listing.{list-grounded}
 use borrow.Author.Needs.{needs}

@@ -1,5 +1,3 @@
-use mathlib.Core.Path.{refl, sym, ap, _∙_}
-use native.Mathlib.Omega.{arith}
 use mir.Facts.{toZ-ofZ}
 use Rattle.list.proofs.Listing.{groundless, list-refused, list-searched, codes-of}
 use borrow.Author.Needs.{needs}

@@ -1,6 +1,5 @@
-use mathlib.Core.Path.{refl, sym, ap, _∙_}
+use mathlib.Core.Path.{_∙_}
 use native.Mathlib.Omega.{arith}
-use lib.ListN.{length}
 use Rattle.checker.proofs.Analysing.{as-long}
 use Rattle.list.proofs.Building.{tokens-few, slots-long, understood, refused-so, translated}
 use borrow.Author.Needs.{needs}

@@ -1,5 +1,4 @@
 use borrow.Author.Needs.{needs}
-use native.Mathlib.Omega.{arith}
 use Prim.Native.Nat.{_≤_, _-_, _+_}
 use Rattle.program_cases.proofs.print_all.Statement.{statement}
 use Rattle.program_cases.proofs.print_all.Tie as tie
