@@ -12,8 +12,10 @@
 //! - `rule_files`: the rules of the folder `rules/`.
 //! - `linked`: the exported functions of the proved lister; `cases`: single
 //!   comparisons with them.
+//! - `documents`: what the documents cite, and the lines to be believed.
 
 pub mod cases;
+pub mod documents;
 pub mod examples;
 pub mod generate;
 pub mod lexer;

@@ -1,5 +1,5 @@
 -- What the tally of the code stands for.
-use Prim.Native.Nat.{_<_}
+use Prim.Native.Nat.{_^_, _<_}
 use Rattle.text_rules.specs.Rules.{Tally, tally}
 use Rattle.breaches.specs.declared.counts.Tally as C
 
@@ -8,6 +8,6 @@ abbrev pub tallied : C.Tally → Tally
 tallied t = tally (t .functions) (t .parameters) (t .declarations)
 
 pub record Room (t : C.Tally) : Type 0 where
-  pub functions : t .functions < 9223372036854775808
-  pub parameters : t .parameters < 9223372036854775808
-  pub declarations : t .declarations < 9223372036854775808
+  pub functions : t .functions < 2 ^ 63
+  pub parameters : t .parameters < 2 ^ 63
+  pub declarations : t .declarations < 2 ^ 63

@@ -2,17 +2,18 @@
 ghost use mathlib.Core.Path.{_≡_};
 ghost use Prim.Native.Nat.{_*_, _≤_};
 ghost use lib.ListN.{length};
-ghost use Rattle.events.specs.Stored.{stored};
+ghost use Rattle.events.specs.Stored.{eventWords, stored};
 ghost use Rattle.text_rules.specs.Scan.{on, least};
 ghost use Rattle.text_rules.specs.Spelling.{sameName};
 ghost use Rattle.text_rules.specs.Rules.{miscounted};
-ghost use Rattle.text_rules.specs.Answers.{event, place, leastWith, storedHeads};
+ghost use Rattle.events.specs.Read.{asEvent};
+ghost use Rattle.text_rules.specs.Answers.{headWords, place, leastWith, storedHeads};
+use events::event::Event;
+use events::event::event_at;
 use text_rules::broken::Broken;
 use text_rules::broken::lesser;
 use text_rules::heads::Found;
 use text_rules::heads::arity_of;
-use text_rules::item::Item;
-use text_rules::item::item_at;
 
 // What breaks the rule at one event, with what was found before.
 fn miscount(
@@ -21,14 +22,14 @@ fn miscount(
     values: &[u32],
     heads: &[u32],
     h: usize,
-    item: Item,
+    event: Event,
     best: Broken,
 ) -> Broken
-    requires { ⌜ 2 * h ≤ length (now heads) ⌝ }
-    ensures { λ r. ⌜ place r ≡ leastWith (miscounted (sameName (now (text .entry)) (now (places .entry)) (now (values .entry))) (storedHeads (now (heads .entry)) h) (event item)) (place best) ⌝ }
+    requires { ⌜ headWords * h ≤ length (now heads) ⌝ }
+    ensures { λ r. ⌜ place r ≡ leastWith (miscounted (sameName (now (text .entry)) (now (places .entry)) (now (values .entry))) (storedHeads (now (heads .entry)) h) (asEvent event)) (place best) ⌝ }
 {
-    match item {
-        Item::Calls { token, count } => {
+    match event {
+        Event::Calls { token, count } => {
             let arity = arity_of(text, places, values, heads, h, token);
             match arity {
                 Found::Nothing => best,
@@ -55,14 +56,14 @@ pub fn miscalls(
     heads: &[u32],
     h: usize,
 ) -> Broken
-    requires { ⌜ (3 * n ≤ length (now events)) × (2 * h ≤ length (now heads)) ⌝ }
+    requires { ⌜ (eventWords * n ≤ length (now events)) × (headWords * h ≤ length (now heads)) ⌝ }
     ensures { λ r. ⌜ place r ≡ least (on (miscounted (sameName (now (text .entry)) (now (places .entry)) (now (values .entry))) (storedHeads (now (heads .entry)) h)) (stored (now (events .entry)) n)) ⌝ }
 {
     let mut best = Broken::Nowhere;
     let mut i = 0;
     while i < n {
-        let item = item_at(events, i);
-        best = miscount(text, places, values, heads, h, item, best);
+        let event = event_at(events, i);
+        best = miscount(text, places, values, heads, h, event, best);
         i += 1;
     }
     best

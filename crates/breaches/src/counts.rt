@@ -2,40 +2,48 @@
 ghost use mathlib.Core.Path.{_≡_};
 ghost use Prim.Native.Nat.{_+_, _*_, _≤_};
 ghost use lib.ListN.{length};
-ghost use Rattle.events.specs.Stored.{stored};
+ghost use Rattle.events.specs.Stored.{eventWords, stored};
 ghost use Rattle.text_rules.specs.Scan.{least};
 ghost use Rattle.text_rules.specs.Rules.{counted, over, tooMany};
-ghost use Rattle.text_rules.specs.Answers.{event, place, leastWith};
+ghost use Rattle.events.specs.Read.{asEvent};
+ghost use Rattle.text_rules.specs.Answers.{place, leastWith};
 ghost use Rattle.breaches.specs.Answers.{tallied, Room};
+use events::event::Event;
+use events::event::event_at;
 use text_rules::broken::Broken;
 use text_rules::broken::lesser;
-use text_rules::item::Item;
-use text_rules::item::item_at;
+
+// How many there may be.
+const FUNCTIONS: usize = 16;
+
+const PARAMETERS: usize = 4;
+
+const DECLARATIONS: usize = 16;
 
 // How many functions so far, and of the present one how many parameters, and declarations with the parameters.
-pub struct Tally {
+struct Tally {
     pub functions: usize,
     pub parameters: usize,
     pub declarations: usize,
 }
 
 // The tally after one event.
-fn count(tally: Tally, item: Item) -> Tally
+fn count(tally: Tally, event: Event) -> Tally
     requires { ⌜ Room tally ⌝ }
-    ensures { λ r. ⌜ tallied r ≡ counted (tallied tally) (event item) ⌝ }
+    ensures { λ r. ⌜ tallied r ≡ counted (tallied tally) (asEvent event) ⌝ }
 {
-    match item {
-        Item::Function(_) => Tally {
+    match event {
+        Event::Function(_) => Tally {
             functions: tally.functions + 1,
             parameters: 0,
             declarations: 0,
         },
-        Item::Parameter(_) => Tally {
+        Event::Parameter(_) => Tally {
             functions: tally.functions,
             parameters: tally.parameters + 1,
             declarations: tally.declarations + 1,
         },
-        Item::Declares(_) => Tally {
+        Event::Declares(_) => Tally {
             functions: tally.functions,
             parameters: tally.parameters,
             declarations: tally.declarations + 1,
@@ -45,27 +53,27 @@ fn count(tally: Tally, item: Item) -> Tally
 }
 
 // What breaks the rule at one event, after those of the tally, with what was found before.
-fn exceeds(tally: Tally, item: Item, best: Broken) -> Broken
-    ensures { λ r. ⌜ place r ≡ leastWith (over (tallied tally) (event item)) (place best) ⌝ }
+fn exceeds(tally: Tally, event: Event, best: Broken) -> Broken
+    ensures { λ r. ⌜ place r ≡ leastWith (over (tallied tally) (asEvent event)) (place best) ⌝ }
 {
-    match item {
-        Item::Function(token) => {
-            if 16 <= tally.functions {
+    match event {
+        Event::Function(token) => {
+            if FUNCTIONS <= tally.functions {
                 return lesser(token, best);
             }
             best
         }
-        Item::Parameter(token) => {
-            if 4 <= tally.parameters {
+        Event::Parameter(token) => {
+            if PARAMETERS <= tally.parameters {
                 return lesser(token, best);
             }
-            if 16 <= tally.declarations {
+            if DECLARATIONS <= tally.declarations {
                 return lesser(token, best);
             }
             best
         }
-        Item::Declares(token) => {
-            if 16 <= tally.declarations {
+        Event::Declares(token) => {
+            if DECLARATIONS <= tally.declarations {
                 return lesser(token, best);
             }
             best
@@ -76,7 +84,7 @@ fn exceeds(tally: Tally, item: Item, best: Broken) -> Broken
 
 // The least of the names in n events that are one too many.
 pub fn too_many(events: &[u32], n: usize) -> Broken
-    requires { ⌜ 3 * n ≤ length (now events) ⌝ }
+    requires { ⌜ eventWords * n ≤ length (now events) ⌝ }
     ensures { λ r. ⌜ place r ≡ least (tooMany (stored (now (events .entry)) n)) ⌝ }
 {
     let mut tally = Tally {
@@ -87,9 +95,9 @@ pub fn too_many(events: &[u32], n: usize) -> Broken
     let mut best = Broken::Nowhere;
     let mut i = 0;
     while i < n {
-        let item = item_at(events, i);
-        best = exceeds(tally, item, best);
-        tally = count(tally, item);
+        let event = event_at(events, i);
+        best = exceeds(tally, event, best);
+        tally = count(tally, event);
         i += 1;
     }
     best

@@ -2,23 +2,8 @@
 use checker::Checked;
 use libc::STDIN_FILENO;
 use libc::STDOUT_FILENO;
-ghost use Prim.Native.Nat.{_≤_, _<_};
+ghost use Prim.Native.Nat.{_≤_};
 ghost use lib.ListN.{length};
-
-// The place of the next byte 1 from `at` on, or n.
-fn end_of(input: &[u8], at: usize, n: usize) -> usize
-    requires { ⌜ (at ≤ n) × (n ≤ length (now input)) ⌝ }
-    ensures { λ r. ⌜ (at ≤ r) × (r ≤ n) ⌝ }
-{
-    let mut end = at;
-    while end < n {
-        if input[end] == 1 {
-            return end;
-        }
-        end += 1;
-    }
-    end
-}
 
 fn wide(x: u16) -> u64 {
     x as u64
@@ -66,7 +51,7 @@ fn print_all(input: &[u8], n: usize)
 {
     let mut at = 0;
     while at < n {
-        let end = end_of(input, at, n);
+        let end = at + lines::place(&input[at..n], 1);
         print_answer(&input[at..end]);
         at = end + 1;
     }

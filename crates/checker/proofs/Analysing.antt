@@ -1,23 +1,24 @@
 -- A whole text, from what the lexer answers and what is settled of its tokens.
-use Prim.Native.Nat.{ℕ, zero, suc, _+_, _*_, _≤_, _<_}
+use Prim.Native.Nat.{ℕ, zero, suc, _+_, _≤_, _<_}
 use mathlib.Core.Path.{_≡_, refl, sym, ap, _∙_, subst}
-use mathlib.Core.Bool.{Bool, true, false}
-use mathlib.Core.List.{List, [], _∷_, _++_, map, map-append}
+use mathlib.Core.Bool.{true, false}
+use mathlib.Core.List.{List, [], _∷_, _++_, map-append}
 use native.Mathlib.Omega.{arith}
 use lib.ListN.{length, getD, take, length-take}
 use lib.Seq.{take-suc, length-sets}
 use lib.Dec.{eqb}
 use Rattle.syntax.specs.Token.{kEnd}
 use Rattle.lexer.specs.Lex as L
-use Rattle.lexer.specs.Lex.{Token, lexed, found}
+use Rattle.lexer.specs.Lex.{Token, lexed}
 use Rattle.lexer.specs.Parts as W
 use Rattle.lexer.specs.Parts.{Lexes, stored}
 use Rattle.lexer.specs.declared.Lexed.{Lexed}
 use Rattle.lexer.specs.declared.Lexed.the-variants as X
-use Rattle.lexer.proofs.Theorems.{Scans, Ended, the-end, before-end, lexed-tokens, end-last, count, stored-length, stored-kinds, stored-places}
+use Rattle.lexer.proofs.Theorems.{Ended, the-end, before-end, lexed-tokens, end-last, count, stored-length, stored-kinds, stored-places}
 use Rattle.grammar.specs.Text.{Tokens}
 use Rattle.checker.specs.Check.{Verdict, accepted, refused, checkedTokens, checked, kinds, places, values}
-use Rattle.checker.specs.Analysis.{Lent, Slices, Settles, Known, Analyses}
+use Rattle.checker.specs.Sizes.{TOKENS}
+use Rattle.checker.specs.Analysis.{Settles, Analyses}
 use Rattle.checker.specs.Analysis as N
 use Rattle.checker.specs.declared.Analysed.{Analysed}
 use Rattle.checker.specs.declared.Analysed.the-variants.{Refused, Fine}
@@ -69,17 +70,17 @@ as-long {n} l h = sym (length-take n l ∙ omega (arith, h))
 
 -- the slices keep their lengths
 module _ {text ks ps vs ks′ ps′ vs′ : List ℕ} {r : Lexed} (x : Lexes text ks ps vs ks′ ps′ vs′ r) where
-  pub kinds-long : length ks ≡ 2049 → length ks′ ≡ 2049
+  pub kinds-long : length ks ≡ TOKENS → length ks′ ≡ TOKENS
   kinds-long e = ap length (x .kinds) ∙ length-sets ks 0 (W.kindsOf (W.written text)) ∙ e
 
-  pub places-long : length ps ≡ 2049 → length ps′ ≡ 2049
+  pub places-long : length ps ≡ TOKENS → length ps′ ≡ TOKENS
   places-long e = ap length (x .places) ∙ length-sets ps 0 (W.placesOf (W.written text)) ∙ e
 
-  pub values-long : length vs ≡ 2049 → length vs′ ≡ 2049
+  pub values-long : length vs ≡ TOKENS → length vs′ ≡ TOKENS
   values-long e = ap length (x .values) ∙ length-sets vs 0 (W.valuesOf (W.written text)) ∙ e
 
 module _ {text ks ps vs : List ℕ} {n : ℕ} (x : Into text ks ps vs n) where
-  pub few-tokens : n ≤ 2049
+  pub few-tokens : n ≤ TOKENS
   few-tokens =
       let t = lexed-tokens text (stored n ks ps vs) (x .is) in
       omega (arith, t .0, count (t .1), stored-length n ks ps vs)
@@ -87,7 +88,7 @@ module _ {text ks ps vs : List ℕ} {n : ℕ} (x : Into text ks ps vs n) where
   pub token-list : n ≤ length ks → Tokens (take n ks)
   token-list h = subst Tokens (stored-kinds n ks ps vs h) (ends-in (end-last (lexed-tokens text (stored n ks ps vs) (x .is) .1)))
 
-  pub few-listed : n ≤ length ks → length (take n ks) ≤ 2049
+  pub few-listed : n ≤ length ks → length (take n ks) ≤ TOKENS
   few-listed h = omega (arith, as-long ks h, few-tokens)
 
   -- what check says is what is said of the tokens

@@ -1,6 +1,6 @@
 -- Check accepts a text exactly if it keeps every rule.
 use Prim.Native.Nat.{ℕ, _-_}
-use mathlib.Core.Path.{_≡_, refl, sym, ap, _∙_, subst}
+use mathlib.Core.Path.{_≡_, refl, sym, ap, _∙_}
 use mathlib.Core.Bool.{Bool}
 use mathlib.Core.List.{List, [], _∷_}
 use mathlib.Core.Logic.{_↔_}
@@ -21,7 +21,7 @@ use Rattle.text_rules.specs.Scan.{least, lesser}
 use Rattle.text_rules.specs.Spelling.{sameName, isMain}
 use Rattle.text_rules.specs.Rules.{tooDeep, miscalls, mainless, openEnds, tooMany}
 use Rattle.text_rules.specs.Names.{badNames}
-use Rattle.checker.specs.Check.{Verdict, accepted, refused, Fault, fault, Rule, rule, orElse, rules, firstBroken, verdict, rulesOf, checkedTokens, checked, kinds, places, values}
+use Rattle.checker.specs.Check.{accepted, refused, Fault, orElse, rules, firstBroken, verdict, rulesOf, checkedTokens, checked, kinds, places, values}
 use Rattle.checker.specs.Accepted.{KeepsRules}
 use Rattle.checker.proofs.Analysing.{ends-in}
 

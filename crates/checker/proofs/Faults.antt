@@ -1,19 +1,17 @@
 -- The first broken rule, from what each rule says.
-use Prim.Native.Nat.{ℕ, _*_, _≤_}
+use Prim.Native.Nat.{ℕ}
 use mathlib.Core.Path.{_≡_, refl, sym, ap, _∙_, subst}
 use mathlib.Core.Bool.{Bool}
 use mathlib.Core.List.{List}
-use mathlib.Core.Option.{Option, none, some}
-use lib.ListN.{length}
+use mathlib.Core.Option.{none}
 use Rattle.events.specs.Event.{Event}
 use Rattle.text_rules.specs.Scan.{least}
-use Rattle.text_rules.specs.Rules.{heads, tooDeep, miscalls, mainless, openEnds, tooMany}
-use Rattle.text_rules.specs.Names.{badNames}
+use Rattle.text_rules.specs.Rules.{heads, mainless}
 use Rattle.text_rules.specs.Answers.{storedHeads, place}
 use Rattle.text_rules.specs.declared.broken.Broken as B
 use Rattle.text_rules.specs.declared.broken.Broken.the-variants as b
 use Rattle.names.specs.Steps.{Named}
-use Rattle.checker.specs.Check.{Fault, fault, orElse, rules, firstBroken}
+use Rattle.checker.specs.Check.{fault, orElse, rules, firstBroken}
 use Rattle.checker.specs.Judge.{faultOf, Understands, unless, chosen, Ruled, Judges}
 use Rattle.checker.specs.declared.Judged.{Judged}
 use Rattle.checker.specs.declared.Judged.the-variants.{Broken, Kept}

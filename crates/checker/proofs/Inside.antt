@@ -93,11 +93,11 @@ module _ (m : ℕ) where
   -- ---- rules 6 and 7
 
   module _ (same : ℕ → ℕ → Bool) where
-    low-found : {i : ℕ} (o : Option ℕ) → i < m → Low m (ifFound same o i)
+    low-found : {i : ℕ} (o : Option ℕ) → i < m → Low m (ifFound o i)
     low-found none h = nil
     low-found (some n) h = more h nil
 
-    low-unless : {i : ℕ} (o : Option ℕ) → i < m → Low m (unlessFound same o i)
+    low-unless : {i : ℕ} (o : Option ℕ) → i < m → Low m (unlessFound o i)
     low-unless none h = more h nil
     low-unless (some n) h = nil
 
@@ -130,7 +130,7 @@ module _ (m : ℕ) where
     low-repeated before no-heads = nil
     low-repeated before (head {h = x} h l) = low-append (low-found (functionOf same before (x .name)) h) (low-repeated (before ++ x ∷ []) l)
 
-    low-wrong : {i : ℕ} (o : Option ℕ) (n : ℕ) → i < m → Low m (wrong same o i n)
+    low-wrong : {i : ℕ} (o : Option ℕ) (n : ℕ) → i < m → Low m (wrong o i n)
     unfolding wrong
     low-wrong none n h = nil
     low-wrong (some k) n h = low-when (not (eqb k n)) h
@@ -164,12 +164,12 @@ module _ (m : ℕ) where
         go true k = head h k
         go false k = k
 
-    low-parameters : {hs : List Head} → Heads hs → Low m (withParameters isMain hs)
+    low-parameters : {hs : List Head} → Heads hs → Low m (withParameters hs)
     unfolding withParameters
     low-parameters no-heads = nil
     low-parameters (head {h = x} h l) = low-append (low-when (ltb 0 (x .arity)) h) (low-parameters l)
 
-    low-main : {end : ℕ} → end < m → {hs : List Head} → Heads hs → Low m (badMain isMain end hs)
+    low-main : {end : ℕ} → end < m → {hs : List Head} → Heads hs → Low m (badMain end hs)
     unfolding badMain
     low-main e no-heads = more e nil
     low-main e (head h l) = low-parameters (head h l)

@@ -1,22 +1,20 @@
 -- The rules of a tree, from what the walk and the rules answer.
 use Prim.Native.Nat.{ℕ, _-_, _*_, _≤_}
 use native.Mathlib.Omega.{arith}
-use mathlib.Core.Path.{_≡_, refl, sym, ap, _∙_, subst}
-use mathlib.Core.Bool.{Bool}
+use mathlib.Core.Path.{_≡_, sym, subst}
 use mathlib.Core.List.{List}
-use mathlib.Core.Option.{Option, none, some}
-use lib.ListN.{length, getD}
+use mathlib.Core.Option.{Option}
+use lib.ListN.{length}
 use Rattle.syntax.specs.Ast as A
 use Rattle.syntax.specs.Ast.{Ast}
-use Rattle.syntax.specs.Table.{Holds}
 use Rattle.events.specs.Event as E
 use Rattle.events.specs.Stored.{stored}
 use Rattle.events.specs.Walk.{Ready, Walked}
 use Rattle.text_rules.specs.Spelling.{sameName, isMain}
-use Rattle.checker.specs.Check.{Verdict, Fault, fault, verdict, rulesOf, firstBroken}
+use Rattle.checker.specs.Check.{Fault, fault, verdict, rulesOf, firstBroken}
 use Rattle.checker.specs.Judge.{faultOf, Judges}
 use Rattle.checker.specs.Judge as J
-use Rattle.checker.specs.Analysis.{concluded, Kept′, Inspects, refuses, accepts, Inspected}
+use Rattle.checker.specs.Analysis.{concluded, Inspects, refuses, accepts, Inspected}
 use Rattle.checker.specs.declared.Judged.{Judged}
 use Rattle.checker.specs.declared.Judged.the-variants.{Broken, Kept}
 

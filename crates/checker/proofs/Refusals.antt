@@ -1,8 +1,9 @@
--- What each refusal of check says of its text.
+-- What each refusal of check says of its text, and that check refuses whatever it says so of.
 use Prim.Native.Nat.{ℕ, zero, suc, _≤_, _<_}
 use mathlib.Core.Path.{_≡_, refl, sym, ap, _∙_, subst}
 use mathlib.Core.Bool.{Bool, true, false, cond}
-use mathlib.Core.List.{List, [], _∷_, List·Memᴰ·head as here, List·Memᴰ·tail as there, List·Memᴰ·not-nil as nowhere}
+use mathlib.Core.List.{List, [], _∷_, _++_, List·Memᴰ·head as here, List·Memᴰ·tail as there, List·Memᴰ·not-nil as nowhere}
+use mathlib.Core.Logic.{_↔_}
 use mathlib.Core.Option.{Option, none, some}
 use native.Mathlib.Omega.{arith}
 use lib.ListN.{length, getD}
@@ -11,7 +12,7 @@ use borrow.Author.Tests.{leb-true, leb-false}
 use Rattle.lexer.specs.Lex as L
 use Rattle.lexer.specs.Lex.{Token, lexed}
 use Rattle.lexer.proofs.Theorems as X
-use Rattle.lexer.proofs.Theorems.{Right, Ascending, no-more, above, ascending, lexed-right, lexed-tokens}
+use Rattle.lexer.proofs.Theorems.{Right, Ascending, no-more, above, ascending, lexed-right, lexed-only, lexed-tokens}
 use Rattle.syntax.specs.Tree.{Tree, prog}
 use Rattle.syntax.specs.Abstract.{ast}
 use Rattle.grammar.specs.Parse.{Res, parsed, ok, bad}
@@ -21,9 +22,10 @@ use Rattle.events.specs.Event.{events}
 use Rattle.text_rules.specs.Scan.{least, lesser}
 use Rattle.text_rules.specs.Spelling.{sameName, isMain}
 use Rattle.semantics.specs.Demand.{_∈_}
-use Rattle.checker.specs.Check.{Verdict, accepted, refused, Fault, Rule, orElse, firstBroken, verdict, rulesOf, checkedTokens, checked, kinds, places, values}
-use Rattle.checker.specs.Refusal.{Breaks, Refusal, too-long, no-token, too-large, no-program, breaks-rule}
-use Rattle.checker.proofs.Exactly.{least-none, token-list}
+use Rattle.checker.specs.Check.{Verdict, accepted, refused, Fault, fault, Rule, orElse, firstBroken, verdict, rulesOf, checkedTokens, checked, kinds, places, values}
+use Rattle.checker.specs.Accepted.{KeepsRules}
+use Rattle.checker.specs.Refusal.{Smallest, Breaks, Refusal, too-long, no-token, too-large, no-program, breaks-rule}
+use Rattle.checker.proofs.Exactly.{least-none, token-list, read-so, exactly}
 use Rattle.checker.proofs.Inside.{Low, low-at, Lows, also, broken-low}
 
 -- ---- the least of a list
@@ -73,15 +75,28 @@ places-ascend (above q a) (suc i) (suc j) h k = places-ascend a i j (omega (arit
 
 -- ---- the first rule that is broken
 
+none-before : (r : Rule) → r ∈ [] → r .broken ≡ []
+none-before r m = absurd (nowhere m)
+
+-- it is found
+finds : (before : List Rule) (r : Rule) (after : List Rule) (i : ℕ) → ((q : Rule) → q ∈ before → q .broken ≡ []) → least (r .broken) ≡ some i → firstBroken (before ++ r ∷ after) ≡ some (fault (r .number) i)
+unfolding firstBroken least
+finds [] r after i k e = rw (e, firstBroken)
+finds (q ∷ qs) r after i k e = rw (k q (here refl), firstBroken) (finds qs r after i (λ x m. k x (there m)) e)
+
+-- what a fault says
+abbrev Found : List Token → List Rule → Option Fault → Type 0
+Found ts rs none = Unit
+Found ts rs (some f) = Breaks ts rs (f .number) (getD (places ts) (f .token) 0)
+
+later : {ts : List Token} {rs : List Rule} {n p : ℕ} (r : Rule) → r .broken ≡ [] → Breaks ts rs n p → Breaks ts (r ∷ rs) n p
+later r e b = record { before = r ∷ b .before; broken = b .broken; after = b .after; order = ap (λ (l : List Rule). r ∷ l) (b .order); kept = kept; number = b .number; place = b .place }
+  where
+    kept : (q : Rule) → q ∈ r ∷ b .before → q .broken ≡ []
+    kept q (here f) = ap (λ (x : Rule). x .broken) f ∙ e
+    kept q (there m) = b .kept q m
+
 module _ (ts : List Token) (a : Ascending 0 ts) where
-  -- what a fault says
-  abbrev Found : List Rule → Option Fault → Type 0
-  Found rs none = Unit
-  Found rs (some f) = Breaks ts rs (f .number) (getD (places ts) (f .token) 0)
-
-  none-before : (r : Rule) → r ∈ [] → r .broken ≡ []
-  none-before r m = absurd (nowhere m)
-
   now : (r : Rule) (rs : List Rule) (i : ℕ) → Low (length ts) (r .broken) → least (r .broken) ≡ some i → Breaks ts (r ∷ rs) (r .number) (getD (places ts) i 0)
   now r rs i l e =
       let s = least-so (r .broken) i e in
@@ -95,22 +110,31 @@ module _ (ts : List Token) (a : Ascending 0 ts) where
         place = record { token = i; breaks = s .among; stands = refl; inside = low-at l; smallest = λ j m. places-ascend a i j (s .lowest j m) (low-at l j m) };
       }
 
-  later : {rs : List Rule} {n p : ℕ} (r : Rule) → r .broken ≡ [] → Breaks ts rs n p → Breaks ts (r ∷ rs) n p
-  later r e b = record { before = r ∷ b .before; broken = b .broken; after = b .after; order = ap (λ (l : List Rule). r ∷ l) (b .order); kept = kept; number = b .number; place = b .place }
-    where
-      kept : (q : Rule) → q ∈ r ∷ b .before → q .broken ≡ []
-      kept q (here f) = ap (λ (x : Rule). x .broken) f ∙ e
-      kept q (there m) = b .kept q m
-
-  first-found : (rs : List Rule) → Lows (length ts) rs → Found rs (firstBroken rs)
+  first-found : (rs : List Rule) → Lows (length ts) rs → Found ts rs (firstBroken rs)
   unfolding firstBroken
   first-found [] l = tt
   first-found (r ∷ rs) (also l ls) = go (least (r .broken)) refl (firstBroken rs) (first-found rs ls)
     where
-      go : (o : Option ℕ) → least (r .broken) ≡ o → (f : Option Fault) → Found rs f → Found (r ∷ rs) (orElse (r .number) o f)
+      go : (o : Option ℕ) → least (r .broken) ≡ o → (f : Option Fault) → Found ts rs f → Found ts (r ∷ rs) (orElse (r .number) o f)
       go none e none b = tt
       go none e (some f) b = later r (least-none (r .broken) e) b
       go (some i) e f b = now r rs i l e
+
+  -- the place of the least of the tokens is the smallest
+  least-place : (is : List ℕ) (p i : ℕ) → Smallest ts is p → least is ≡ some i → getD (places ts) i 0 ≡ p
+  least-place is p i s e =
+      let l = least-so is i e in
+      omega (arith, s .stands, s .smallest i (l .among), places-ascend a i (s .token) (l .lowest (s .token) (s .breaks)) (s .inside (s .token) (s .breaks)))
+
+  breaks-only : (rs : List Rule) (n p : ℕ) → Breaks ts rs n p → verdict (places ts) (firstBroken rs) ≡ refused n p
+  breaks-only rs n p b = go (least (b .broken .broken)) refl
+    where
+      go : (o : Option ℕ) → least (b .broken .broken) ≡ o → verdict (places ts) (firstBroken rs) ≡ refused n p
+      go none e = absurd (nowhere (subst (λ (l : List ℕ). b .place .token ∈ l) (least-none (b .broken .broken) e) (b .place .breaks)))
+      go (some i) e =
+          let f : firstBroken rs ≡ some (fault (b .broken .number) i) = ap firstBroken (b .order) ∙ finds (b .before) (b .broken) (b .after) i (b .kept) e in
+          let q = least-place (b .broken .broken) p i (b .place) e in
+          ap (verdict (places ts)) f ∙ ap (λ (m : ℕ). refused m (getD (places ts) i 0)) (sym (b .number)) ∙ ap (refused n) q
 
 -- ---- every refusal
 
@@ -147,7 +171,7 @@ module _ (text : List ℕ) where
       low : Lows (length ts) rs
       low = subst (λ (m : ℕ). Lows m rs) (length-kinds ts) (broken-low (kinds ts) t k (sameName text (places ts) (values ts)) (isMain text (places ts) (values ts)))
 
-      go : (o : Option Fault) → Found ts (ascending (lexed-tokens text ts l .1)) rs o → Says text (verdict (places ts) o)
+      go : (o : Option Fault) → Found ts rs o → Says text (verdict (places ts) o)
       go none b = tt
       go (some f) b = breaks-rule l k b
 
@@ -168,3 +192,30 @@ module _ (text : List ℕ) where
   -- THEOREM. Whatever check refuses, it refuses on the grounds of document 01, with this number and at this place.
   pub refused-so : (n p : ℕ) → checked text ≡ refused n p → Refusal text n p
   refused-so n p e = subst (Says text) e says
+
+  -- numbers 1 to 3
+  lexer-refuses : (n p : ℕ) → Right text (L.refused n p) → checked text ≡ refused n p
+  unfolding checked
+  lexer-refuses n p r = rw (lexed-only text r, checked)
+
+  -- THEOREM. Whatever these grounds hold of is refused by check, with this number and at this place.
+  pub refused-only : (n p : ℕ) → Refusal text n p → checked text ≡ refused n p
+  unfolding checked checkedTokens
+  refused-only n p (too-long h) = lexer-refuses n p (X.too-long h)
+  refused-only n p (no-token h s) = lexer-refuses n p (X.no-token h s)
+  refused-only n p (too-large h s f) = lexer-refuses n p (X.too-large h s f)
+  refused-only n p (no-program {ts = ts} l b) = rw (l, checked) (rw (Q.refuses (kinds ts) (token-list text ts l) b, checkedTokens))
+  refused-only n p (breaks-rule {ts = ts} {t = t} l k b) =
+      rw (l, checked) (rw (read-so (kinds ts) t k, checkedTokens) (breaks-only ts (ascending (lexed-tokens text ts l .1)) _ n p b))
+
+  -- THEOREM. Check refuses a text with a number at a place exactly if it has these grounds.
+  pub refusal-exact : (n p : ℕ) → (checked text ≡ refused n p) ↔ Refusal text n p
+  refusal-exact n p = (refused-so n p, refused-only n p)
+
+  -- so a text has at most one number and place
+  pub refusal-once : {m n p q : ℕ} → Refusal text m p → Refusal text n q → (m ≡ n) × (p ≡ q)
+  refusal-once {m} {n} {p} {q} a b = let e : refused m p ≡ refused n q = sym (refused-only m p a) ∙ refused-only n q b in (cc, cc)
+
+  -- and one that keeps every rule has none
+  pub kept-unrefused : {n p : ℕ} → KeepsRules text → Refusal text n p → ⊥
+  kept-unrefused {n} {p} k r = let e : accepted ≡ refused n p = sym (exactly text .1 k) ∙ refused-only n p r in let z : _≡_ {A = ℕ} 0 1 = cc in omega arith

@@ -1,29 +1,28 @@
 -- The tokens of a text, from what the parser and the rules of the tree answer.
-use Prim.Native.Nat.{ℕ, suc, _+_, _*_, _≤_, _<_}
-use mathlib.Core.Path.{_≡_, refl, sym, ap, _∙_, subst}
+use Prim.Native.Nat.{ℕ, _+_, _*_, _≤_}
+use mathlib.Core.Path.{_≡_, refl, ap, _∙_, subst}
 use mathlib.Core.List.{List, [], _∷_}
-use mathlib.Core.Option.{Option, none, some}
+use mathlib.Core.Option.{none}
 use native.Mathlib.Omega.{arith}
 use lib.ListN.{length, getD}
 use Rattle.syntax.specs.Tree as T
-use Rattle.syntax.specs.Tree.{Tree, onto, width, numbered}
+use Rattle.syntax.specs.Tree.{Tree, width}
 use Rattle.syntax.specs.Token.{kEnd}
 use Rattle.syntax.specs.Abstract.{ast}
 use Rattle.syntax.specs.Table.{Holds}
 use Rattle.grammar.specs.Parse.{Res, ok, bad, parsed}
 use Rattle.grammar.specs.Answer as G
-use Rattle.grammar.specs.Text.{Tokens}
 use Rattle.grammar.specs.declared.Parsed.the-variants as P
 use Rattle.grammar.proofs.Grammar.{kept}
-use Rattle.events.specs.Event as E
 use Rattle.events.specs.Walk.{Ready}
 use Rattle.events.proofs.Widths.{onto-length}
 use Rattle.events.proofs.Enough.{ready}
-use Rattle.checker.specs.Check.{Verdict, accepted, refused, verdict, firstBroken, rulesOf, checkedTokens}
-use Rattle.checker.specs.Analysis.{Inspects, Inspected, Kept′, Known, Settles, Lent}
+use Rattle.checker.specs.Check.{Verdict, checkedTokens}
+use Rattle.checker.specs.Sizes.{NODES}
+use Rattle.checker.specs.Analysis.{Inspects, Inspected, Settles, Lent}
 use Rattle.checker.specs.Analysis as N
 use Rattle.checker.specs.declared.Analysed.{Analysed}
-use Rattle.checker.specs.declared.Analysed.the-variants.{Refused, Fine}
+use Rattle.checker.specs.declared.Analysed.the-variants.{Refused}
 
 pub can-parse : {ks nodes items heads scope : List ℕ} → Lent ks nodes items heads scope → G.Tabled ks nodes
 can-parse h = record { filled = h .tokens .filled; few = omega (arith, h .few); room = omega (arith, h .few, h .table); ends = h .tokens .ends }
@@ -55,7 +54,7 @@ module _ (text ks ps vs nodes items heads before slots : List ℕ) where
   unfolding checkedTokens
   settles-bad e = rw (e, checkedTokens) N.refuses
 
-  pub settles-tree : {root : ℕ} {r : Analysed} → (h : Read nodes root (parsed ks)) → length nodes ≡ 20490
+  pub settles-tree : {root : ℕ} {r : Analysed} → (h : Read nodes root (parsed ks)) → length nodes ≡ NODES
       → Inspected text ps vs nodes items heads before slots (length ks) root r
       → Settles text ks ps vs nodes items heads before slots r (checkedTokens text ks ps vs)
   unfolding checkedTokens

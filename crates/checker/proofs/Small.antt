@@ -1,18 +1,19 @@
 -- The place of a refusal is at most 2,048.
-use Prim.Native.Nat.{ℕ, zero, suc, _+_, _≤_, _<_}
-use mathlib.Core.Path.{_≡_, refl, sym, ap, _∙_, subst}
-use mathlib.Core.List.{List, [], _∷_}
+use Prim.Native.Nat.{ℕ, zero, suc, _≤_}
+use mathlib.Core.Path.{_≡_, refl}
+use mathlib.Core.List.{List, []}
 use mathlib.Core.Option.{Option, none, some}
 use native.Mathlib.Omega.{arith}
 use lib.ListN.{length, getD, length-drop}
 use Rattle.lexer.specs.Lex as L
-use Rattle.lexer.specs.Lex.{Token, Scanned, lexed, found, stray}
-use Rattle.lexer.proofs.Theorems.{Scans, ended, strayed, next, next-stray, Right, has-tokens, too-long, no-token, too-large, FirstLarge, here, there, lexed-right}
+use Rattle.lexer.specs.Lex.{Token, lexed, found, stray}
+use Rattle.lexer.specs.Tokens.{Scans, ended, strayed, next, next-stray, FirstLarge, here, there}
+use Rattle.lexer.proofs.Theorems.{Right, has-tokens, too-long, no-token, too-large, lexed-right}
 use Rattle.grammar.specs.Parse.{Res, ok, bad, parsed}
 use Rattle.syntax.specs.Tree as T
 use Rattle.syntax.specs.Abstract.{ast}
 use Rattle.events.specs.Event as E
-use Rattle.checker.specs.Check.{Verdict, accepted, refused, Fault, fault, verdict, firstBroken, rulesOf, checkedTokens, checked, kinds, places, values}
+use Rattle.checker.specs.Check.{Verdict, accepted, refused, Fault, verdict, firstBroken, rulesOf, checkedTokens, checked, kinds, places, values}
 
 -- a verdict whose place, if it has one, is at most n
 pub data Within (n : ℕ) : Verdict → Type 0 where

@@ -1,5 +1,4 @@
 -- Texts of document 01 and what check answers, in one table under one proof.
-use Prim.Native.Nat.{ℕ}
 use Prim.Native.String.{String}
 use mathlib.Core.Path.{_≡_, refl}
 use mathlib.Core.List.{List, [], _∷_, map}

@@ -1,4 +1,5 @@
--- What it means that a text keeps every rule, without a word of readers, numbers and places. That check accepts exactly these texts is proved in proofs/Exactly.
+-- What it means that a text keeps every rule, said of its tokens, which `lexed` gives with their kinds, places and values, and of a tree that has them.
+-- No reader of the grammar stands in it, and no refusal. That check accepts exactly these texts is proved in proofs/Exactly.
 use Prim.Native.Nat.{ℕ, _-_}
 use mathlib.Core.Path.{_≡_}
 use mathlib.Core.List.{List, []}

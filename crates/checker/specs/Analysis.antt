@@ -20,6 +20,7 @@ use Rattle.text_rules.specs.Rules as R
 use Rattle.text_rules.specs.Names.{meanings, meant}
 use Rattle.text_rules.specs.Answers.{storedHeads}
 use Rattle.checker.specs.Check.{Verdict, accepted, refused, firstBroken, verdict, rulesOf}
+use Rattle.checker.specs.Sizes.{TOKENS, NODES, EVENTS, HEADS, SCOPE}
 use Rattle.checker.specs.declared.Judged.{Judged}
 use Rattle.checker.specs.declared.Judged.the-variants.{Broken, Kept}
 use Rattle.checker.specs.declared.Analysed.{Analysed}
@@ -39,7 +40,8 @@ pub record Kept′ (text ps vs items heads before slots : List ℕ) (p : Ast A.p
   pub functions : storedHeads heads h ≡ R.heads (E.events p)
   pub means : (i : ℕ) → i < length before → getD slots i 0 ≡ meant (λ j. getD before j 0) (meanings (sameName text ps vs) (E.events p)) i
 
--- an accepted text with the tokens ks, ps, vs (kinds, places, values): its tree stands at node `root`, its e events, its h functions and each token's meaning stand in the slices. `before` is what the slice of meanings held
+-- an accepted text with the tokens ks, ps, vs (kinds, places, values): its tree stands at node `root`, its e events, its h functions and each token's meaning stand in the slices.
+-- `before` is what the slice of meanings held
 pub record Known (text ks ps vs nodes items heads before slots : List ℕ) (root e h : ℕ) : Type 0 where
   pub tree : Tree prog
   pub after : ℕ
@@ -58,7 +60,8 @@ pub data Settles (text ks ps vs nodes items heads before slots : List ℕ) : Ana
 -- a text is refused as check refuses it, or the slices hold what is known; its n tokens stand in the first places of ks, ps, vs
 pub data Analyses (text ks ps vs nodes items heads before slots : List ℕ) : Analysed → Verdict → Type 0 where
   rejects : {n p : ℕ} → Analyses text ks ps vs nodes items heads before slots (Refused n p) (refused n p)
-  has : {n root e h : ℕ} → lexed text ≡ tokens (L.stored n ks ps vs) → Known text (take n ks) (take n ps) (take n vs) nodes items heads before slots root e h → Analyses text ks ps vs nodes items heads before slots (Fine n root e h) accepted
+  has : {n root e h : ℕ} → lexed text ≡ tokens (L.stored n ks ps vs) → Known text (take n ks) (take n ps) (take n vs) nodes items heads before slots root e h
+      → Analyses text ks ps vs nodes items heads before slots (Fine n root e h) accepted
 
 -- ---- the steps of the analysis
 
@@ -69,7 +72,8 @@ concluded ps n root e (Kept h) = Fine n root e h
 
 pub data Inspects (text ps vs items heads before slots : List ℕ) (n root : ℕ) (p : Ast A.prog) : Analysed → Verdict → Type 0 where
   refuses : {c q : ℕ} → Inspects text ps vs items heads before slots n root p (Refused c q) (refused c q)
-  accepts : {e h : ℕ} → firstBroken (rulesOf text ps vs n (E.events p)) ≡ none → Kept′ text ps vs items heads before slots p e h → Inspects text ps vs items heads before slots n root p (Fine n root e h) accepted
+  accepts : {e h : ℕ} → firstBroken (rulesOf text ps vs n (E.events p)) ≡ none → Kept′ text ps vs items heads before slots p e h
+      → Inspects text ps vs items heads before slots n root p (Fine n root e h) accepted
 
 pub record Inspected (text ps vs nodes items heads before slots : List ℕ) (n root : ℕ) (r : Analysed) : Type 0 where
   pub inspects : (p : Ast A.prog) → Holds nodes root p → Inspects text ps vs items heads before slots n root p r (verdict ps (firstBroken (rulesOf text ps vs n (E.events p))))
@@ -77,18 +81,18 @@ pub record Inspected (text ps vs nodes items heads before slots : List ℕ) (n r
 -- what is lent for a text's tokens ks: a token list, room for the tree, its events, its functions and its scope
 pub record Lent (ks nodes items heads scope : List ℕ) : Type 0 where
   pub tokens : Tokens ks
-  pub few : length ks ≤ 2049
-  pub table : length nodes ≡ 20490
-  pub words : length items ≡ 12288
-  pub functions : 8192 ≤ length heads
-  pub blocks : 12288 ≤ length scope
+  pub few : length ks ≤ TOKENS
+  pub table : length nodes ≡ NODES
+  pub words : length items ≡ EVENTS
+  pub functions : HEADS ≤ length heads
+  pub blocks : SCOPE ≤ length scope
 
 -- what is lent for any text
 pub record Slices (ks ps vs nodes items heads scope : List ℕ) : Type 0 where
-  pub kinds : length ks ≡ 2049
-  pub places : length ps ≡ 2049
-  pub values : length vs ≡ 2049
-  pub table : length nodes ≡ 20490
-  pub words : length items ≡ 12288
-  pub functions : 8192 ≤ length heads
-  pub blocks : 12288 ≤ length scope
+  pub kinds : length ks ≡ TOKENS
+  pub places : length ps ≡ TOKENS
+  pub values : length vs ≡ TOKENS
+  pub table : length nodes ≡ NODES
+  pub words : length items ≡ EVENTS
+  pub functions : HEADS ≤ length heads
+  pub blocks : SCOPE ≤ length scope

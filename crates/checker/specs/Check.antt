@@ -1,4 +1,4 @@
--- Check (document 01, "The three operations and the program"): what it answers for every text.
+-- Check (document 01, "The three operations and the program"): what it answers for every text, and the program of a text that the grammar accepts.
 use Prim.Native.Nat.{ℕ, _-_}
 use mathlib.Core.Bool.{Bool}
 use mathlib.Core.List.{List, [], _∷_, map}
@@ -7,14 +7,12 @@ use lib.ListN.{length, getD}
 use Rattle.lexer.specs.Lex as L
 use Rattle.lexer.specs.Lex.{Token, lexed}
 use Rattle.syntax.specs.Tree.{Tree, prog}
-use Rattle.syntax.specs.Ast.{Ast}
-use Rattle.syntax.specs.Ast as A
 use Rattle.syntax.specs.Abstract.{ast}
 use Rattle.grammar.specs.Parse.{parsed, ok, bad}
 use Rattle.events.specs.Event.{Event, events}
 use Rattle.text_rules.specs.Scan.{least}
 use Rattle.text_rules.specs.Spelling.{sameName, isMain}
-use Rattle.text_rules.specs.Rules.{Head, heads, tooDeep, miscalls, mainless, openEnds, tooMany}
+use Rattle.text_rules.specs.Rules.{heads, tooDeep, miscalls, mainless, openEnds, tooMany}
 use Rattle.text_rules.specs.Names.{badNames, meanings, meant}
 use Rattle.text_rules.specs.Resolve.{resolved}
 use Rattle.semantics.specs.Program.{Program}

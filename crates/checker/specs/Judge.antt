@@ -46,7 +46,7 @@ pub record Ruled (same : ℕ → ℕ → Bool) (isMain : ℕ → Bool) (end : �
   pub is : r ≡ chosen deep misnamed miscalled mainless unended many h
   pub rule5 : place deep ≡ least (tooDeep es)
   pub rule7 : place miscalled ≡ least (on (miscounted same hs) es)
-  pub rule8 : place mainless ≡ least (badMain isMain end (mains isMain hs))
+  pub rule8 : place mainless ≡ least (badMain end (mains isMain hs))
   pub rule9 : place unended ≡ least (openEnds es)
   pub rule10 : place many ≡ least (tooMany es)
 

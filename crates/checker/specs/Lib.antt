@@ -1,5 +1,6 @@
 -- Check.
 pub mod Check
+pub mod Sizes
 pub mod Accepted
 pub mod Refusal
 pub mod Judge

@@ -1,11 +1,11 @@
--- What a refusal says of a text (document 01, "Check"), number by number, without readers. That each refusal says this is proved in proofs/Refusals.
+-- What a refusal says of a text (document 01, "Check"), number by number, without the readers of the grammar. That check refuses exactly so is proved in proofs/Refusals.
 use Prim.Native.Nat.{ℕ, _≤_, _<_}
 use mathlib.Core.Path.{_≡_}
 use mathlib.Core.List.{List, [], _∷_, _++_}
 use lib.ListN.{length, getD}
 use Rattle.lexer.specs.Lex as L
 use Rattle.lexer.specs.Lex.{Token, lexed, found, stray}
-use Rattle.lexer.proofs.Theorems.{Scans, FirstLarge}
+use Rattle.lexer.specs.Tokens.{Scans, FirstLarge}
 use Rattle.syntax.specs.Tree.{Tree, prog}
 use Rattle.syntax.specs.Abstract.{ast}
 use Rattle.grammar.specs.Text as G

@@ -6,15 +6,19 @@ ghost use Rattle.events.specs.Stored.{stored};
 ghost use Rattle.text_rules.specs.Spelling.{sameName, isMain};
 ghost use Rattle.text_rules.specs.Answers.{storedHeads};
 ghost use Rattle.events.specs.Walk.{Ready};
+ghost use Rattle.checker.specs.Sizes.{EVENTS, HEADS, SCOPE};
 ghost use Rattle.checker.specs.Judge.{unless, chosen, Ruled, Judges};
 ghost use Rattle.checker.specs.Check.{checkedTokens, checked};
 ghost use Rattle.checker.specs.Analysis.{concluded, Inspected, Lent, Settles, Slices, Analyses, verdictOf};
 use grammar::Parsed;
 use lexer::Lexed;
 use text_rules::broken::Broken;
+use text_rules::spelling::word;
+
+pub mod sizes;
 
 // What the rules 5 to 10 say of a text: the number of a broken one with the first token that breaks it, or how many functions there are.
-pub enum Judged {
+enum Judged {
     Broken(u32, usize),
     Kept(usize),
 }
@@ -62,7 +66,9 @@ fn rule_all(
     misnamed: Broken,
 ) -> Judged
     requires { ⌜ (3 * n ≤ length (now events)) × (2 * h ≤ length (now heads)) ⌝ }
-    ensures { λ r. ⌜ Ruled (sameName (now (text .entry)) (now (places .entry)) (now (values .entry))) (isMain (now (text .entry)) (now (places .entry)) (now (values .entry))) end (stored (now (events .entry)) n) (storedHeads (now (heads .entry)) h) h misnamed r ⌝ }
+    ensures { λ r. ⌜ Ruled (sameName (now (text .entry)) (now (places .entry)) (now (values .entry)))
+        (isMain (now (text .entry)) (now (places .entry)) (now (values .entry)))
+        end (stored (now (events .entry)) n) (storedHeads (now (heads .entry)) h) h misnamed r ⌝ }
 {
     let deep = breaches::depth::too_deep(events, n);
     let miscalled = breaches::calls::miscalls(text, places, values, events, n, heads, h);
@@ -85,7 +91,9 @@ fn judge(
     slots: &mut [u32],
 ) -> Judged
     requires { ⌜ (3 * n ≤ length (now events)) × (2 * n ≤ length (now heads)) × (3 * n ≤ length (now scope)) × (n < 4294967296) ⌝ }
-    ensures { λ r. ⌜ Judges (sameName (now (text .entry)) (now (places .entry)) (now (values .entry))) (isMain (now (text .entry)) (now (places .entry)) (now (values .entry))) end (stored (now (events .entry)) n) (now (slots .entry)) (now (slots .exit)) (now (heads .exit)) r ⌝ }
+    ensures { λ r. ⌜ Judges (sameName (now (text .entry)) (now (places .entry)) (now (values .entry)))
+        (isMain (now (text .entry)) (now (places .entry)) (now (values .entry)))
+        end (stored (now (events .entry)) n) (now (slots .entry)) (now (slots .exit)) (now (heads .exit)) r ⌝ }
 {
     let h = text_rules::heads::collect_heads(events, n, heads);
     let misnamed = names::resolve(text, places, values, events, n, heads, h, scope, slots);
@@ -114,7 +122,7 @@ fn conclude(places: &[u32], judged: Judged, tokens: usize, root: usize, events: 
     ensures { λ r. ⌜ r ≡ concluded (now (places .entry)) tokens root events judged ⌝ }
 {
     match judged {
-        Judged::Broken(number, i) => Analysed::Refused(number, text_rules::spelling::word(places, i)),
+        Judged::Broken(number, i) => Analysed::Refused(number, word(places, i)),
         Judged::Kept(functions) => Analysed::Fine {
             tokens,
             root,
@@ -137,8 +145,10 @@ fn inspect(
     scope: &mut [u32],
     slots: &mut [u32],
 ) -> Analysed
-    requires { ⌜ Ready (now nodes) root (now items) × (length (now items) ≡ 12288) × (8192 ≤ length (now heads)) × (12288 ≤ length (now scope)) × (0 < n) ⌝ }
-    ensures { λ r. ⌜ Inspected (now (text .entry)) (now (places .entry)) (now (values .entry)) (now (nodes .entry)) (now (items .exit)) (now (heads .exit)) (now (slots .entry)) (now (slots .exit)) n root r ⌝ }
+    requires { ⌜ Ready (now nodes) root (now items) × (length (now items) ≡ EVENTS)
+        × (HEADS ≤ length (now heads)) × (SCOPE ≤ length (now scope)) × (0 < n) ⌝ }
+    ensures { λ r. ⌜ Inspected (now (text .entry)) (now (places .entry)) (now (values .entry)) (now (nodes .entry))
+        (now (items .exit)) (now (heads .exit)) (now (slots .entry)) (now (slots .exit)) n root r ⌝ }
 {
     let e = events::walk(nodes, root, items);
     let judged = judge(text, places, values, items, e, n - 1, heads, scope, slots);
@@ -158,10 +168,12 @@ fn settle(
     slots: &mut [u32],
 ) -> Analysed
     requires { ⌜ Lent (now kinds) (now nodes) (now items) (now heads) (now scope) ⌝ }
-    ensures { λ r. ⌜ Settles (now (text .entry)) (now (kinds .entry)) (now (places .entry)) (now (values .entry)) (now (nodes .exit)) (now (items .exit)) (now (heads .exit)) (now (slots .entry)) (now (slots .exit)) r (checkedTokens (now (text .entry)) (now (kinds .entry)) (now (places .entry)) (now (values .entry))) ⌝ }
+    ensures { λ r. ⌜ Settles (now (text .entry)) (now (kinds .entry)) (now (places .entry)) (now (values .entry))
+        (now (nodes .exit)) (now (items .exit)) (now (heads .exit)) (now (slots .entry)) (now (slots .exit))
+        r (checkedTokens (now (text .entry)) (now (kinds .entry)) (now (places .entry)) (now (values .entry))) ⌝ }
 {
     match grammar::parse(kinds, nodes) {
-        Parsed::Bad(m) => Analysed::Refused(4, text_rules::spelling::word(places, m)),
+        Parsed::Bad(m) => Analysed::Refused(4, word(places, m)),
         Parsed::Tree { root, count: _ } => {
             inspect(
                 text,
@@ -192,7 +204,9 @@ pub fn analyse(
     slots: &mut [u32],
 ) -> Analysed
     requires { ⌜ Slices (now kinds) (now places) (now values) (now nodes) (now items) (now heads) (now scope) ⌝ }
-    ensures { λ r. ⌜ Analyses (now (text .entry)) (now (kinds .exit)) (now (places .exit)) (now (values .exit)) (now (nodes .exit)) (now (items .exit)) (now (heads .exit)) (now (slots .entry)) (now (slots .exit)) r (checked (now (text .entry))) ⌝ }
+    ensures { λ r. ⌜ Analyses (now (text .entry)) (now (kinds .exit)) (now (places .exit)) (now (values .exit))
+        (now (nodes .exit)) (now (items .exit)) (now (heads .exit)) (now (slots .entry)) (now (slots .exit))
+        r (checked (now (text .entry))) ⌝ }
 {
     match lexer::lex(text, kinds, places, values) {
         Lexed::Refused(number, place) => Analysed::Refused(number, place),
@@ -216,14 +230,14 @@ pub fn analyse(
 pub fn check(text: &[u8]) -> Checked
     ensures { λ r. ⌜ verdictOf r ≡ checked (now (text .entry)) ⌝ }
 {
-    let mut kinds = [0u8; 2049];
-    let mut places = [0u32; 2049];
-    let mut values = [0u32; 2049];
-    let mut nodes = [0u32; 20490];
-    let mut items = [0u32; 12288];
-    let mut heads = [0u32; 8192];
-    let mut scope = [0u32; 12288];
-    let mut slots = [0u32; 2049];
+    let mut kinds = [0u8; sizes::TOKENS];
+    let mut places = [0u32; sizes::TOKENS];
+    let mut values = [0u32; sizes::TOKENS];
+    let mut nodes = [0u32; sizes::NODES];
+    let mut items = [0u32; sizes::EVENTS];
+    let mut heads = [0u32; sizes::HEADS];
+    let mut scope = [0u32; sizes::SCOPE];
+    let mut slots = [0u32; sizes::TOKENS];
     let analysed = analyse(
         text,
         &mut kinds,

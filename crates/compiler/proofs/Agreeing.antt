@@ -11,7 +11,7 @@ use Rattle.semantics.specs.Program as P
 use Rattle.semantics.specs.Program.{Expr, Exprs, Cond, Stmt, Stmts, slot}
 use Rattle.text_rules.specs.Resolve.{Part, part, comparison}
 use Rattle.compiler.specs.Sound.{Sound}
-use Rattle.compiler.proofs.Lengths.{Within}
+use Rattle.events.specs.Walk.{Below}
 
 -- two functions that agree below m
 pub record Agree (m : ℕ) (f g : ℕ → ℕ) : Type 0 where
@@ -68,8 +68,8 @@ module _ (m : ℕ) (value means value′ means′ : ℕ → ℕ) (v : Agree m va
   sound-same A.noFuns h = tt
   sound-same (A.moreFuns l f) h = (sound-same l (h .0), sound-same f (h .1))
 
-  pub part-same : {s : Sort} (t : Ast s) → Within m t → SameAs s (part value means t) (part value′ means′ t)
-  unfolding part Within
+  pub part-same : {s : Sort} (t : Ast s) → Below m t → SameAs s (part value means t) (part value′ means′ t)
+  unfolding part Below
   part-same (A.number i) w = ap (λ (k : ℕ). P.number (pos k)) (v .at i w)
   part-same (A.negative i) w = ap (λ (k : ℕ). P.number (pos 0 -ℤ pos k)) (v .at (i + 1) w)
   part-same (A.name i) w = ap (λ (k : ℕ). P.name (slot k)) (n .at i w)

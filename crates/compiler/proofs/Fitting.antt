@@ -11,14 +11,16 @@ use Rattle.syntax.specs.Tree as T
 use Rattle.syntax.specs.Ast.{Sort, Ast, prog}
 use Rattle.syntax.specs.Ast as A
 use Rattle.syntax.specs.Abstract.{ast}
-use Rattle.syntax.specs.Table.{Holds}
+use Rattle.syntax.specs.Table.{nodeWords, Holds}
 use Rattle.events.specs.Event.{Event, function, parameter, thing, opens, closes, declares, uses, calls, ends, stops, closing, first, eventsAt, events}
+use Rattle.events.specs.Walk.{Below}
+use Rattle.events.proofs.Tokens.{numbered-below}
 use Rattle.text_rules.specs.Rules.{heads, miscalls, mainless, tooMany}
 use Rattle.text_rules.specs.Names.{badNames, meant, meanings}
 use Rattle.text_rules.specs.Resolve.{part, mainOf, resolved}
 use Rattle.semantics.specs.Program.{Stmts}
 use Rattle.simulation.specs.Code.{codeOf}
-use Rattle.simulation.specs.Words.{codeIn, Fits}
+use Rattle.simulation.specs.Words.{entryWords, codeIn, Fits}
 use Rattle.simulation.specs.Placed.{Placed}
 use Rattle.simulation.proofs.Inside.{Closed}
 use Rattle.compiler.specs.Coded.{word, program}
@@ -26,10 +28,10 @@ use Rattle.compiler.specs.Sound.{Sound}
 use Rattle.compiler.specs.Compile.{Tokens, Ready, Compiled}
 use Rattle.compiler.proofs.Agreeing.{sound-same, part-same}
 use Rattle.compiler.proofs.Parts.{funs, funs-length}
-use Rattle.compiler.proofs.Lengths.{Within, numbered-within, code-short}
+use Rattle.compiler.proofs.Lengths.{code-short}
 use Rattle.compiler.proofs.Meanings.{AllGood, good}
 use Rattle.compiler.proofs.Placing.{fits-program, placed-code, closed-code}
-use Rattle.compiler.proofs.Counts.{few-functions, main-lt}
+use Rattle.text_rules.proofs.Counts.{few-functions, main-lt}
 
 -- ---- good events
 
@@ -48,8 +50,8 @@ module _ (same : ℕ → ℕ → Bool) (means : ℕ → ℕ) where
   -- ---- a tree whose events are good is sound
 
   module _ (m : ℕ) (value : ℕ → ℕ) (small : (i : ℕ) → i < m → value i < 2147483648) where
-    pub sound : {s : Sort} (d : ℕ) (t : Ast s) → Within m t → All (eventsAt d t) → Sound m value means t
-    unfolding eventsAt Within Sound
+    pub sound : {s : Sort} (d : ℕ) (t : Ast s) → Below m t → All (eventsAt d t) → Sound m value means t
+    unfolding eventsAt Below Sound
     sound d (A.number i) w h = (w, small i w)
     sound d (A.negative i) w h = (w, small (i + 1) w)
     sound d (A.name i) w h = (w, h .0)
@@ -194,17 +196,17 @@ module _ (same : ℕ → ℕ → Bool) (t : Tree T.prog) (f : ℕ → ℕ) where
     pub seven : miscalls same (events tree) ≡ []
     pub ten : tooMany (events tree) ≡ []
 
-  pub accepted-within : (m : ℕ) → t ≡ numbered 0 t → width t ≤ m → Within m tree
-  accepted-within m e h = subst (λ (u : Tree T.prog). Within m (ast u)) (sym e) (numbered-within 0 m t (omega arith))
+  pub accepted-below : (m : ℕ) → t ≡ numbered 0 t → width t ≤ m → Below m tree
+  accepted-below m e h = subst (λ (u : Tree T.prog). Below m (ast u)) (sym e) (numbered-below 0 m t (omega arith))
 
-  pub accepted-sound : (m : ℕ) → Within m tree → (value : ℕ → ℕ) → ((i : ℕ) → i < m → value i < 2147483648) → Keeps → Sound m value meaningOf tree
+  pub accepted-sound : (m : ℕ) → Below m tree → (value : ℕ → ℕ) → ((i : ℕ) → i < m → value i < 2147483648) → Keeps → Sound m value meaningOf tree
   unfolding events
   accepted-sound m h value small k = sound same meaningOf m value small 1 tree h (good same f (eventsAt 1 tree) (k .six) (k .seven) (k .ten))
 
   -- the tree stands at node i, the slices hold the values and the meanings of the text's m tokens, and there is room for two words a token
   pub record Given (l : List ℕ) (i : ℕ) (values slots : List ℕ) (g : ℕ) (code : List ℕ) (m : ℕ) : Type 0 where
     pub holds : Holds l i tree
-    pub room : 5 * i + 5 ≤ length l
+    pub room : nodeWords * i + nodeWords ≤ length l
     pub few : i < 65536
     pub tokens : Tokens m values slots
     pub numbers : t ≡ numbered 0 t
@@ -213,11 +215,11 @@ module _ (same : ℕ → ℕ → Bool) (t : Tree T.prog) (f : ℕ → ℕ) where
     pub agree : (j : ℕ) → j < m → word slots j ≡ meaningOf j
     pub main : g < 16
     pub less : 3 + width t < 65536
-    pub space : 2 * (3 + width t) + 16 ≤ length code
+    pub space : entryWords * (3 + width t) + 16 ≤ length code
 
   module _ {l : List ℕ} {i : ℕ} {values slots : List ℕ} {g : ℕ} {code : List ℕ} {m : ℕ} (given : Given l i values slots g code m) (k : Keeps) where
-    within : Within m tree
-    within = accepted-within m (given .numbers) (given .wide)
+    within : Below m tree
+    within = accepted-below m (given .numbers) (given .wide)
 
     stands : Sound m (word values) (word slots) tree
     stands = sound-same m (word values) meaningOf (word values) (word slots) (record { at = λ j h. refl }) (record { at = λ j h. sym (given .agree j h) }) tree (accepted-sound m within (word values) (given .small) k)

@@ -11,8 +11,9 @@ use Rattle.syntax.specs.Ast.{Sort, Ast}
 use Rattle.syntax.specs.Table.{Holds}
 use Rattle.events.specs.Walk.{Rooted}
 use Rattle.events.specs.Visit.{level}
+use Rattle.events.proofs.Laws.{rooted-child}
 use Rattle.simulation.specs.Code.{Entry}
-use Rattle.simulation.specs.Words.{kindOf, wordOf, wordsOf}
+use Rattle.simulation.specs.Words.{entryWords, entryNumber, kindOf, wordOf, wordsOf}
 use Rattle.simulation.proofs.Words.{length-words}
 use Rattle.compiler.specs.Coded.{word, coded}
 use Rattle.compiler.specs.Sound.{Sound}
@@ -50,12 +51,12 @@ pub grown-then : {l m o : List ℕ} {n q r : ℕ} {es fs : List Entry} → Grown
 grown-then {l} {m} {o} {n} {q} {r} {es} {fs} g h = record {
   total = omega (arith, g .total, h .total, length-append es fs);
   words =
-      let e : 2 * q ≡ 2 * n + length (wordsOf es) = omega (arith, g .total, length-words es) in
+      let e : entryWords * q ≡ entryWords * n + length (wordsOf es) = omega (arith, g .total, length-words es) in
       h .words
-      ∙ ap (λ (x : List ℕ). sets x (2 * q) (wordsOf fs)) (g .words)
-      ∙ ap (λ (x : ℕ). sets (sets l (2 * n) (wordsOf es)) x (wordsOf fs)) e
-      ∙ sym (sets-append l (2 * n) (wordsOf es) (wordsOf fs))
-      ∙ ap (λ (x : List ℕ). sets l (2 * n) x) (sym (words-append es fs));
+      ∙ ap (λ (x : List ℕ). sets x (entryWords * q) (wordsOf fs)) (g .words)
+      ∙ ap (λ (x : ℕ). sets (sets l (entryWords * n) (wordsOf es)) x (wordsOf fs)) e
+      ∙ sym (sets-append l (entryWords * n) (wordsOf es) (wordsOf fs))
+      ∙ ap (λ (x : List ℕ). sets l (entryWords * n) x) (sym (words-append es fs));
 }
 
 -- the same entries under another name
@@ -79,21 +80,21 @@ aimed {l} {m} {o} {n} {r} {to} {x} {es} y p q g e = record {
   words =
       let d = to - (n + 1) in
       e .words
-      ∙ ap (λ (z : List ℕ). set z (2 * n + 1) d) (g .words)
-      ∙ ap (λ (k : ℕ). set (sets l (2 * n) (wordsOf (x ∷ es))) k d) (add-one (2 * n))
-      ∙ set-sets (set (set l (2 * n) (kindOf x)) (suc (2 * n)) (wordOf x)) (suc (suc (2 * n))) (wordsOf es) (suc (2 * n)) d (omega arith)
-      ∙ ap (λ (z : List ℕ). sets z (suc (suc (2 * n))) (wordsOf es)) (set-set (set l (2 * n) (kindOf x)) (suc (2 * n)) (wordOf x) d)
+      ∙ ap (λ (z : List ℕ). set z (entryWords * n + entryNumber) d) (g .words)
+      ∙ ap (λ (k : ℕ). set (sets l (entryWords * n) (wordsOf (x ∷ es))) k d) (add-one (entryWords * n))
+      ∙ set-sets (set (set l (entryWords * n) (kindOf x)) (suc (entryWords * n)) (wordOf x)) (suc (suc (entryWords * n))) (wordsOf es) (suc (entryWords * n)) d (omega arith)
+      ∙ ap (λ (z : List ℕ). sets z (suc (suc (entryWords * n))) (wordsOf es)) (set-set (set l (entryWords * n) (kindOf x)) (suc (entryWords * n)) (wordOf x) d)
       ∙ rw (p, q);
 }
 
 pub grown-size : {l m : List ℕ} {n r : ℕ} {es : List Entry} → Grown l m n r es → length m ≡ length l
-grown-size {l} {n = n} {es = es} g = ap length (g .words) ∙ length-sets l (2 * n) (wordsOf es)
+grown-size {l} {n = n} {es = es} g = ap length (g .words) ∙ length-sets l (entryWords * n) (wordsOf es)
 
 pub emitted-size : {l m : List ℕ} {n r k w : ℕ} → Emitted l m n r k w → length m ≡ length l
-emitted-size {l} {n = n} {k = k} {w = w} g = ap length (g .words) ∙ length-sets l (2 * n) (k ∷ w ∷ [])
+emitted-size {l} {n = n} {k = k} {w = w} g = ap length (g .words) ∙ length-sets l (entryWords * n) (k ∷ w ∷ [])
 
 pub aimed-size : {l m : List ℕ} {i to : ℕ} → Aimed l m i to → length m ≡ length l
-aimed-size {l} {i = i} {to = to} e = ap length (e .words) ∙ length-set l (2 * i + 1) (to - (i + 1))
+aimed-size {l} {i = i} {to = to} e = ap length (e .words) ∙ length-set l (entryWords * i + entryNumber) (to - (i + 1))
 
 -- ---- room
 
@@ -107,16 +108,13 @@ pub due-next : {l m : List ℕ} {n r k w : ℕ} {e : Entry} {es : List Entry} �
 due-next d g = record { few = omega (arith, d .few, g .total); space = omega (arith, d .space, emitted-size g, g .total) }
 
 -- there is room for one entry
-pub due-room : {l : List ℕ} {n : ℕ} {e : Entry} {es : List Entry} → Due l n (e ∷ es) → (2 * n + 2 ≤ length l) × (n < 65536)
+pub due-room : {l : List ℕ} {n : ℕ} {e : Entry} {es : List Entry} → Due l n (e ∷ es) → (entryWords * n + entryWords ≤ length l) × (n < 65536)
 due-room d = (omega (arith, d .space), omega (arith, d .few))
 
 pub due-as : {l : List ℕ} {n : ℕ} {es fs : List Entry} → es ≡ fs → Due l n es → Due l n fs
 due-as {l} {n} e d = subst (λ (x : List Entry). Due l n x) e d
 
 -- ---- parts of a tree
-
-abbrev pub rooted-child : {l : List ℕ} {s s₁ : Sort} {i a : ℕ} {x : Ast s₁} → Rooted s l i → a < i → Holds l a x → Rooted s₁ l a
-rooted-child {x = x} r p h = record { tree = x; holds = h; room = omega (arith, r .room); few = omega (arith, r .few) }
 
 pub room : {v m : ℕ} {l : List ℕ} {s s₁ : Sort} {i a : ℕ} {values slots code : List ℕ} {n : ℕ} {x : Ast s₁} → level s₁ ≡ v → Rooted s l i → a < i → Holds l a x → Tokens m values slots → Sound m (word values) (word slots) x → Due code n (coded (word values) (word slots) x) → Room v l a values slots code n
 room {m = m} {s₁ = s₁} e r p h w b t = record { sort = s₁; rooted = rooted-child r p h; part = e; tokens = m; within = w; sound = b; due = t }

@@ -1,107 +1,18 @@
--- The tokens of a syntax tree that is numbered from 0 are those of the text; and its code is no longer than the text.
-use Prim.Native.Nat.{ℕ, _+_, _≤_, _<_}
-use mathlib.Core.Path.{_≡_, refl}
+-- The code of a syntax tree is no longer than its text.
+use Prim.Native.Nat.{ℕ, _+_, _≤_}
 use mathlib.Core.List.{List, [], _∷_}
 use native.Mathlib.Omega.{arith}
-use Rattle.syntax.specs.Token.{kMinus, kName, kClose, kComma, kTimes, kPlus, kAnd, kOr, kSemi, kInt, kLbrace, kRbrace, kElse}
-use Rattle.syntax.specs.Tree.{Cat, Tree, onto, width, numbered}
+use Rattle.syntax.specs.Token.{kMinus, kClose, kComma, kTimes, kPlus, kAnd, kOr, kSemi, kLbrace, kRbrace, kElse}
+use Rattle.syntax.specs.Tree.{Cat, Tree, onto, width}
 use Rattle.syntax.specs.Tree as T
-use Rattle.syntax.specs.Ast.{Sort, Ast}
-use Rattle.syntax.specs.Ast as A
 use Rattle.syntax.specs.Abstract.{ast, sortOf}
 use Rattle.events.proofs.Widths.{onto-length}
+use Rattle.events.proofs.Tokens.{mark-width}
 use Rattle.semantics.specs.Program.{Exprs, Stmts}
 use Rattle.text_rules.specs.Resolve.{Part, part}
 use Rattle.simulation.proofs.Size.{tokensE, tokensEs, tokensC, tokensS, tokensSs, tokensBs, code-size}
 use Rattle.simulation.specs.Code.{codeOf}
 use lib.ListN.{length}
-
--- the tokens that a tree names are below m, and so is the number after a minus
-unfoldable pub Within : {s : Sort} → ℕ → Ast s → Type 0
-Within m (A.number i) = i < m
-Within m (A.negative i) = i + 1 < m
-Within m (A.name i) = i < m
-Within m (A.call i a) = (i < m) × Within m a
-Within m (A.bracket i e) = (i < m) × Within m e
-Within m (A.times a b) = Within m a × Within m b
-Within m (A.plus a b) = Within m a × Within m b
-Within m (A.minus a b) = Within m a × Within m b
-Within m A.noArgs = Unit
-Within m (A.moreArgs l e) = Within m l × Within m e
-Within m (A.cmpMark o) = Unit
-Within m A.always = Unit
-Within m A.never = Unit
-Within m (A.compare a o b) = Within m a × Within m b
-Within m (A.both a b) = Within m a × Within m b
-Within m (A.either a b) = Within m a × Within m b
-Within m (A.empty i) = i < m
-Within m (A.declare i) = i + 1 < m
-Within m (A.declareFree i) = i + 1 < m
-Within m (A.assign i e) = (i < m) × Within m e
-Within m (A.eval e) = Within m e
-Within m (A.block i b) = (i < m) × Within m b
-Within m (A.ifElse i c s t) = (i < m) × (Within m c × (Within m s × Within m t))
-Within m (A.while i c s) = (i < m) × (Within m c × Within m s)
-Within m (A.return i e) = (i < m) × Within m e
-Within m (A.fail i) = i < m
-Within m A.noStmts = Unit
-Within m (A.moreStmts l s) = Within m l × Within m s
-Within m (A.braced l j) = Within m l × (j < m)
-Within m A.noParams = Unit
-Within m (A.moreParams l i) = Within m l × (i < m)
-Within m (A.function i p b) = (i < m) × (Within m p × Within m b)
-Within m A.noFuns = Unit
-Within m (A.moreFuns p f) = Within m p × Within m f
-
-mark-width : (o : Tree T.cmp) → width o ≡ 1
-unfolding onto
-mark-width (T.cmpMark o) = refl
-
--- a tree whose first token is token p names tokens from p on, as many as it has
-pub numbered-within : {c : Cat} (p m : ℕ) (t : Tree c) → p + width t ≤ m → Within m (ast (numbered p t))
-unfolding onto numbered ast Within
-numbered-within p m (T.number i) h = omega arith
-numbered-within p m (T.negative i) h = omega arith
-numbered-within p m (T.name i) h = omega arith
-numbered-within p m (T.call i a) h = (omega (arith, h, onto-length a []), numbered-within (p + 2) m a (omega (arith, h, onto-length a [])))
-numbered-within p m (T.bracket i e) h = (omega (arith, h, onto-length e (kClose ∷ [])), numbered-within (p + 1) m e (omega (arith, h, onto-length e (kClose ∷ []))))
-numbered-within p m T.noArgs h = tt
-numbered-within p m (T.someArgs l) h = numbered-within p m l (omega (arith, h, onto-length l (kClose ∷ [])))
-numbered-within p m (T.firstArg e) h = (tt, numbered-within p m e (omega (arith, h, onto-length e [])))
-numbered-within p m (T.nextArg l e) h = (numbered-within p m l (omega (arith, h, onto-length l (kComma ∷ onto e []), onto-length e [])), numbered-within (p + width l + 1) m e (omega (arith, h, onto-length l (kComma ∷ onto e []), onto-length e [])))
-numbered-within p m (T.factor o) h = numbered-within p m o (omega (arith, h, onto-length o []))
-numbered-within p m (T.times t o) h = (numbered-within p m t (omega (arith, h, onto-length t (kTimes ∷ onto o []), onto-length o [])), numbered-within (p + width t + 1) m o (omega (arith, h, onto-length t (kTimes ∷ onto o []), onto-length o [])))
-numbered-within p m (T.addend t) h = numbered-within p m t (omega (arith, h, onto-length t []))
-numbered-within p m (T.plus s t) h = (numbered-within p m s (omega (arith, h, onto-length s (kPlus ∷ onto t []), onto-length t [])), numbered-within (p + width s + 1) m t (omega (arith, h, onto-length s (kPlus ∷ onto t []), onto-length t [])))
-numbered-within p m (T.minus s t) h = (numbered-within p m s (omega (arith, h, onto-length s (kMinus ∷ onto t []), onto-length t [])), numbered-within (p + width s + 1) m t (omega (arith, h, onto-length s (kMinus ∷ onto t []), onto-length t [])))
-numbered-within p m (T.cmpMark o) h = tt
-numbered-within p m T.always h = tt
-numbered-within p m T.never h = tt
-numbered-within p m (T.compare a o b) h = (numbered-within p m a (omega (arith, h, onto-length a (onto o (onto b [])), onto-length o (onto b []), onto-length b [], mark-width o)), numbered-within (p + width a + 1) m b (omega (arith, h, onto-length a (onto o (onto b [])), onto-length o (onto b []), onto-length b [], mark-width o)))
-numbered-within p m (T.oneAtom a) h = numbered-within p m a (omega (arith, h, onto-length a []))
-numbered-within p m (T.both c a) h = (numbered-within p m c (omega (arith, h, onto-length c (kAnd ∷ onto a []), onto-length a [])), numbered-within (p + width c + 1) m a (omega (arith, h, onto-length c (kAnd ∷ onto a []), onto-length a [])))
-numbered-within p m (T.oneConj c) h = numbered-within p m c (omega (arith, h, onto-length c []))
-numbered-within p m (T.either b c) h = (numbered-within p m b (omega (arith, h, onto-length b (kOr ∷ onto c []), onto-length c [])), numbered-within (p + width b + 1) m c (omega (arith, h, onto-length b (kOr ∷ onto c []), onto-length c [])))
-numbered-within p m (T.empty i) h = omega arith
-numbered-within p m (T.declare i) h = omega arith
-numbered-within p m (T.declareFree i) h = omega arith
-numbered-within p m (T.assign i e) h = (omega (arith, h, onto-length e (kSemi ∷ [])), numbered-within (p + 2) m e (omega (arith, h, onto-length e (kSemi ∷ []))))
-numbered-within p m (T.eval e) h = numbered-within p m e (omega (arith, h, onto-length e (kSemi ∷ [])))
-numbered-within p m (T.block i b) h = (omega (arith, h, onto-length b []), numbered-within (p + 1) m b (omega (arith, h, onto-length b [])))
-numbered-within p m (T.ifElse i c s t) h = (omega (arith, h, onto-length c (kClose ∷ onto s (kElse ∷ onto t [])), onto-length s (kElse ∷ onto t []), onto-length t []), (numbered-within (p + 2) m c (omega (arith, h, onto-length c (kClose ∷ onto s (kElse ∷ onto t [])), onto-length s (kElse ∷ onto t []), onto-length t [])), (numbered-within (p + 2 + width c + 1) m s (omega (arith, h, onto-length c (kClose ∷ onto s (kElse ∷ onto t [])), onto-length s (kElse ∷ onto t []), onto-length t [])), numbered-within (p + 2 + width c + 1 + width s + 1) m t (omega (arith, h, onto-length c (kClose ∷ onto s (kElse ∷ onto t [])), onto-length s (kElse ∷ onto t []), onto-length t [])))))
-numbered-within p m (T.while i c s) h = (omega (arith, h, onto-length c (kClose ∷ onto s []), onto-length s []), (numbered-within (p + 2) m c (omega (arith, h, onto-length c (kClose ∷ onto s []), onto-length s [])), numbered-within (p + 2 + width c + 1) m s (omega (arith, h, onto-length c (kClose ∷ onto s []), onto-length s []))))
-numbered-within p m (T.return i e) h = (omega (arith, h, onto-length e (kSemi ∷ [])), numbered-within (p + 1) m e (omega (arith, h, onto-length e (kSemi ∷ []))))
-numbered-within p m (T.fail i) h = omega arith
-numbered-within p m T.noStmts h = tt
-numbered-within p m (T.moreStmts l s) h = (numbered-within p m l (omega (arith, h, onto-length l (onto s []), onto-length s [])), numbered-within (p + width l) m s (omega (arith, h, onto-length l (onto s []), onto-length s [])))
-numbered-within p m (T.braced l i) h = (numbered-within p m l (omega (arith, h, onto-length l (kRbrace ∷ []))), omega (arith, h, onto-length l (kRbrace ∷ [])))
-numbered-within p m T.noParams h = tt
-numbered-within p m (T.someParams l) h = numbered-within p m l (omega (arith, h, onto-length l (kClose ∷ [])))
-numbered-within p m (T.firstParam i) h = (tt, omega arith)
-numbered-within p m (T.nextParam l i) h = (numbered-within p m l (omega (arith, h, onto-length l (kComma ∷ kInt ∷ kName ∷ []))), omega (arith, h, onto-length l (kComma ∷ kInt ∷ kName ∷ [])))
-numbered-within p m (T.function i q b) h = (omega (arith, h, onto-length q (kLbrace ∷ onto b []), onto-length b []), (numbered-within (p + 3) m q (omega (arith, h, onto-length q (kLbrace ∷ onto b []), onto-length b [])), numbered-within (p + 3 + width q + 1) m b (omega (arith, h, onto-length q (kLbrace ∷ onto b []), onto-length b []))))
-numbered-within p m T.noFuns h = tt
-numbered-within p m (T.moreFuns l f) h = (numbered-within p m l (omega (arith, h, onto-length l (onto f []), onto-length f [])), numbered-within (p + width l) m f (omega (arith, h, onto-length l (onto f []), onto-length f [])))
 
 -- ---- the resolved program has no more tokens
 

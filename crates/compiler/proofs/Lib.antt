@@ -7,7 +7,6 @@ pub mod Statements
 pub mod Programs
 pub mod Whole
 pub mod Placing
-pub mod Counts
 pub mod Meanings
 pub mod Lengths
 pub mod Agreeing

@@ -12,7 +12,7 @@ use Rattle.events.specs.Event.{Event, function, parameter, thing, opens, closes
 use Rattle.text_rules.specs.Scan.{scan, on, when}
 use Rattle.text_rules.specs.Rules.{Head, heads, parameters, functionOf, arityOf, wrong, miscounted, miscalls, Tally, tally, counted, over, tooMany}
 use Rattle.text_rules.specs.Names.{Declared, Scope, declared, outer, entered, nowhere, Meaning, meaning, asFound, meant, inBlock, sought, unlessFound, misnamed, badVariables, uncalled, badNames, named, meanings}
-use Rattle.compiler.proofs.Counts.{nil-left, nil-right, not-when, or-right, few-functions, Modest, heads-modest}
+use Rattle.text_rules.proofs.Counts.{nil-left, nil-right, not-when, or-right, few-functions, Modest, heads-modest}
 
 -- ---- what a token means at the end
 
@@ -211,7 +211,7 @@ module _ (same : ℕ → ℕ → Bool) where
   all-right (e ∷ es) xs ys h = (meant-right e xs ys (h .0), all-right es xs ys (h .1))
 
   module _ (hs : List Head) where
-    found-has : (x : Option ℕ) (i : ℕ) → unlessFound same x i ≡ [] → Has i (asFound x i)
+    found-has : (x : Option ℕ) (i : ℕ) → unlessFound x i ≡ [] → Has i (asFound x i)
     found-has none i e =
         let z : _≡_ {A = ℕ} 0 1 = cc in
         absurd (omega arith)
@@ -239,12 +239,12 @@ module _ (same : ℕ → ℕ → Bool) where
         (meant-left e (named same hs s e) ms a, all-right es (named same hs s e) ms b)
 
 module _ (same : ℕ → ℕ → Bool) where
-  found-rest : (x : Option ℕ) (i : ℕ) → unlessFound same (elim x [ none ↦ none | some k ↦ some (suc k) ]) i ≡ [] → unlessFound same x i ≡ []
+  found-rest : (x : Option ℕ) (i : ℕ) → unlessFound (elim x [ none ↦ none | some k ↦ some (suc k) ]) i ≡ [] → unlessFound x i ≡ []
   found-rest none i e = e
   found-rest (some k) i e = refl
 
   -- a call of a function with the right count of arguments has no more than 4
-  called-few : (hs : List Head) (i n : ℕ) → Modest hs → unlessFound same (functionOf same hs i) i ≡ [] → wrong same (arityOf same hs i) i n ≡ [] → n ≤ 4
+  called-few : (hs : List Head) (i n : ℕ) → Modest hs → unlessFound (functionOf same hs i) i ≡ [] → wrong (arityOf same hs i) i n ≡ [] → n ≤ 4
   unfolding functionOf arityOf wrong
   called-few [] i n m u v =
       let z : _≡_ {A = ℕ} 0 1 = cc in
@@ -257,8 +257,8 @@ module _ (same : ℕ → ℕ → Bool) where
           let z : _≡_ {A = ℕ} 0 1 = cc in
           absurd (omega arith)
 
-      go : (b : Bool) → (unlessFound same (functionOf same hs i) i ≡ [] → wrong same (arityOf same hs i) i n ≡ [] → n ≤ 4)
-          → unlessFound same (cond b (some 0) (elim (functionOf same hs i) [ none ↦ none | some k ↦ some (suc k) ])) i ≡ [] → wrong same (cond b (some (h .arity)) (arityOf same hs i)) i n ≡ [] → n ≤ 4
+      go : (b : Bool) → (unlessFound (functionOf same hs i) i ≡ [] → wrong (arityOf same hs i) i n ≡ [] → n ≤ 4)
+          → unlessFound (cond b (some 0) (elim (functionOf same hs i) [ none ↦ none | some k ↦ some (suc k) ])) i ≡ [] → wrong (cond b (some (h .arity)) (arityOf same hs i)) i n ≡ [] → n ≤ 4
       go true k u v = same-count (eqb (h .arity) n) refl v
       go false k u v = k (found-rest (functionOf same hs i) i u) v
 

@@ -14,17 +14,17 @@ use Rattle.syntax.specs.declared.Node.{Node}
 use Rattle.syntax.specs.Fetch.{Fetched}
 use Rattle.syntax.specs.Tree as T
 use Rattle.syntax.specs.Ast.{Sort, Ast, expr, args, cond}
-use Rattle.syntax.specs.Table.{At, Holds, cmpNumber, nNumber, nNegative, nName, nCall, nBracket, nNoArgs, nAlways, nNever, at-number, at-negative, at-name, at-call, at-bracket, at-times, at-plus, at-minus, at-no-args, at-more-args, at-always, at-never, at-compare, at-both, at-either, at-empty, at-declare, at-declare-free, at-assign, at-eval, at-block, at-if-else, at-while, at-return, at-fail, at-no-stmts, at-more-stmts, at-braced, at-no-params, at-more-params, at-function, at-no-funs, at-more-funs}
+use Rattle.syntax.specs.Table.{At, Holds, cmpNumber, nNumber, nNegative, nName, nCall, nBracket, nTimes, nPlus, nMinus, nNoArgs, nMoreArgs, nAlways, nNever, nCompare, nBoth, nEither, nEmpty, at-number, at-negative, at-name, at-call, at-bracket, at-times, at-plus, at-minus, at-no-args, at-more-args, at-always, at-never, at-compare, at-both, at-either, at-empty, at-declare, at-declare-free, at-assign, at-eval, at-block, at-if-else, at-while, at-return, at-fail, at-no-stmts, at-more-stmts, at-braced, at-no-params, at-more-params, at-function, at-no-funs, at-more-funs}
 use Rattle.events.specs.Event.{count}
 use Rattle.events.specs.Visit.{level}
 use Rattle.events.proofs.Nodes.{at-kind, moved, two-of}
 use Rattle.text_rules.specs.Resolve.{part, comparison}
 use Rattle.simulation.specs.Code.{Entry, number, name, operate, compare, call, constant, jump, leaf, argument, act, codeE, codeC}
 use Rattle.simulation.specs.Code as Code
-use Rattle.simulation.specs.Words.{kindOf, wordOf}
+use Rattle.simulation.specs.Words.{cCompare, kindOf, wordOf}
 use Rattle.compiler.specs.Coded.{coded}
 use Rattle.compiler.specs.Sound.{Sound}
-use Rattle.compiler.specs.Pass.{operationOf}
+use Rattle.compiler.specs.Pass.{operationOf, jumpOf}
 use Rattle.compiler.proofs.Parts.{args-code, args-count}
 
 module _ (value means : ℕ → ℕ) (m : ℕ) where
@@ -142,18 +142,18 @@ module _ (value means : ℕ → ℕ) (m : ℕ) where
   -- ---- `&&` and `||`
 
   pub data Junction : ℕ → Type 0 where
-    both : Junction 14
-    either : Junction 15
+    both : Junction nBoth
+    either : Junction nEither
 
   -- the jump over the right side, for so many entries
   pub record Joined (l : List ℕ) (i a b k : ℕ) {s : Sort} (t : Ast s) : Type 0 where
     pub jumps : ℕ → Entry
-    pub kinds : (d : ℕ) → kindOf (jumps d) ≡ k + 2
+    pub kinds : (d : ℕ) → kindOf (jumps d) ≡ jumpOf k
     pub words : (d : ℕ) → wordOf (jumps d) ≡ d
     pub two : Two l i a b t cond cond (λ x y. coded value means x ++ jumps (length (coded value means y)) ∷ coded value means y)
 
   junction-at : {l : List ℕ} {s : Sort} {i k : ℕ} {n : Node} {t : Ast s} → Junction k → Fetched l i n → At l s i k t → Joined l i (n .first) (n .second) k t
-  unfolding part codeC Sound kindOf wordOf
+  unfolding part codeC Sound kindOf wordOf jumpOf
   junction-at both f (at-both {x = x} {y = y} r p q c e) = record {
     jumps = λ d. act (jump false d);
     kinds = λ d. refl;
@@ -173,11 +173,11 @@ module _ (value means : ℕ → ℕ) (m : ℕ) where
   -- ---- two operands, or one argument more
 
   pub data Operation : ℕ → Type 0 where
-    times : Operation 6
-    plus : Operation 7
-    minus : Operation 8
-    more-args : Operation 10
-    comparing : Operation 13
+    times : Operation nTimes
+    plus : Operation nPlus
+    minus : Operation nMinus
+    more-args : Operation nMoreArgs
+    comparing : Operation nCompare
 
   pub record Operated (l : List ℕ) (i a b k c : ℕ) {s : Sort} (t : Ast s) : Type 0 where
     pub s₁ : Sort
@@ -198,7 +198,7 @@ module _ (value means : ℕ → ℕ) (m : ℕ) where
   comparison-few T.equal = omega arith
   comparison-few T.unequal = omega arith
 
-  comparison-kind : (o : T.Cmp) (d : ℕ) → kindOf (act (compare (comparison o) d)) ≡ 7 + cmpNumber o
+  comparison-kind : (o : T.Cmp) (d : ℕ) → kindOf (act (compare (comparison o) d)) ≡ cCompare + cmpNumber o
   unfolding kindOf
   comparison-kind T.less d = refl
   comparison-kind T.lessEq d = refl
@@ -268,17 +268,17 @@ module _ (value means : ℕ → ℕ) (m : ℕ) where
   pub operated-node : {l : List ℕ} {s : Sort} {i : ℕ} {n : Node} {t : Ast s} → Operation (n .kind) → Fetched l i n → Holds l i t → Operated l i (n .first) (n .second) (n .kind) (n .third) t
   operated-node {n = n} j f h = operated-at j f (at-kind (n .kind) f refl h)
 
-  pub junction : {k : ℕ} → 14 ≤ k → k < 16 → Junction k
-  junction {k} lo hi = two-of Junction 14 k lo hi both either
+  pub junction : {k : ℕ} → nBoth ≤ k → k < nEmpty → Junction k
+  junction {k} lo hi = two-of Junction nBoth k lo hi both either
 
-  pub not-junction : {k : ℕ} → (k < 14) ⊎ (16 ≤ k) → Junction k → ⊥
+  pub not-junction : {k : ℕ} → (k < nBoth) ⊎ (nEmpty ≤ k) → Junction k → ⊥
   not-junction (inl h) both = omega arith
   not-junction (inl h) either = omega arith
   not-junction (inr h) both = omega arith
   not-junction (inr h) either = omega arith
 
   -- the kinds that are left
-  pub operation-left : {l : List ℕ} {s : Sort} {i k : ℕ} {t : Ast s} → level s ≡ 0 → At l s i k t → (k ≡ 1 → ⊥) → (k ≡ 2 → ⊥) → (k ≡ 3 → ⊥) → (k ≡ 4 → ⊥) → (k ≡ 5 → ⊥) → (k ≡ 9 → ⊥) → (k ≡ 11 → ⊥) → (k ≡ 12 → ⊥) → (Junction k → ⊥) → Operation k
+  pub operation-left : {l : List ℕ} {s : Sort} {i k : ℕ} {t : Ast s} → level s ≡ 0 → At l s i k t → (k ≡ nNumber → ⊥) → (k ≡ nNegative → ⊥) → (k ≡ nName → ⊥) → (k ≡ nCall → ⊥) → (k ≡ nBracket → ⊥) → (k ≡ nNoArgs → ⊥) → (k ≡ nAlways → ⊥) → (k ≡ nNever → ⊥) → (Junction k → ⊥) → Operation k
   operation-left h (at-number r) n _ _ _ _ _ _ _ _ = absurd (n refl)
   operation-left h (at-negative r) _ n _ _ _ _ _ _ _ = absurd (n refl)
   operation-left h (at-name r) _ _ n _ _ _ _ _ _ = absurd (n refl)

@@ -19,7 +19,7 @@ use Rattle.syntax.specs.Ast as A
 use Rattle.syntax.specs.Table.{Holds}
 use Rattle.text_rules.specs.Resolve.{Part, part}
 use Rattle.simulation.specs.Code.{codeOf}
-use Rattle.simulation.specs.Words.{codeIn, wordsOf, wordsIn, FitsE, FitsEs, FitsC, FitsS, FitsSs, FitsBs, Fits}
+use Rattle.simulation.specs.Words.{entryWords, codeIn, wordsOf, wordsIn, FitsE, FitsEs, FitsC, FitsS, FitsSs, FitsBs, Fits}
 use Rattle.simulation.specs.Placed.{Placed}
 use Rattle.simulation.proofs.Inside.{Closed}
 use Rattle.simulation.proofs.Words.{length-words, placed-words, closed-words}
@@ -118,11 +118,11 @@ frame-length d zero vs = refl
 frame-length d (suc n) [] = ap suc (frame-length d n [])
 frame-length d (suc n) (v ∷ vs) = ap suc (frame-length d n vs)
 
-pub length-code : (p : Program) → length (wordsIn (codeOf p)) ≡ 2 * length (codeOf p .entries) + 16
+pub length-code : (p : Program) → length (wordsIn (codeOf p)) ≡ entryWords * length (codeOf p .entries) + 16
 unfolding wordsIn
 length-code p = omega (arith, length-append (wordsOf (codeOf p .entries)) (frame 2 16 (codeOf p .starts)), length-words (codeOf p .entries), frame-length 2 16 (codeOf p .starts))
 
-module _ {l : List ℕ} {i : ℕ} {values slots : List ℕ} {g : ℕ} {before after : List ℕ} {r : ℕ} (p : Ast prog) (held : Holds l i p) (fitting : Fits (program values slots g p)) (space : 2 * length (codeOf (program values slots g p) .entries) + 16 ≤ length before) (c : Compiled l i values slots g before after r) where
+module _ {l : List ℕ} {i : ℕ} {values slots : List ℕ} {g : ℕ} {before after : List ℕ} {r : ℕ} (p : Ast prog) (held : Holds l i p) (fitting : Fits (program values slots g p)) (space : entryWords * length (codeOf (program values slots g p) .entries) + 16 ≤ length before) (c : Compiled l i values slots g before after r) where
   abbrev pub it : Program
   it = program values slots g p
 

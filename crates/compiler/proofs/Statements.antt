@@ -9,7 +9,7 @@ use Rattle.semantics.specs.Program.{slot, Stmts}
 use Rattle.syntax.specs.declared.Node.{Node}
 use Rattle.syntax.specs.Fetch.{Fetched}
 use Rattle.syntax.specs.Ast.{Sort, Ast, expr, cond, stmt, stmts, body}
-use Rattle.syntax.specs.Table.{At, Holds, nEmpty, nDeclare, nDeclareFree, nAssign, nEval, nBlock, nIfElse, nWhile, nReturn, nFail, nMoreStmts, nBraced, at-number, at-negative, at-name, at-call, at-bracket, at-times, at-plus, at-minus, at-no-args, at-more-args, at-always, at-never, at-compare, at-both, at-either, at-empty, at-declare, at-declare-free, at-assign, at-eval, at-block, at-if-else, at-while, at-return, at-fail, at-no-stmts, at-more-stmts, at-braced, at-no-params, at-more-params, at-function, at-no-funs, at-more-funs}
+use Rattle.syntax.specs.Table.{nNoStmts, At, Holds, nEmpty, nDeclare, nDeclareFree, nAssign, nEval, nBlock, nIfElse, nWhile, nReturn, nFail, nMoreStmts, nBraced, at-number, at-negative, at-name, at-call, at-bracket, at-times, at-plus, at-minus, at-no-args, at-more-args, at-always, at-never, at-compare, at-both, at-either, at-empty, at-declare, at-declare-free, at-assign, at-eval, at-block, at-if-else, at-while, at-return, at-fail, at-no-stmts, at-more-stmts, at-braced, at-no-params, at-more-params, at-function, at-no-funs, at-more-funs}
 use Rattle.events.specs.Visit.{level}
 use Rattle.events.proofs.Nodes.{at-kind, moved}
 use Rattle.text_rules.specs.Resolve.{part}
@@ -115,7 +115,7 @@ module _ (value means : ℕ → ℕ) (m : ℕ) where
 
   -- ---- the kind that is left
 
-  pub silent : {l : List ℕ} {s : Sort} {i k : ℕ} {t : Ast s} → level s ≡ 1 → At l s i k t → (k ≡ 16 → ⊥) → (k ≡ 17 → ⊥) → (k ≡ 18 → ⊥) → (k ≡ 19 → ⊥) → (k ≡ 20 → ⊥) → (k ≡ 21 → ⊥) → (k ≡ 22 → ⊥) → (k ≡ 23 → ⊥) → (k ≡ 24 → ⊥) → (k ≡ 25 → ⊥) → (k ≡ 27 → ⊥) → (k ≡ 28 → ⊥) → k ≡ 26
+  pub silent : {l : List ℕ} {s : Sort} {i k : ℕ} {t : Ast s} → level s ≡ 1 → At l s i k t → (k ≡ nEmpty → ⊥) → (k ≡ nDeclare → ⊥) → (k ≡ nDeclareFree → ⊥) → (k ≡ nAssign → ⊥) → (k ≡ nEval → ⊥) → (k ≡ nBlock → ⊥) → (k ≡ nIfElse → ⊥) → (k ≡ nWhile → ⊥) → (k ≡ nReturn → ⊥) → (k ≡ nFail → ⊥) → (k ≡ nMoreStmts → ⊥) → (k ≡ nBraced → ⊥) → k ≡ nNoStmts
   silent h (at-number r) _ _ _ _ _ _ _ _ _ _ _ _ = absurd (omega (arith, h))
   silent h (at-negative r) _ _ _ _ _ _ _ _ _ _ _ _ = absurd (omega (arith, h))
   silent h (at-name r) _ _ _ _ _ _ _ _ _ _ _ _ = absurd (omega (arith, h))
@@ -150,9 +150,9 @@ module _ (value means : ℕ → ℕ) (m : ℕ) where
   silent h (at-no-funs r) _ _ _ _ _ _ _ _ _ _ _ _ = absurd (omega (arith, h))
   silent h (at-more-funs r p q x y) _ _ _ _ _ _ _ _ _ _ _ _ = absurd (omega (arith, h))
 
-  no-stmts-at : {l : List ℕ} {s : Sort} {i : ℕ} {t : Ast s} → At l s i 26 t → coded value means t ≡ []
+  no-stmts-at : {l : List ℕ} {s : Sort} {i : ℕ} {t : Ast s} → At l s i nNoStmts t → coded value means t ≡ []
   unfolding part codeS
   no-stmts-at (at-no-stmts r) = refl
 
-  pub no-stmts-node : {l : List ℕ} {s : Sort} {i : ℕ} {n : Node} {t : Ast s} → Fetched l i n → n .kind ≡ 26 → Holds l i t → coded value means t ≡ []
-  no-stmts-node f e h = no-stmts-at (at-kind 26 f e h)
+  pub no-stmts-node : {l : List ℕ} {s : Sort} {i : ℕ} {n : Node} {t : Ast s} → Fetched l i n → n .kind ≡ nNoStmts → Holds l i t → coded value means t ≡ []
+  no-stmts-node f e h = no-stmts-at (at-kind nNoStmts f e h)

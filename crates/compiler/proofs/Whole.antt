@@ -9,7 +9,7 @@ use Rattle.semantics.specs.Program.{Program}
 use Rattle.semantics.specs.Does.{frame}
 use Rattle.text_rules.specs.Resolve.{part}
 use Rattle.simulation.specs.Code.{Entry, call, return, fail, act, entriesOf, startsOf, codeOf}
-use Rattle.simulation.specs.Words.{kindOf, wordOf, wordsOf, wordsIn}
+use Rattle.simulation.specs.Words.{cCall, cFail, cReturn, entryWords, kindOf, wordOf, wordsOf, wordsIn}
 use Rattle.simulation.proofs.Words.{length-words}
 use Rattle.compiler.specs.Coded.{word}
 use Rattle.compiler.specs.Compile.{Ready}
@@ -22,7 +22,7 @@ use Rattle.compiler.proofs.Programs.{filled}
 abbrev pub opening : ℕ → List Entry
 opening g = act (call g 0) ∷ (act return ∷ (act fail ∷ []))
 
-pub opened : {k a b c : List ℕ} {n₁ n₂ n₃ g : ℕ} → Emitted k a 0 n₁ 13 g → Emitted a b n₁ n₂ 24 0 → Emitted b c n₂ n₃ 0 0 → Grown k c 0 n₃ (opening g)
+pub opened : {k a b c : List ℕ} {n₁ n₂ n₃ g : ℕ} → Emitted k a 0 n₁ cCall g → Emitted a b n₁ n₂ cReturn 0 → Emitted b c n₂ n₃ cFail 0 → Grown k c 0 n₃ (opening g)
 unfolding kindOf wordOf
 opened {g = g} x y z = said-then (act (call g 0)) refl (omega arith) x (said-then (act return) refl refl y (said (act fail) refl refl z))
 
@@ -37,14 +37,14 @@ module _ {l : List ℕ} {i : ℕ} {values slots : List ℕ} {g : ℕ} {code c : 
   all p e h = rw e (grown-then o h)
 
 -- with where they begin
-pub ended : (p : Program) {code m ts o : List ℕ} {n r : ℕ} → Grown code m 0 r (codeOf p .entries) → length (p .bodies) ≤ 16 → n ≡ 3 → ts ≡ sets (replicate 16 2) 0 (startsOf n (p .bodies)) → o ≡ sets m (2 * r) ts → o ≡ sets code 0 (wordsIn (codeOf p))
+pub ended : (p : Program) {code m ts o : List ℕ} {n r : ℕ} → Grown code m 0 r (codeOf p .entries) → length (p .bodies) ≤ 16 → n ≡ 3 → ts ≡ sets (replicate 16 2) 0 (startsOf n (p .bodies)) → o ≡ sets m (entryWords * r) ts → o ≡ sets code 0 (wordsIn (codeOf p))
 unfolding codeOf wordsIn
 ended p {code} {m} {ts} {o} {n} {r} g few three s e =
     let w = wordsOf (codeOf p .entries) in
-    let z : 2 * r ≡ 0 + length w = omega (arith, g .total, length-words (codeOf p .entries)) in
+    let z : entryWords * r ≡ 0 + length w = omega (arith, g .total, length-words (codeOf p .entries)) in
     let f : ts ≡ frame 2 16 (startsOf 3 (p .bodies)) = s ∙ ap (λ (k : ℕ). sets (replicate 16 2) 0 (startsOf k (p .bodies))) three ∙ filled 2 16 (startsOf 3 (p .bodies)) (omega (arith, few, starts-length 3 (p .bodies))) in
     e
-    ∙ ap (λ (x : List ℕ). sets m (2 * r) x) f
+    ∙ ap (λ (x : List ℕ). sets m (entryWords * r) x) f
     ∙ ap (λ (k : ℕ). sets m k (frame 2 16 (startsOf 3 (p .bodies)))) z
     ∙ ap (λ (x : List ℕ). sets x (0 + length w) (frame 2 16 (startsOf 3 (p .bodies)))) (g .words)
     ∙ sym (sets-append code 0 w (frame 2 16 (startsOf 3 (p .bodies))))

@@ -9,7 +9,7 @@ use Rattle.syntax.specs.Table.{Holds}
 use Rattle.events.specs.Walk.{Rooted}
 use Rattle.text_rules.specs.Resolve.{part}
 use Rattle.simulation.specs.Code.{codeOf}
-use Rattle.simulation.specs.Words.{wordsIn}
+use Rattle.simulation.specs.Words.{entryWords, wordsIn}
 use Rattle.compiler.specs.Coded.{word, program}
 use Rattle.compiler.specs.Sound.{Sound}
 
@@ -28,7 +28,7 @@ pub record Ready (l : List ℕ) (i : ℕ) (values slots : List ℕ) (g : ℕ) (c
   pub functions : length (part (word values) (word slots) (rooted .tree) []) ≤ 16
   pub main : g < 16
   pub few : length (codeOf (program values slots g (rooted .tree)) .entries) < 65536
-  pub space : 2 * length (codeOf (program values slots g (rooted .tree)) .entries) + 16 ≤ length code
+  pub space : entryWords * length (codeOf (program values slots g (rooted .tree)) .entries) + 16 ≤ length code
 
 -- r is the count of the entries, and code begins with the words of the program's code; the words after them are as they were
 pub record Compiled (l : List ℕ) (i : ℕ) (values slots : List ℕ) (main : ℕ) (before after : List ℕ) (r : ℕ) : Type 0 where

@@ -7,12 +7,12 @@ use lib.Dec.{eqb}
 use lib.ListN.{length, set}
 use lib.Seq.{sets}
 use Rattle.syntax.specs.Ast.{Sort, Ast, prog}
-use Rattle.syntax.specs.Table.{Holds}
+use Rattle.syntax.specs.Table.{Holds, nTimes, nPlus, nMinus, nMoreArgs, nBoth}
 use Rattle.events.specs.Walk.{Rooted}
 use Rattle.events.specs.Visit.{level}
 use Rattle.text_rules.specs.Resolve.{part}
 use Rattle.simulation.specs.Code.{Entry, entriesOf, startsOf}
-use Rattle.simulation.specs.Words.{wordsOf}
+use Rattle.simulation.specs.Words.{wordsOf, cMul, cAdd, cSub, cArgument, cCompare, cJump, cJumpTrue, entryWords, entryNumber}
 use Rattle.compiler.specs.Coded.{word, coded}
 use Rattle.compiler.specs.Sound.{Sound}
 use Rattle.compiler.specs.Compile.{Tokens}
@@ -20,7 +20,7 @@ use Rattle.compiler.specs.Compile.{Tokens}
 -- there is room in code for these entries after n
 pub record Due (code : List ℕ) (n : ℕ) (es : List Entry) : Type 0 where
   pub few : n + length es < 65536
-  pub space : 2 * (n + length es) ≤ length code
+  pub space : entryWords * (n + length es) ≤ length code
 
 -- the tree at node i has the level v, and there is room for its code
 pub record Room (v : ℕ) (l : List ℕ) (i : ℕ) (values slots code : List ℕ) (n : ℕ) : Type 0 where
@@ -45,7 +45,11 @@ pub record RoomP (l : List ℕ) (i : ℕ) (values slots code : List ℕ) (n : �
 
 -- the kind of an entry that takes two operands, or ends an argument, by the kind of the node: `*`, `+`, `-`, an argument, a comparison by its number
 unfoldable pub operationOf : ℕ → ℕ → ℕ
-operationOf k c = cond (eqb k 6) 6 (cond (eqb k 7) 4 (cond (eqb k 8) 5 (cond (eqb k 10) 3 (7 + c))))
+operationOf k c = cond (eqb k nTimes) cMul (cond (eqb k nPlus) cAdd (cond (eqb k nMinus) cSub (cond (eqb k nMoreArgs) cArgument (cCompare + c))))
+
+-- the kind of the jump over the right side of `&&`, where the left side is false, or of `||`, where it is true
+unfoldable pub jumpOf : ℕ → ℕ
+jumpOf k = cond (eqb k nBoth) cJump cJumpTrue
 
 -- r is the count of the functions at node i
 pub record Functions (l : List ℕ) (i r : ℕ) : Type 0 where
@@ -55,16 +59,16 @@ pub record Functions (l : List ℕ) (i r : ℕ) : Type 0 where
 -- the entries es follow n entries, which makes r; the other words are as they were
 pub record Grown (before after : List ℕ) (n r : ℕ) (es : List Entry) : Type 0 where
   pub total : r ≡ n + length es
-  pub words : after ≡ sets before (2 * n) (wordsOf es)
+  pub words : after ≡ sets before (entryWords * n) (wordsOf es)
 
 -- one entry, by its kind and its number
 pub record Emitted (before after : List ℕ) (n r k w : ℕ) : Type 0 where
   pub total : r ≡ n + 1
-  pub words : after ≡ sets before (2 * n) (k ∷ w ∷ [])
+  pub words : after ≡ sets before (entryWords * n) (k ∷ w ∷ [])
 
 -- entry i leads to entry `to`
 pub record Aimed (before after : List ℕ) (i to : ℕ) : Type 0 where
-  pub words : after ≡ set before (2 * i + 1) (to - (i + 1))
+  pub words : after ≡ set before (entryWords * i + entryNumber) (to - (i + 1))
 
 -- the code of the tree at node i
 pub record Written (l : List ℕ) (i : ℕ) (values slots before after : List ℕ) (n r : ℕ) : Type 0 where

@@ -1,12 +1,12 @@
 -- What the tree of an accepted text keeps: its tokens are below m, its numbers below 2 ^ 31, each of its names means a variable or a function among 16, and no call has more than 4 arguments.
-use Prim.Native.Nat.{ℕ, _+_, _≤_, _<_}
+use Prim.Native.Nat.{ℕ, _+_, _^_, _≤_, _<_}
 use Rattle.syntax.specs.Ast.{Sort, Ast}
 use Rattle.syntax.specs.Ast as A
 use Rattle.events.specs.Event.{count}
 
 unfoldable pub Sound : {s : Sort} → ℕ → (value means : ℕ → ℕ) → Ast s → Type 0
-Sound m value means (A.number i) = (i < m) × (value i < 2147483648)
-Sound m value means (A.negative i) = (i + 1 < m) × (value (i + 1) < 2147483648)
+Sound m value means (A.number i) = (i < m) × (value i < 2 ^ 31)
+Sound m value means (A.negative i) = (i + 1 < m) × (value (i + 1) < 2 ^ 31)
 Sound m value means (A.name i) = (i < m) × (means i < 16)
 Sound m value means (A.call i a) = (i < m) × (means i < 16) × (count a ≤ 4) × Sound m value means a
 Sound m value means (A.bracket i e) = Sound m value means e

@@ -1,6 +1,6 @@
 // The code of a resolved program: one pass over the node table.
 ghost use mathlib.Core.Path.{_≡_};
-ghost use Prim.Native.Nat.{_+_, _*_, _≤_, _<_};
+ghost use Prim.Native.Nat.{_+_, _*_, _^_, _≤_, _<_};
 ghost use lib.IntN.{pos, _-ℤ_};
 ghost use lib.ListN.{length, getD};
 ghost use lib.Seq.{sets};
@@ -8,29 +8,34 @@ ghost use Rattle.semantics.specs.Int.{low32};
 ghost use Rattle.syntax.specs.Ast.{prog};
 ghost use Rattle.events.specs.Walk.{Rooted};
 ghost use Rattle.compiler.specs.Compile.{Ready, Compiled};
-ghost use Rattle.compiler.specs.Pass.{operationOf, Functions, Emitted, Aimed, Room, Written, RoomP, Built};
+ghost use Rattle.compiler.specs.Pass.{operationOf, jumpOf, Functions, Emitted, Aimed, Room, Written, RoomP, Built};
+ghost use Rattle.simulation.specs.Words.{entryWords};
+use code::Address;
 use code::entry;
 use events::arity;
 use syntax::fetch;
 use syntax::kind;
-
-fn wide(x: u32) -> usize
-    ensures { λ r. ⌜ (r ≡ x) × (r < 4294967296) ⌝ }
-{
-    x as usize
-}
+use syntax::wide;
 
 // Word i.
 fn word(words: &[u32], i: usize) -> usize
     requires { ⌜ i < length (now words) ⌝ }
-    ensures { λ r. ⌜ (r ≡ getD (now (words .entry)) i 0) × (r < 4294967296) ⌝ }
+    ensures { λ r. ⌜ (r ≡ getD (now (words .entry)) i 0) × (r < 2 ^ 32) ⌝ }
 {
     wide(words[i])
 }
 
+// The variable that token i names.
+fn address(slots: &[u32], i: usize) -> Address
+    requires { ⌜ i < length (now slots) ⌝ }
+    ensures { λ r. ⌜ (r .0 ≡ getD (now (slots .entry)) i 0) × (r .0 < 2 ^ 32) ⌝ }
+{
+    Address(word(slots, i))
+}
+
 // The low 32 bits of a number, negated.
 fn negative(x: u32) -> usize
-    ensures { λ r. ⌜ (r ≡ low32 (pos 0 -ℤ pos x)) × (r < 4294967296) ⌝ }
+    ensures { λ r. ⌜ (r ≡ low32 (pos 0 -ℤ pos x)) × (r < 2 ^ 32) ⌝ }
 {
     wide(std::num::wrapping_sub_u32(0, x))
 }
@@ -38,27 +43,35 @@ fn negative(x: u32) -> usize
 // The same of the number at word i.
 fn negated(words: &[u32], i: usize) -> usize
     requires { ⌜ i < length (now words) ⌝ }
-    ensures { λ r. ⌜ (r ≡ low32 (pos 0 -ℤ pos (getD (now (words .entry)) i 0))) × (r < 4294967296) ⌝ }
+    ensures { λ r. ⌜ (r ≡ low32 (pos 0 -ℤ pos (getD (now (words .entry)) i 0))) × (r < 2 ^ 32) ⌝ }
 {
     negative(words[i])
 }
 
 // Writes entry n and answers n + 1.
 fn emit(code: &mut [u32], n: usize, k: u32, w: usize) -> usize
-    requires { ⌜ (2 * n + 2 ≤ length (now code)) × (n < 65536) × (w < 4294967296) ⌝ }
+    requires { ⌜ (entryWords * n + entryWords ≤ length (now code)) × (n < 65536) × (w < 2 ^ 32) ⌝ }
     ensures { λ r. ⌜ Emitted (now (code .entry)) (now (code .exit)) n r k w ⌝ }
 {
-    code[2 * n] = k;
-    code[2 * n + 1] = w as u32;
+    code[entry::WORDS * n] = k;
+    code[entry::WORDS * n + entry::NUMBER_WORD] = w as u32;
     n + 1
+}
+
+// Writes entry n, which is done with a variable, and answers n + 1.
+fn emit_address(code: &mut [u32], n: usize, k: u32, a: Address) -> usize
+    requires { ⌜ (entryWords * n + entryWords ≤ length (now code)) × (n < 65536) × (a .0 < 2 ^ 32) ⌝ }
+    ensures { λ r. ⌜ Emitted (now (code .entry)) (now (code .exit)) n r k (a .0) ⌝ }
+{
+    emit(code, n, k, a.0)
 }
 
 // Entry i leads to entry `to`.
 fn aim(code: &mut [u32], i: usize, to: usize)
-    requires { ⌜ (i < to) × (to < 65536) × (2 * i + 2 ≤ length (now code)) ⌝ }
+    requires { ⌜ (i < to) × (to < 65536) × (entryWords * i + entryWords ≤ length (now code)) ⌝ }
     ensures { λ r. ⌜ Aimed (now (code .entry)) (now (code .exit)) i to ⌝ }
 {
-    code[2 * i + 1] = (to - (i + 1)) as u32;
+    code[entry::WORDS * i + entry::NUMBER_WORD] = (to - (i + 1)) as u32;
 }
 
 // The count of the functions at node i.
@@ -92,6 +105,16 @@ fn operation(k: u32, c: usize) -> u32
     }
 }
 
+// The kind of the jump over the right side of `&&` or `||`.
+fn jump_over(k: u32) -> u32
+    ensures { λ r. ⌜ r ≡ jumpOf k ⌝ }
+{
+    match k {
+        kind::BOTH => entry::JUMP,
+        _ => entry::JUMP_TRUE,
+    }
+}
+
 // The code of an expression, a condition or arguments.
 fn expression(
     nodes: &[u32],
@@ -116,14 +139,14 @@ fn expression(
             emit(code, n, entry::NUMBER, w)
         }
         kind::NAME => {
-            let w = word(slots, node.token);
-            emit(code, n, entry::NAME, w)
+            let a = address(slots, node.token);
+            emit_address(code, n, entry::NAME, a)
         }
         kind::CALL => {
             let m = expression(nodes, node.first, values, slots, code, n);
             let count = arity(nodes, node.first);
             let g = word(slots, node.token);
-            emit(code, m, entry::CALL, g + 16 * count)
+            emit(code, m, entry::CALL, g + entry::FUNCTIONS * count)
         }
         kind::BRACKET => expression(nodes, node.first, values, slots, code, n),
         kind::NO_ARGS => n,
@@ -131,7 +154,7 @@ fn expression(
         kind::NEVER => emit(code, n, entry::NEVER, 0),
         kind::BOTH | kind::EITHER => {
             let m = expression(nodes, node.first, values, slots, code, n);
-            let q = emit(code, m, k + 2, 0);
+            let q = emit(code, m, jump_over(k), 0);
             let r = expression(nodes, node.second, values, slots, code, q);
             aim(code, m, r);
             r
@@ -162,18 +185,18 @@ fn statement(
     match k {
         kind::EMPTY => emit(code, n, entry::BEGIN, 0),
         kind::DECLARE => {
-            let w = word(slots, node.token + 1);
-            emit(code, n, entry::CLEAR, w)
+            let a = address(slots, node.token + 1);
+            emit_address(code, n, entry::CLEAR, a)
         }
         kind::DECLARE_FREE => {
-            let w = word(slots, node.token + 1);
-            emit(code, n, entry::ASK, w)
+            let a = address(slots, node.token + 1);
+            emit_address(code, n, entry::ASK, a)
         }
         kind::ASSIGN => {
             let q = emit(code, n, entry::BEGIN, 0);
             let m = expression(nodes, node.first, values, slots, code, q);
-            let w = word(slots, node.token);
-            emit(code, m, entry::STORE, w)
+            let a = address(slots, node.token);
+            emit_address(code, m, entry::STORE, a)
         }
         kind::EVAL => {
             let q = emit(code, n, entry::BEGIN, 0);
@@ -273,8 +296,8 @@ pub fn compile(
     let a = emit(code, 0, entry::CALL, main);
     let b = emit(code, a, entry::RETURN, 0);
     let n = emit(code, b, entry::FAIL, 0);
-    let mut starts = [2; 16];
+    let mut starts = [entry::NOWHERE; entry::FUNCTIONS];
     let r = program(nodes, root, values, slots, code, n, &mut starts);
-    copy(&starts, code, 2 * r);
+    copy(&starts, code, entry::WORDS * r);
     r
 }

@@ -10,6 +10,7 @@ use Rattle.syntax.specs.Tree.{Cat, Tree, onto, width}
 use Rattle.syntax.specs.Tree as T
 use Rattle.syntax.specs.Abstract.{ast}
 use Rattle.events.specs.Event.{Event, function, parameter, thing, opens, closes, ends, first, stops, closing, eventsAt, events}
+use Rattle.events.specs.Stored.{eventWords}
 
 -- an expression has one event fewer
 abbrev slack : Cat → ℕ
@@ -85,6 +86,6 @@ pub capacity : {c : Cat} (d : ℕ) (t : Tree c) → length (eventsAt d (ast t)) 
 capacity d t = omega (arith, fits d t [])
 
 -- so the events of a text of 2,048 tokens fit into 12,288 words
-pub program-fits : (p : Tree T.prog) → width p ≤ 2048 → 3 * length (events (ast p)) ≤ 12288
+pub program-fits : (p : Tree T.prog) → width p ≤ 2048 → eventWords * length (events (ast p)) ≤ 12288
 unfolding events
 program-fits p h = omega (arith, capacity 1 p)

@@ -10,20 +10,16 @@ use lib.Seq.{getD-set-same, getD-set-other}
 use Rattle.syntax.specs.Ast.{Sort, Ast}
 use Rattle.syntax.specs.Table.{Holds}
 use Rattle.events.specs.Event.{Event, opens, closes, eventsAt}
-use Rattle.events.specs.Stored.{eventOf, from, stored}
+use Rattle.events.specs.Stored.{eventMore, eventToken, eventWords, eventOf, eventAt, from, stored}
 use Rattle.events.specs.Walk.{Below, Rooted}
 use Rattle.events.specs.Visit.{Grown, level, Located}
-
--- event k
-abbrev pub at : List ℕ → ℕ → Event
-at l k = eventOf (getD l (3 * k) 0) (getD l (3 * k + 1) 0) (getD l (3 * k + 2) 0)
 
 -- no events; one event and the events after it
 pub from-none : (l : List ℕ) (k : ℕ) → from l k 0 ≡ []
 unfolding from
 from-none l k = refl
 
-pub from-next : (l : List ℕ) (k m : ℕ) → from l k (m + 1) ≡ at l k ∷ from l (k + 1) m
+pub from-next : (l : List ℕ) (k m : ℕ) → from l k (m + 1) ≡ eventAt l k ∷ from l (k + 1) m
 unfolding from
 from-next l k m = rw (add-one m, add-one k)
 
@@ -33,10 +29,10 @@ unfolding from
 from-split l k zero n = rw (zero-add, add-zero)
 from-split l k (suc m) n =
     let e : suc k + m ≡ k + suc m = omega arith in
-    ap (λ (x : ℕ). from l k x) (suc-add m n) ∙ ap (λ (r : List Event). at l k ∷ r) (from-split l (suc k) m n ∙ ap (λ (x : ℕ). from l (suc k) m ++ from l x n) e)
+    ap (λ (x : ℕ). from l k x) (suc-add m n) ∙ ap (λ (r : List Event). eventAt l k ∷ r) (from-split l (suc k) m n ∙ ap (λ (x : ℕ). from l (suc k) m ++ from l x n) e)
 
 -- the last one
-pub from-last : (l : List ℕ) (k m : ℕ) → from l k (m + 1) ≡ from l k m ++ at l (k + m) ∷ []
+pub from-last : (l : List ℕ) (k m : ℕ) → from l k (m + 1) ≡ from l k m ++ eventAt l (k + m) ∷ []
 unfolding from
 from-last l k m = from-split l k m 1
 
@@ -47,13 +43,13 @@ from-length l k zero = refl
 from-length l k (suc m) = ap suc (from-length l (suc k) m)
 
 -- only their own words matter
-pub from-same : (l m : List ℕ) (k n : ℕ) → ((j : ℕ) → j < 3 * (k + n) → getD m j 0 ≡ getD l j 0) → from m k n ≡ from l k n
+pub from-same : (l m : List ℕ) (k n : ℕ) → ((j : ℕ) → j < eventWords * (k + n) → getD m j 0 ≡ getD l j 0) → from m k n ≡ from l k n
 unfolding from
 from-same l m k zero h = refl
 from-same l m k (suc n) h =
-    let a = h (3 * k) (omega arith) in
-    let b = h (3 * k + 1) (omega arith) in
-    let c = h (3 * k + 2) (omega arith) in
+    let a = h (eventWords * k) (omega arith) in
+    let b = h (eventWords * k + eventToken) (omega arith) in
+    let c = h (eventWords * k + eventMore) (omega arith) in
     let r = from-same l m (suc k) n (λ j i. h j (omega arith)) in
     cc
 
@@ -61,25 +57,25 @@ from-same l m k (suc n) h =
 
 -- event n is written
 abbrev pub put : List ℕ → ℕ → ℕ → ℕ → ℕ → List ℕ
-put l n k x y = set (set (set l (3 * n) k) (3 * n + 1) x) (3 * n + 2) y
+put l n k x y = set (set (set l (eventWords * n) k) (eventWords * n + eventToken) x) (eventWords * n + eventMore) y
 
-module _ (l : List ℕ) (n k x y : ℕ) (h : 3 * n + 3 ≤ length l) where
+module _ (l : List ℕ) (n k x y : ℕ) (h : eventWords * n + eventWords ≤ length l) where
   abbrev l₁ : List ℕ
-  l₁ = set l (3 * n) k
+  l₁ = set l (eventWords * n) k
 
   abbrev l₂ : List ℕ
-  l₂ = set l₁ (3 * n + 1) x
+  l₂ = set l₁ (eventWords * n + eventToken) x
 
-  put-other : (j : ℕ) → j < 3 * (0 + n) → getD (put l n k x y) j 0 ≡ getD l j 0
-  put-other j i = getD-set-other l₂ (3 * n + 2) j y 0 (λ e. omega arith) ∙ getD-set-other l₁ (3 * n + 1) j x 0 (λ e. omega arith) ∙ getD-set-other l (3 * n) j k 0 (λ e. omega arith)
+  put-other : (j : ℕ) → j < eventWords * (0 + n) → getD (put l n k x y) j 0 ≡ getD l j 0
+  put-other j i = getD-set-other l₂ (eventWords * n + eventMore) j y 0 (λ e. omega arith) ∙ getD-set-other l₁ (eventWords * n + eventToken) j x 0 (λ e. omega arith) ∙ getD-set-other l (eventWords * n) j k 0 (λ e. omega arith)
 
-  put-at : at (put l n k x y) n ≡ eventOf k x y
+  put-at : eventAt (put l n k x y) n ≡ eventOf k x y
   put-at =
       let e₁ : length l₁ ≡ length l = simp length-set in
       let e₂ : length l₂ ≡ length l = simp length-set in
-      let a : getD (put l n k x y) (3 * n) 0 ≡ k = getD-set-other l₂ (3 * n + 2) (3 * n) y 0 (λ e. omega arith) ∙ getD-set-other l₁ (3 * n + 1) (3 * n) x 0 (λ e. omega arith) ∙ getD-set-same l (3 * n) k 0 (omega arith) in
-      let b : getD (put l n k x y) (3 * n + 1) 0 ≡ x = getD-set-other l₂ (3 * n + 2) (3 * n + 1) y 0 (λ e. omega arith) ∙ getD-set-same l₁ (3 * n + 1) x 0 (omega arith) in
-      let c : getD (put l n k x y) (3 * n + 2) 0 ≡ y = getD-set-same l₂ (3 * n + 2) y 0 (omega arith) in
+      let a : getD (put l n k x y) (eventWords * n) 0 ≡ k = getD-set-other l₂ (eventWords * n + eventMore) (eventWords * n) y 0 (λ e. omega arith) ∙ getD-set-other l₁ (eventWords * n + eventToken) (eventWords * n) x 0 (λ e. omega arith) ∙ getD-set-same l (eventWords * n) k 0 (omega arith) in
+      let b : getD (put l n k x y) (eventWords * n + eventToken) 0 ≡ x = getD-set-other l₂ (eventWords * n + eventMore) (eventWords * n + eventToken) y 0 (λ e. omega arith) ∙ getD-set-same l₁ (eventWords * n + eventToken) x 0 (omega arith) in
+      let c : getD (put l n k x y) (eventWords * n + eventMore) 0 ≡ y = getD-set-same l₂ (eventWords * n + eventMore) y 0 (omega arith) in
       cc
 
   -- it follows those before it
@@ -87,7 +83,7 @@ module _ (l : List ℕ) (n k x y : ℕ) (h : 3 * n + 3 ≤ length l) where
   stored-put =
       let a = from-last (put l n k x y) 0 n in
       let b = from-same l (put l n k x y) 0 n put-other in
-      let c : at (put l n k x y) (0 + n) ≡ at (put l n k x y) n = rw zero-add in
+      let c : eventAt (put l n k x y) (0 + n) ≡ eventAt (put l n k x y) n = rw zero-add in
       let d = put-at in
       cc
 
@@ -96,7 +92,7 @@ module _ (l : List ℕ) (n k x y : ℕ) (h : 3 * n + 3 ≤ length l) where
     size = simp length-set;
     total = refl;
     holds = stored-put;
-    kept = λ j i. getD-set-other l₂ (3 * n + 2) j y 0 (λ e. omega arith) ∙ getD-set-other l₁ (3 * n + 1) j x 0 (λ e. omega arith) ∙ getD-set-other l (3 * n) j k 0 (λ e. omega arith);
+    kept = λ j i. getD-set-other l₂ (eventWords * n + eventMore) j y 0 (λ e. omega arith) ∙ getD-set-other l₁ (eventWords * n + eventToken) j x 0 (λ e. omega arith) ∙ getD-set-other l (eventWords * n) j k 0 (λ e. omega arith);
   }
 
 -- ---- slices that grow
@@ -114,7 +110,7 @@ grown-then {l} {m} {o} {n} {q} {r} {es} {fs} g h = record {
 
 -- there is room for es after n events
 pub record Due (l : List ℕ) (n : ℕ) (es : List Event) : Type 0 where
-  pub space : 3 * (n + length es) ≤ length l
+  pub space : eventWords * (n + length es) ≤ length l
 
 pub due-front : {l : List ℕ} {n : ℕ} (es fs : List Event) → Due l n (es ++ fs) → Due l n es
 due-front es fs d = record { space = omega (arith, d .space, length-append es fs) }
@@ -123,7 +119,7 @@ pub due-after : {l m : List ℕ} {n r : ℕ} {es fs : List Event} → Due l n (e
 due-after {es = es} {fs = fs} d g = record { space = omega (arith, d .space, g .size, g .total, length-append es fs) }
 
 -- one event more
-pub due-room : {l : List ℕ} {n : ℕ} {e : Event} {es : List Event} → Due l n (e ∷ es) → 3 * n + 3 ≤ length l
+pub due-room : {l : List ℕ} {n : ℕ} {e : Event} {es : List Event} → Due l n (e ∷ es) → eventWords * n + eventWords ≤ length l
 due-room d = omega (arith, d .space)
 
 pub due-next : {l m : List ℕ} {n r : ℕ} {e f : Event} {es : List Event} → Due l n (e ∷ es) → Grown l m n r (f ∷ []) → Due m r es

@@ -8,7 +8,7 @@ use native.Mathlib.Omega.{arith}
 use Rattle.syntax.specs.declared.Node.{Node}
 use Rattle.syntax.specs.Fetch.{Fetched}
 use Rattle.syntax.specs.Ast.{Sort, Ast, body}
-use Rattle.syntax.specs.Table.{At, Holds, nName, at-number, at-negative, at-name, at-call, at-bracket, at-times, at-plus, at-minus, at-no-args, at-more-args, at-always, at-never, at-compare, at-both, at-either, at-empty, at-declare, at-declare-free, at-assign, at-eval, at-block, at-if-else, at-while, at-return, at-fail, at-no-stmts, at-more-stmts, at-braced, at-no-params, at-more-params, at-function, at-no-funs, at-more-funs}
+use Rattle.syntax.specs.Table.{nAlways, nAssign, nBlock, nBraced, nBracket, nCall, nDeclare, nDeclareFree, nEmpty, nEval, nFail, nFunction, nIfElse, nMoreArgs, nMoreFuns, nMoreParams, nMoreStmts, nNegative, nNever, nNoArgs, nNoFuns, nNoParams, nNoStmts, nNumber, nReturn, nWhile, At, Holds, nName, at-number, at-negative, at-name, at-call, at-bracket, at-times, at-plus, at-minus, at-no-args, at-more-args, at-always, at-never, at-compare, at-both, at-either, at-empty, at-declare, at-declare-free, at-assign, at-eval, at-block, at-if-else, at-while, at-return, at-fail, at-no-stmts, at-more-stmts, at-braced, at-no-params, at-more-params, at-function, at-no-funs, at-more-funs}
 use Rattle.events.specs.Event.{thing, declares, uses, ends, closing, eventsAt}
 use Rattle.events.specs.Walk.{Below}
 use Rattle.events.specs.Visit.{level}
@@ -23,10 +23,10 @@ name-node d f e h = name-alone d f (at-kind nName f e h)
 
 -- the two statements of one word, and the two declarations
 pub data Plain : ℕ → Type 0 where
-  empty : Plain 16
-  fail : Plain 25
+  empty : Plain nEmpty
+  fail : Plain nFail
 
-pub plain : {k : ℕ} → (k ≡ 16) ⊎ (k ≡ 25) → Plain k
+pub plain : {k : ℕ} → (k ≡ nEmpty) ⊎ (k ≡ nFail) → Plain k
 plain (inl e) = subst Plain (sym e) empty
 plain (inr e) = subst Plain (sym e) fail
 
@@ -39,16 +39,16 @@ pub plain-node : {l : List ℕ} {s : Sort} {i : ℕ} {n : Node} {t : Ast s} (d :
 plain-node {n = n} d k f h = plain-alone d k f (at-kind (n .kind) f refl h)
 
 pub data Declaring : ℕ → Type 0 where
-  declare : Declaring 17
-  declare-free : Declaring 18
+  declare : Declaring nDeclare
+  declare-free : Declaring nDeclareFree
 
-pub above-empty : {k : ℕ} → 16 ≤ k → (k ≡ 16 → ⊥) → 17 ≤ k
+pub above-empty : {k : ℕ} → nEmpty ≤ k → (k ≡ nEmpty → ⊥) → nDeclare ≤ k
 above-empty h p = omega (arith, h, p)
 
-pub declaring : {k : ℕ} → 17 ≤ k → k < 19 → Declaring k
-declaring {k} lo hi = two-of Declaring 17 k lo hi declare declare-free
+pub declaring : {k : ℕ} → nDeclare ≤ k → k < nAssign → Declaring k
+declaring {k} lo hi = two-of Declaring nDeclare k lo hi declare declare-free
 
-pub not-declaring : {k : ℕ} → (k < 17) ⊎ (19 ≤ k) → Declaring k → ⊥
+pub not-declaring : {k : ℕ} → (k < nDeclare) ⊎ (nAssign ≤ k) → Declaring k → ⊥
 not-declaring (inl h) declare = omega arith
 not-declaring (inl h) declare-free = omega arith
 not-declaring (inr h) declare = omega arith
@@ -73,14 +73,14 @@ declare-below {n = n} k f h b = declare-token k f (at-kind (n .kind) f refl h) b
 -- ---- nodes without events
 
 pub data Silent : ℕ → Type 0 where
-  number : Silent 1
-  negative : Silent 2
-  no-args : Silent 9
-  always : Silent 11
-  never : Silent 12
-  no-stmts : Silent 26
-  no-params : Silent 29
-  no-funs : Silent 32
+  number : Silent nNumber
+  negative : Silent nNegative
+  no-args : Silent nNoArgs
+  always : Silent nAlways
+  never : Silent nNever
+  no-stmts : Silent nNoStmts
+  no-params : Silent nNoParams
+  no-funs : Silent nNoFuns
 
 silent-alone : {l : List ℕ} {s : Sort} {i k : ℕ} {t : Ast s} (d : ℕ) → Silent k → At l s i k t → eventsAt d t ≡ []
 unfolding eventsAt
@@ -96,7 +96,7 @@ silent-alone d no-funs (at-no-funs r) = refl
 pub silent-node : {l : List ℕ} {s : Sort} {i : ℕ} {n : Node} {t : Ast s} (d : ℕ) → Silent (n .kind) → Fetched l i n → Holds l i t → eventsAt d t ≡ []
 silent-node {n = n} d k f h = silent-alone d k (at-kind (n .kind) f refl h)
 
-pub silent-expression : {l : List ℕ} {s : Sort} {i k : ℕ} {t : Ast s} → level s ≡ 0 → At l s i k t → (k ≡ 3 → ⊥) → (k ≡ 4 → ⊥) → (k ≡ 5 → ⊥) → (Joint k → ⊥) → (k ≡ 10 → ⊥) → Silent k
+pub silent-expression : {l : List ℕ} {s : Sort} {i k : ℕ} {t : Ast s} → level s ≡ 0 → At l s i k t → (k ≡ nName → ⊥) → (k ≡ nCall → ⊥) → (k ≡ nBracket → ⊥) → (Joint k → ⊥) → (k ≡ nMoreArgs → ⊥) → Silent k
 silent-expression h (at-number r) _ _ _ _ _ = number
 silent-expression h (at-negative r) _ _ _ _ _ = negative
 silent-expression h (at-name r) n0 _ _ _ _ = absurd (n0 refl)
@@ -131,7 +131,7 @@ silent-expression h (at-function r p q x y) _ _ _ _ _ = absurd (omega (arith, h)
 silent-expression h (at-no-funs r) _ _ _ _ _ = absurd (omega (arith, h))
 silent-expression h (at-more-funs r p q x y) _ _ _ _ _ = absurd (omega (arith, h))
 
-pub silent-statement : {l : List ℕ} {s : Sort} {i k : ℕ} {t : Ast s} → level s ≡ 1 → At l s i k t → ((k ≡ 16) ⊎ (k ≡ 25) → ⊥) → (Declaring k → ⊥) → (k ≡ 19 → ⊥) → (k ≡ 20 → ⊥) → (k ≡ 21 → ⊥) → (k ≡ 22 → ⊥) → (k ≡ 23 → ⊥) → (k ≡ 24 → ⊥) → (k ≡ 27 → ⊥) → (k ≡ 28 → ⊥) → Silent k
+pub silent-statement : {l : List ℕ} {s : Sort} {i k : ℕ} {t : Ast s} → level s ≡ 1 → At l s i k t → ((k ≡ nEmpty) ⊎ (k ≡ nFail) → ⊥) → (Declaring k → ⊥) → (k ≡ nAssign → ⊥) → (k ≡ nEval → ⊥) → (k ≡ nBlock → ⊥) → (k ≡ nIfElse → ⊥) → (k ≡ nWhile → ⊥) → (k ≡ nReturn → ⊥) → (k ≡ nMoreStmts → ⊥) → (k ≡ nBraced → ⊥) → Silent k
 silent-statement h (at-number r) _ _ _ _ _ _ _ _ _ _ = absurd (omega (arith, h))
 silent-statement h (at-negative r) _ _ _ _ _ _ _ _ _ _ = absurd (omega (arith, h))
 silent-statement h (at-name r) _ _ _ _ _ _ _ _ _ _ = absurd (omega (arith, h))
@@ -166,7 +166,7 @@ silent-statement h (at-function r p q x y) _ _ _ _ _ _ _ _ _ _ = absurd (omega (
 silent-statement h (at-no-funs r) _ _ _ _ _ _ _ _ _ _ = absurd (omega (arith, h))
 silent-statement h (at-more-funs r p q x y) _ _ _ _ _ _ _ _ _ _ = absurd (omega (arith, h))
 
-pub silent-program : {l : List ℕ} {s : Sort} {i k : ℕ} {t : Ast s} → level s ≡ 2 → At l s i k t → (k ≡ 30 → ⊥) → (k ≡ 31 → ⊥) → (k ≡ 33 → ⊥) → Silent k
+pub silent-program : {l : List ℕ} {s : Sort} {i k : ℕ} {t : Ast s} → level s ≡ 2 → At l s i k t → (k ≡ nMoreParams → ⊥) → (k ≡ nFunction → ⊥) → (k ≡ nMoreFuns → ⊥) → Silent k
 silent-program h (at-number r) _ _ _ = absurd (omega (arith, h))
 silent-program h (at-negative r) _ _ _ = absurd (omega (arith, h))
 silent-program h (at-name r) _ _ _ = absurd (omega (arith, h))

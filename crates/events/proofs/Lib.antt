@@ -1,5 +1,6 @@
 -- Theorems.
 pub mod Laws
+pub mod Variants
 pub mod Nodes
 pub mod Leaves
 pub mod Steps

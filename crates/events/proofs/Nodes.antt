@@ -12,7 +12,7 @@ use Rattle.syntax.specs.declared.Node.{Node}
 use Rattle.syntax.specs.Fetch.{Fetched}
 use Rattle.syntax.specs.Ast.{Sort, Ast, expr, args, cond, stmt, stmts, body, params}
 use Rattle.syntax.specs.Ast as A
-use Rattle.syntax.specs.Table.{At, Holds, nCall, nBracket, nMoreArgs, nAssign, nEval, nBlock, nIfElse, nWhile, nReturn, nMoreStmts, nBraced, nMoreParams, nFunction, nMoreFuns, at-number, at-negative, at-name, at-call, at-bracket, at-times, at-plus, at-minus, at-no-args, at-more-args, at-always, at-never, at-compare, at-both, at-either, at-empty, at-declare, at-declare-free, at-assign, at-eval, at-block, at-if-else, at-while, at-return, at-fail, at-no-stmts, at-more-stmts, at-braced, at-no-params, at-more-params, at-function, at-no-funs, at-more-funs}
+use Rattle.syntax.specs.Table.{nEmpty, nNoArgs, nBoth, nCompare, nEither, nMinus, nName, nPlus, nTimes, nodeToken, nodeWords, At, Holds, nCall, nBracket, nMoreArgs, nAssign, nEval, nBlock, nIfElse, nWhile, nReturn, nMoreStmts, nBraced, nMoreParams, nFunction, nMoreFuns, at-number, at-negative, at-name, at-call, at-bracket, at-times, at-plus, at-minus, at-no-args, at-more-args, at-always, at-never, at-compare, at-both, at-either, at-empty, at-declare, at-declare-free, at-assign, at-eval, at-block, at-if-else, at-while, at-return, at-fail, at-no-stmts, at-more-stmts, at-braced, at-no-params, at-more-params, at-function, at-no-funs, at-more-funs}
 use Rattle.events.specs.Event.{Event, function, parameter, thing, opens, closes, uses, calls, ends, first, count, stops, closing, eventsAt}
 use Rattle.events.specs.Walk.{Below}
 use Rattle.events.specs.Visit.{level}
@@ -24,7 +24,7 @@ two-of P a k lo hi x y = ⊎-elim (λ e. subst P e x) (λ h. let e : a + 1 ≡ k
 pub three-of : (P : ℕ → Type 0) (a k : ℕ) → a ≤ k → k < a + 3 → P a → P (a + 1) → P (a + 2) → P k
 three-of P a k lo hi x y z = ⊎-elim (λ e. subst P e x) (λ h. two-of P (a + 1) k (omega (arith, h)) (omega (arith, hi)) y (let e : a + 2 ≡ a + 1 + 1 = omega arith in subst P e z)) (eq-or-lt-of-le lo)
 
-kind-of : {l : List ℕ} {s : Sort} {i k : ℕ} {t : Ast s} → At l s i k t → getD l (5 * i) 0 ≡ k
+kind-of : {l : List ℕ} {s : Sort} {i k : ℕ} {t : Ast s} → At l s i k t → getD l (nodeWords * i) 0 ≡ k
 kind-of (at-number r) = r .kind
 kind-of (at-negative r) = r .kind
 kind-of (at-name r) = r .kind
@@ -64,7 +64,7 @@ pub at-kind : {l : List ℕ} {s : Sort} {i : ℕ} {n : Node} {t : Ast s} (k : �
 at-kind {l} {s} {i} {n} {t} k f e h = subst (λ (j : ℕ). At l s i j t) (sym (kind-of (h .at)) ∙ sym (f .kind) ∙ e) (h .at)
 
 -- the tokens that a tree below m names
-token-at : {l : List ℕ} {s : Sort} {i k : ℕ} {t : Ast s} (m : ℕ) → 0 < m → At l s i k t → Below m t → getD l (5 * i + 1) 0 < m
+token-at : {l : List ℕ} {s : Sort} {i k : ℕ} {t : Ast s} (m : ℕ) → 0 < m → At l s i k t → Below m t → getD l (nodeWords * i + nodeToken) 0 < m
 unfolding Below
 token-at m pos (at-number r) b = omega (arith, r .token, b)
 token-at m pos (at-negative r) b = omega (arith, r .token, b)
@@ -106,7 +106,7 @@ token-below f h b = omega (arith, f .token, token-at 65536 (omega arith) (h .at)
 pub first-below : (m : ℕ) (e : Ast expr) → Below m e → first e < m
 unfolding Below first
 first-below m (A.number i) b = b
-first-below m (A.negative i) b = b
+first-below m (A.negative i) b = omega (arith, b)
 first-below m (A.name i) b = b
 first-below m (A.call i a) b = b .0
 first-below m (A.bracket i e) b = b .0
@@ -256,24 +256,24 @@ pair {s₁ = s₁} {s₂ = s₂} {x = x} {y = y} m o f g p q c e h b = record { 
 
 -- the kinds of pairs in an expression or a condition
 pub data Joint : ℕ → Type 0 where
-  times : Joint 6
-  plus : Joint 7
-  minus : Joint 8
-  compare : Joint 13
-  both : Joint 14
-  either : Joint 15
+  times : Joint nTimes
+  plus : Joint nPlus
+  minus : Joint nMinus
+  compare : Joint nCompare
+  both : Joint nBoth
+  either : Joint nEither
 
-pub above-leaves : {k : ℕ} → 3 ≤ k → (k ≡ 3 → ⊥) → (k ≡ 4 → ⊥) → (k ≡ 5 → ⊥) → 6 ≤ k
+pub above-leaves : {k : ℕ} → nName ≤ k → (k ≡ nName → ⊥) → (k ≡ nCall → ⊥) → (k ≡ nBracket → ⊥) → nTimes ≤ k
 above-leaves h p q r = omega (arith, h, p, q, r)
 
-pub joint-low : {k : ℕ} → 6 ≤ k → k < 9 → Joint k
-joint-low {k} lo hi = three-of Joint 6 k lo hi times plus minus
+pub joint-low : {k : ℕ} → nTimes ≤ k → k < nNoArgs → Joint k
+joint-low {k} lo hi = three-of Joint nTimes k lo hi times plus minus
 
-pub joint-high : {k : ℕ} → 13 ≤ k → k < 16 → Joint k
-joint-high {k} lo hi = three-of Joint 13 k lo hi compare both either
+pub joint-high : {k : ℕ} → nCompare ≤ k → k < nEmpty → Joint k
+joint-high {k} lo hi = three-of Joint nCompare k lo hi compare both either
 
 -- where they stand among the kinds
-pub joint-bounds : {k : ℕ} → Joint k → ((6 ≤ k) × (k < 9)) ⊎ ((13 ≤ k) × (k < 16))
+pub joint-bounds : {k : ℕ} → Joint k → ((nTimes ≤ k) × (k < nNoArgs)) ⊎ ((nCompare ≤ k) × (k < nEmpty))
 joint-bounds times = inl (omega arith)
 joint-bounds plus = inl (omega arith)
 joint-bounds minus = inl (omega arith)
@@ -281,7 +281,7 @@ joint-bounds compare = inr (omega arith)
 joint-bounds both = inr (omega arith)
 joint-bounds either = inr (omega arith)
 
-pub not-joint : {k : ℕ} → (k < 6) ⊎ (((9 ≤ k) × (k < 13)) ⊎ (16 ≤ k)) → Joint k → ⊥
+pub not-joint : {k : ℕ} → (k < nTimes) ⊎ (((nNoArgs ≤ k) × (k < nCompare)) ⊎ (nEmpty ≤ k)) → Joint k → ⊥
 not-joint (inl h) j = ⊎-elim (λ w. omega arith) (λ w. omega arith) (joint-bounds j)
 not-joint (inr (inl h)) j = ⊎-elim (λ w. omega arith) (λ w. omega arith) (joint-bounds j)
 not-joint (inr (inr h)) j = ⊎-elim (λ w. omega arith) (λ w. omega arith) (joint-bounds j)

@@ -9,7 +9,7 @@ use Rattle.syntax.specs.declared.Node.{Node}
 use Rattle.syntax.specs.Fetch.{Fetched}
 use Rattle.syntax.specs.Ast.{Sort, Ast, expr, args}
 use Rattle.syntax.specs.Ast as A
-use Rattle.syntax.specs.Table.{At, Holds, nMoreArgs, nMoreStmts, nIfElse, at-number, at-negative, at-name, at-call, at-bracket, at-times, at-plus, at-minus, at-no-args, at-more-args, at-always, at-never, at-compare, at-both, at-either, at-empty, at-declare, at-declare-free, at-assign, at-eval, at-block, at-if-else, at-while, at-return, at-fail, at-no-stmts, at-more-stmts, at-braced, at-no-params, at-more-params, at-function, at-no-funs, at-more-funs}
+use Rattle.syntax.specs.Table.{nNoStmts, nBlock, nBraced, nFail, nMinus, nPlus, nReturn, nTimes, At, Holds, nMoreArgs, nMoreStmts, nIfElse, at-number, at-negative, at-name, at-call, at-bracket, at-times, at-plus, at-minus, at-no-args, at-more-args, at-always, at-never, at-compare, at-both, at-either, at-empty, at-declare, at-declare-free, at-assign, at-eval, at-block, at-if-else, at-while, at-return, at-fail, at-no-stmts, at-more-stmts, at-braced, at-no-params, at-more-params, at-function, at-no-funs, at-more-funs}
 use Rattle.events.specs.Event.{first, count, stops}
 use Rattle.events.proofs.Nodes.{at-kind, moved, two-of, three-of}
 
@@ -22,11 +22,11 @@ pub record Left (l : List ℕ) (j : ℕ) (e : Ast expr) : Type 0 where
   pub same : first e ≡ first tree
 
 data Sum : ℕ → Type 0 where
-  times : Sum 6
-  plus : Sum 7
-  minus : Sum 8
+  times : Sum nTimes
+  plus : Sum nPlus
+  minus : Sum nMinus
 
-sum-low : {k : ℕ} → k < 6 → Sum k → ⊥
+sum-low : {k : ℕ} → k < nTimes → Sum k → ⊥
 sum-low h times = omega (arith, h)
 sum-low h plus = omega (arith, h)
 sum-low h minus = omega (arith, h)
@@ -44,7 +44,7 @@ left-at minus f (at-minus {x = x} r p q c e) = (omega (arith, f .first, r .first
 
 pub left-step : {l : List ℕ} {j : ℕ} {n : Node} {e : Ast expr} → 6 ≤ n .kind → n .kind < 9 → Fetched l j n → Left l j e → (n .first < j) × Left l (n .first) e
 left-step {n = n} lo hi f v =
-    let w = left-at (three-of Sum 6 (n .kind) lo hi times plus minus) f (at-kind (n .kind) f refl (v .holds)) in
+    let w = left-at (three-of Sum nTimes (n .kind) lo hi times plus minus) f (at-kind (n .kind) f refl (v .holds)) in
     (w .0, record { tree = w .1 .tree; holds = w .1 .holds; same = v .same ∙ w .1 .same })
 
 first-at : {l : List ℕ} {j k : ℕ} {n : Node} {e : Ast expr} → (Sum k → ⊥) → Fetched l j n → At l expr j k e → n .token ≡ first e
@@ -76,17 +76,17 @@ rest-at : {l : List ℕ} {j : ℕ} {n : Node} {a : Ast args} → Fetched l j n �
 unfolding count
 rest-at f (at-more-args {x = x} r p q c e) = (omega (arith, f .first, r .first), record { tree = x; holds = moved (f .first ∙ r .first) c; same = omega arith })
 
-pub rest-step : {l : List ℕ} {j c : ℕ} {n : Node} {a : Ast args} → n .kind ≡ 10 → Fetched l j n → Rest l j c a → (n .first < j) × Rest l (n .first) (c + 1) a
+pub rest-step : {l : List ℕ} {j c : ℕ} {n : Node} {a : Ast args} → n .kind ≡ nMoreArgs → Fetched l j n → Rest l j c a → (n .first < j) × Rest l (n .first) (c + 1) a
 rest-step e f v =
-    let w = rest-at f (at-kind 10 f e (v .holds)) in
+    let w = rest-at f (at-kind nMoreArgs f e (v .holds)) in
     (w .0, record { tree = w .1 .tree; holds = w .1 .holds; same = omega (arith, v .same, w .1 .same) })
 
-none-at : {l : List ℕ} {j k : ℕ} {a : Ast args} → (k ≡ 10 → ⊥) → At l args j k a → count a ≡ 0
+none-at : {l : List ℕ} {j k : ℕ} {a : Ast args} → (k ≡ nMoreArgs → ⊥) → At l args j k a → count a ≡ 0
 unfolding count
 none-at never (at-no-args r) = refl
 none-at never (at-more-args r p q x y) = absurd (never refl)
 
-pub rest-none : {l : List ℕ} {j c : ℕ} {n : Node} {a : Ast args} → (n .kind ≡ 10 → ⊥) → Fetched l j n → Rest l j c a → c ≡ count a
+pub rest-none : {l : List ℕ} {j c : ℕ} {n : Node} {a : Ast args} → (n .kind ≡ nMoreArgs → ⊥) → Fetched l j n → Rest l j c a → c ≡ count a
 rest-none {n = n} never f v = omega (arith, v .same, none-at never (at-kind (n .kind) f refl (v .holds)))
 
 -- ---- a statement that can't reach its end
@@ -100,10 +100,10 @@ pub record Last (l : List ℕ) (i a : ℕ) {s : Sort} (t : Ast s) : Type 0 where
   pub same : stops t ≡ stops tree
 
 pub data Inner : ℕ → Type 0 where
-  block : Inner 21
-  braced : Inner 28
+  block : Inner nBlock
+  braced : Inner nBraced
 
-pub inner : {k : ℕ} → (k ≡ 21) ⊎ (k ≡ 28) → Inner k
+pub inner : {k : ℕ} → (k ≡ nBlock) ⊎ (k ≡ nBraced) → Inner k
 inner (inl e) = subst Inner (sym e) block
 inner (inr e) = subst Inner (sym e) braced
 
@@ -137,17 +137,17 @@ pub arms-false : (y z : Bool) → false ≡ y → (y && z) ≡ false
 arms-false y z f = ap (λ (b : Bool). b && z) (sym f)
 
 pub data Final : ℕ → Type 0 where
-  return : Final 24
-  fail : Final 25
+  return : Final nReturn
+  fail : Final nFail
 
-pub final : {k : ℕ} → 24 ≤ k → k < 26 → Final k
-final {k} lo hi = two-of Final 24 k lo hi return fail
+pub final : {k : ℕ} → nReturn ≤ k → k < nNoStmts → Final k
+final {k} lo hi = two-of Final nReturn k lo hi return fail
 
-pub final-low : {k : ℕ} → k < 24 → Final k → ⊥
+pub final-low : {k : ℕ} → k < nReturn → Final k → ⊥
 final-low h return = omega (arith, h)
 final-low h fail = omega (arith, h)
 
-pub final-high : {k : ℕ} → 25 < k → Final k → ⊥
+pub final-high : {k : ℕ} → nFail < k → Final k → ⊥
 final-high h return = omega (arith, h)
 final-high h fail = omega (arith, h)
 
@@ -157,7 +157,7 @@ final-stops return (at-return r p x) = refl
 final-stops fail (at-fail r) = refl
 
 -- every other node
-pub goes-on : {l : List ℕ} {s : Sort} {i k : ℕ} {t : Ast s} → ((k ≡ 21) ⊎ (k ≡ 28) → ⊥) → (k ≡ 27 → ⊥) → (k ≡ 22 → ⊥) → (Final k → ⊥) → At l s i k t → stops t ≡ false
+pub goes-on : {l : List ℕ} {s : Sort} {i k : ℕ} {t : Ast s} → ((k ≡ nBlock) ⊎ (k ≡ nBraced) → ⊥) → (k ≡ nMoreStmts → ⊥) → (k ≡ nIfElse → ⊥) → (Final k → ⊥) → At l s i k t → stops t ≡ false
 unfolding stops
 goes-on a b c d (at-number r) = refl
 goes-on a b c d (at-negative r) = refl

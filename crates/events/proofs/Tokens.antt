@@ -14,12 +14,12 @@ use Rattle.events.specs.Event.{Event, function, parameter, thing, opens,
 use Rattle.events.specs.Stored.{from}
 use Rattle.events.specs.Walk.{Below}
 use Rattle.events.proofs.Widths.{onto-length}
-use Rattle.events.proofs.Laws.{at}
+use Rattle.events.specs.Stored.{eventAt}
 use Rattle.events.proofs.Nodes.{first-below}
 
 -- ---- of the tokens of a text
 
-mark-width : (o : Tree T.cmp) → width o ≡ 1
+pub mark-width : (o : Tree T.cmp) → width o ≡ 1
 unfolding onto
 mark-width (T.cmpMark o) = refl
 
@@ -133,10 +133,10 @@ events-within m d A.noFuns b = none
 events-within m d (A.moreFuns x y) b = each-append (events-within m d x (b .0)) (events-within m d y (b .1))
 
 -- event k of those that stand in a slice
-pub each-at : {m : ℕ} (l : List ℕ) (n k : ℕ) → Each m (from l k n) → (j : ℕ) → j < n → Within m (at l (k + j))
+pub each-at : {m : ℕ} (l : List ℕ) (n k : ℕ) → Each m (from l k n) → (j : ℕ) → j < n → Within m (eventAt l (k + j))
 unfolding from
 each-at l zero k p j h = absurd (omega (arith, h))
-each-at {m} l (suc n) k (more w p) zero h = subst (λ (x : ℕ). Within m (at l x)) (sym (add-zero k)) w
+each-at {m} l (suc n) k (more w p) zero h = subst (λ (x : ℕ). Within m (eventAt l x)) (sym (add-zero k)) w
 each-at {m} l (suc n) k (more w p) (suc j) h =
     let e : suc k + j ≡ k + suc j = omega arith in
-    subst (λ (x : ℕ). Within m (at l x)) e (each-at l n (suc k) p j (omega (arith, h)))
+    subst (λ (x : ℕ). Within m (eventAt l x)) e (each-at l n (suc k) p j (omega (arith, h)))

@@ -1,5 +1,5 @@
 -- The things of a text that its rules speak of, in the order in which they stand there. Numbers are those of tokens, but for a depth and a count.
-use Prim.Native.Nat.{ℕ, zero, suc, _+_}
+use Prim.Native.Nat.{ℕ, suc, _+_}
 use mathlib.Core.Bool.{Bool, true, false, not, _&&_}
 use mathlib.Core.List.{List, [], _∷_, _++_}
 use Rattle.syntax.specs.Ast.{Sort, Ast, expr, args, body, prog}

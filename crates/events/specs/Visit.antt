@@ -7,7 +7,7 @@ use lib.ListN.{length, getD}
 use Rattle.syntax.specs.Ast.{Sort, Ast, expr, args, mark, cond, stmt, stmts, body, params, fun, prog}
 use Rattle.syntax.specs.Table.{Holds}
 use Rattle.events.specs.Event.{Event, opens, closes, first, count, stops, eventsAt}
-use Rattle.events.specs.Stored.{stored}
+use Rattle.events.specs.Stored.{eventWords, stored}
 use Rattle.events.specs.Walk.{Below, Rooted}
 
 -- ---- what is asked
@@ -37,7 +37,7 @@ pub record Located (v : ℕ) (l : List ℕ) (i d : ℕ) (out : List ℕ) (n : �
   pub part : level sort ≡ v
   pub tokens : Below 65536 (rooted .tree)
   pub deep : d + i < 131072
-  pub space : 3 * (n + length (eventsAt d (rooted .tree))) ≤ length out
+  pub space : eventWords * (n + length (eventsAt d (rooted .tree))) ≤ length out
 
 -- ---- what is answered
 
@@ -59,7 +59,7 @@ pub record Grown (l m : List ℕ) (n r : ℕ) (es : List Event) : Type 0 where
   pub size : length m ≡ length l
   pub total : r ≡ n + length es
   pub holds : stored m r ≡ stored l n ++ es
-  pub kept : (j : ℕ) → 3 * r ≤ j → getD m j 0 ≡ getD l j 0
+  pub kept : (j : ℕ) → eventWords * r ≤ j → getD m j 0 ≡ getD l j 0
 
 -- the events of the tree at node i, at the depth d, are added
 pub record Visited (l : List ℕ) (i d : ℕ) (out m : List ℕ) (n r : ℕ) : Type 0 where

@@ -5,14 +5,14 @@ use mathlib.Core.List.{List}
 use lib.ListN.{length, getD}
 use Rattle.syntax.specs.Ast.{Sort, Ast, prog}
 use Rattle.syntax.specs.Ast as A
-use Rattle.syntax.specs.Table.{Holds}
+use Rattle.syntax.specs.Table.{nodeWords, Holds}
 use Rattle.events.specs.Event.{events}
-use Rattle.events.specs.Stored.{stored}
+use Rattle.events.specs.Stored.{eventWords, stored}
 
--- the tokens that a tree names are below m (a declaration names the token after its first, too)
+-- the tokens that a tree names are below m (a declaration and a negative number name the token after their first, too)
 unfoldable pub Below : {s : Sort} → ℕ → Ast s → Type 0
 Below m (A.number i) = i < m
-Below m (A.negative i) = i < m
+Below m (A.negative i) = i + 1 < m
 Below m (A.name i) = i < m
 Below m (A.call i a) = (i < m) × Below m a
 Below m (A.bracket i e) = (i < m) × Below m e
@@ -50,17 +50,17 @@ Below m (A.moreFuns p f) = Below m p × Below m f
 pub record Rooted (s : Sort) (l : List ℕ) (i : ℕ) : Type 0 where
   pub tree : Ast s
   pub holds : Holds l i tree
-  pub room : 5 * i + 5 ≤ length l
+  pub room : nodeWords * i + nodeWords ≤ length l
   pub few : i < 65536
 
 -- a program stands at node i, and out has room for its events
 pub record Ready (l : List ℕ) (i : ℕ) (out : List ℕ) : Type 0 where
   pub rooted : Rooted prog l i
   pub tokens : Below 65536 (rooted .tree)
-  pub space : 3 * length (events (rooted .tree)) ≤ length out
+  pub space : eventWords * length (events (rooted .tree)) ≤ length out
 
 -- m has the r events of the program at node i, and after them what out had
 pub record Walked (l : List ℕ) (i : ℕ) (out m : List ℕ) (r : ℕ) : Type 0 where
   pub total : (p : Ast prog) → Holds l i p → r ≡ length (events p)
   pub holds : (p : Ast prog) → Holds l i p → stored m r ≡ events p
-  pub kept : (j : ℕ) → 3 * r ≤ j → getD m j 0 ≡ getD out j 0
+  pub kept : (j : ℕ) → eventWords * r ≤ j → getD m j 0 ≡ getD out j 0

@@ -1,10 +1,9 @@
 // The events of a syntax tree: one pass over the node table.
-ghost use mathlib.Core.Path.{_≡_};
 ghost use mathlib.Core.List.{[], _∷_};
-ghost use Prim.Native.Nat.{_+_, _*_, _≤_, _<_};
+ghost use Prim.Native.Nat.{_+_, _*_, _^_, _≤_, _<_};
 ghost use lib.ListN.{length};
-ghost use Rattle.syntax.specs.Ast.{expr, args, stmt, body};
-ghost use Rattle.events.specs.Stored.{eventOf};
+ghost use Rattle.syntax.specs.Ast.{expr, args, body};
+ghost use Rattle.events.specs.Stored.{eventWords, eventOf};
 ghost use Rattle.events.specs.Walk.{Rooted, Ready, Walked};
 ghost use Rattle.events.specs.Visit.{Stands, Located, First, Count, Stops, Grown, Visited, Enclosed};
 use syntax::fetch;
@@ -14,12 +13,12 @@ pub mod event;
 
 // Writes event n and answers n + 1.
 fn emit(out: &mut [u32], n: usize, k: u32, x: usize, y: usize) -> usize
-    requires { ⌜ (3 * n + 3 ≤ length (now out)) × (x < 4294967296) × (y < 4294967296) ⌝ }
+    requires { ⌜ (eventWords * n + eventWords ≤ length (now out)) × (x < 2 ^ 32) × (y < 2 ^ 32) ⌝ }
     ensures { λ r. ⌜ Grown (now (out .entry)) (now (out .exit)) n r (eventOf k x y ∷ []) ⌝ }
 {
-    out[3 * n] = k;
-    out[3 * n + 1] = x as u32;
-    out[3 * n + 2] = y as u32;
+    out[event::EVENT_WORDS * n] = k;
+    out[event::EVENT_WORDS * n + event::EVENT_TOKEN] = x as u32;
+    out[event::EVENT_WORDS * n + event::EVENT_MORE] = y as u32;
     n + 1
 }
 

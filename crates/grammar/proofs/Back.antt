@@ -16,10 +16,10 @@ use Rattle.grammar.proofs.Readings.{yes, no, then-ok, ahead, past, ends
 
 module _ (ks : List ℕ) where
   -- where the numbers of a tree are counted in another way
-  pub two : (x : ℕ) → x + 1 + 1 ≡ x + 2
+  two : (x : ℕ) → x + 1 + 1 ≡ x + 2
   two x = omega arith
 
-  pub three : (x : ℕ) → x + 1 + 1 + 1 ≡ x + 3
+  three : (x : ℕ) → x + 1 + 1 + 1 ≡ x + 3
   three x = omega arith
 
   abbrev Back : (c : Cat) → Tree c → ℕ → ℕ → Type 0

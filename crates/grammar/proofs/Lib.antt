@@ -7,7 +7,6 @@ pub mod Statements
 pub mod Place
 pub mod Readings
 pub mod Back
-pub mod Leaves
 pub mod Grammar
 pub mod Examples
 pub mod Steps

@@ -1,10 +1,10 @@
 -- What may come next: a stack of what is still expected, and one step for each token.
 use Prim.Native.Nat.{ℕ}
-use mathlib.Core.Bool.{Bool, true, false, _||_}
+use mathlib.Core.Bool.{Bool, true, false}
 use mathlib.Core.List.{List, [], _∷_}
 use mathlib.Core.Option.{Option, none, some}
 use lib.Dec.{eqb}
-use Rattle.syntax.specs.Token.{kEnd, kName, kNumber, kOpen, kClose, kComma, kPlus, kMinus, kTimes, kTrue, kFalse, kAnd, kOr, kLess, kEqual, kLessEq, kGreater, kGreaterEq, kUnequal, kSemi, kAssign, kLbrace, kRbrace, kInt, kFree, kIf, kElse, kWhile, kReturn, kFail}
+use Rattle.syntax.specs.Token.{kName, kNumber, kOpen, kClose, kComma, kPlus, kMinus, kTimes, kTrue, kFalse, kAnd, kOr, kLess, kEqual, kLessEq, kGreater, kGreaterEq, kUnequal, kSemi, kAssign, kLbrace, kRbrace, kInt, kFree, kIf, kElse, kWhile, kReturn, kFail}
 
 pub data Sym : Type 0 where
   tok : ℕ → Sym

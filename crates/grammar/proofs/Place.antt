@@ -45,11 +45,12 @@ local (j ∷ p) ss k x y = go (step j ss) (λ s. local p s k x y)
     go none f e = absurd (omega (arith, ap rest-of e, length-append p (k ∷ x)))
     go (some s) f e = f s e
 
-module _ (ks : List ℕ) (ends : (a : ℕ) → suc a ≡ length ks → getD ks a 0 ≡ 0) (only : (a : ℕ) → a < length ks → getD ks a 0 ≡ 0 → suc a ≡ length ks) (some : 0 < length ks) where
-  pub data Text : Res prog → Type 0 where
-    kept : {t : Tree prog} {m : ℕ} → ks ≡ onto t (kEnd ∷ []) → Text (ok t m)
-    broken : {m : ℕ} → First-bad ks m → Text (bad m)
+-- what the answer of the parser says of the whole text
+pub data Text (ks : List ℕ) : Res prog → Type 0 where
+  kept : {t : Tree prog} {m : ℕ} → ks ≡ onto t (kEnd ∷ []) → Text ks (ok t m)
+  broken : {m : ℕ} → First-bad ks m → Text ks (bad m)
 
+module _ (ks : List ℕ) (ends : (a : ℕ) → suc a ≡ length ks → getD ks a 0 ≡ 0) (only : (a : ℕ) → a < length ks → getD ks a 0 ≡ 0 → suc a ≡ length ks) (some : 0 < length ks) where
   abbrev S₀ : Stack
   S₀ = sFuns ∷ tok kEnd ∷ []
 
@@ -73,14 +74,14 @@ module _ (ks : List ℕ) (ends : (a : ℕ) → suc a ≡ length ks → getD ks a
   unfolding onto
   start r = refl
 
-  pub text-right : (d : ℕ) → 8 * length ks + 2 ≤ d → Text (readText ks d)
+  pub text-right : (d : ℕ) → 8 * length ks + 2 ≤ d → Text ks (readText ks d)
   unfolding readText
   text-right d f = go (moreProg ks d noFuns 0) (prog-right ks ends d noFuns 0 0 some (start) (omega arith))
     where
-      close : (t : Tree prog) (m : ℕ) (b : Bool) → eqb (peek ks m) kEnd ≡ b → Ok ks ends 0 (λ ss. sFuns ∷ ss) 0 t m → Text (elim b [ true ↦ ok t m | false ↦ bad m ])
+      close : (t : Tree prog) (m : ℕ) (b : Bool) → eqb (peek ks m) kEnd ≡ b → Ok ks ends 0 (λ ss. sFuns ∷ ss) 0 t m → Text ks (elim b [ true ↦ ok t m | false ↦ bad m ])
       close t m true e h = kept (sym (take-append-drop m ks) ∙ ap (λ l. take m ks ++ l) (head ks ends m (h .inside) ∙ last m e (h .inside)) ∙ h .read (kEnd ∷ []))
       close t m false e h = broken (record { inside = h .inside; program = t; rest = kEnd ∷ []; begins = sym (h .read (kEnd ∷ [])); none = no-text m (h .inside) (h .ran (tok kEnd ∷ []) ∙ stops m e (h .inside)) })
 
-      go : (r : Res prog) → Reads ks ends 0 (λ ss. sFuns ∷ ss) 0 r → Text (andThen r (λ c m. elim (eqb (peek ks m) kEnd) [ true ↦ ok c m | false ↦ bad m ]))
+      go : (r : Res prog) → Reads ks ends 0 (λ ss. sFuns ∷ ss) 0 r → Text ks (andThen r (λ c m. elim (eqb (peek ks m) kEnd) [ true ↦ ok c m | false ↦ bad m ]))
       go (ok t m) (good h) = close t m (eqb (peek ks m) kEnd) refl h
       go (bad m) (wrong h) = broken (record { inside = h .inside; program = h .whole; rest = h .rest (kEnd ∷ []); begins = sym (h .read (kEnd ∷ [])); none = no-text m (h .inside) (h .ran (tok kEnd ∷ [])) })

@@ -15,7 +15,7 @@ use Rattle.syntax.specs.Tree.{operand, term, sum, args, argList, atom, conj, co
 use Rattle.syntax.specs.Tree.{number, negative, name, call, bracket, noArgs, someArgs, firstArg, nextArg, factor, times, addend, plus, minus, cmpMark, always, never, compare, oneAtom, both, oneConj, either, empty, declare, declareFree, assign, eval, block, ifElse, while, return, fail, noStmts, moreStmts, braced, noParams, someParams, firstParam, nextParam, function, noFuns, moreFuns}
 use Rattle.grammar.specs.Parse.{Res, ok, andThen, readOperand, readArgs, moreArgs, readTerm, moreTerm, readSum, moreSum, readCmp, readAtom, moreConj, readConj, moreCond, readCond, readGuard, readEnded, readNamed, readDecl, readFail, readStmt, moreBody, moreParams, readParams, readFun, moreProg}
 use Rattle.grammar.proofs.Lengths.{onto-append}
-use Rattle.grammar.proofs.Accept.{begins, Start, s-number, s-minus, s-open, s-name}
+use Rattle.grammar.proofs.Accept.{Start, s-number, s-minus, s-open, s-name}
 use Rattle.grammar.proofs.Steps.{clash}
 
 pub yes : {c : Cat} {j k : ℕ} (A B : Res c) → j ≡ k → elim (eqb j k) [ true ↦ A | false ↦ B ] ≡ A

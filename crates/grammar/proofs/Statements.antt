@@ -12,9 +12,9 @@ use borrow.Author.Tests.{eq-eqb}
 use Rattle.syntax.specs.Token.{kName, kOpen, kClose, kComma, kTrue, kSemi, kAssign, kLbrace, kRbrace, kInt, kFree, kIf, kElse, kWhile, kReturn, kFail}
 use Rattle.syntax.specs.Tree.{Cat, Tree, onto}
 use Rattle.syntax.specs.Tree.{sum, cond, stmt, stmts, paramList, prog}
-use Rattle.syntax.specs.Tree.{name, always, oneAtom, oneConj, empty, declare, declareFree, assign, eval, block, ifElse, while, return, fail, noStmts, moreStmts, braced, noParams, someParams, firstParam, nextParam, function, moreFuns}
+use Rattle.syntax.specs.Tree.{always, oneAtom, oneConj, empty, declare, declareFree, assign, eval, block, ifElse, while, return, fail, noStmts, moreStmts, braced, noParams, someParams, firstParam, nextParam, function, moreFuns}
 use Rattle.grammar.proofs.Lengths.{stmt-longer}
-use Rattle.grammar.proofs.Machine.{Stack, step, run, on}
+use Rattle.grammar.proofs.Machine.{Stack, step, run}
 use Rattle.grammar.proofs.Machine.{tok, sSum, sCond, sStmt, sDecl, sNamed, sBody, sParams, sParamMore, sFuns}
 use Rattle.grammar.specs.Parse.{Res, ok, bad, andThen, peek, expect, readCond, readGuard, readEnded, readNamed, readDecl, readFail, readStmt, readBlock, readIf, readWhile, moreBody, moreParams, readParams, readFun, moreProg}
 use Rattle.grammar.proofs.Right.{upto, Ok, Reads, Eat, head, eat, move, eatThen, done, skip, stop, split, after, Fuel, sum-right, cond-right}

@@ -1,11 +1,12 @@
--- The readers: recursive descent over the list of the kinds of the tokens; the next kind decides. A tree holds the numbers of its tokens. d bounds how deep the calls go, and `parsed` gives enough of it.
+-- The readers: recursive descent over the list of the kinds of the tokens; the next kind decides. A tree holds the numbers of its tokens.
+-- d bounds how deep the calls go, and `parsed` gives enough of it.
 use Prim.Native.Nat.{ℕ, zero, suc, _+_, _*_}
-use mathlib.Core.Bool.{Bool, true, false}
-use mathlib.Core.List.{List, [], _∷_}
+use mathlib.Core.Bool.{true, false}
+use mathlib.Core.List.{List}
 use lib.ListN.{length, getD}
 use lib.Dec.{eqb}
 use Rattle.syntax.specs.Token.{kEnd, kName, kNumber, kOpen, kClose, kComma, kPlus, kMinus, kTimes, kTrue, kFalse, kAnd, kOr, kLess, kEqual, kLessEq, kGreater, kGreaterEq, kUnequal, kSemi, kAssign, kLbrace, kRbrace, kInt, kFree, kIf, kElse, kWhile, kReturn, kFail}
-use Rattle.syntax.specs.Tree.{Cat, Tree, Cmp}
+use Rattle.syntax.specs.Tree.{Cat, Tree}
 use Rattle.syntax.specs.Tree.{operand, term, sum, args, argList, cmp, atom, conj, cond, stmt, stmts, body, params, paramList, fun, prog}
 use Rattle.syntax.specs.Tree.{less, lessEq, greater, greaterEq, equal, unequal}
 use Rattle.syntax.specs.Tree.{number, negative, name, call, bracket, noArgs, someArgs, firstArg, nextArg, factor, times, addend, plus, minus, cmpMark, always, never, compare, oneAtom, both, oneConj, either, empty, declare, declareFree, assign, eval, block, ifElse, while, return, fail, noStmts, moreStmts, braced, noParams, someParams, firstParam, nextParam, function, noFuns, moreFuns}

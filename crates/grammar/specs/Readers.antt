@@ -27,9 +27,11 @@ pub record Ready (ks l : List ℕ) (at n : ℕ) : Type 0 where
   pub below : n ≤ 2 * at + 1
   pub ends : (a : ℕ) → suc a ≡ length ks → getD ks a 0 ≡ 0
 
--- what a reader that starts at `at` with n nodes answers, by what the definition gives: the tree stands in the table m, the nodes below n are as in l, and there are not more than two nodes for each token, less s
+-- what a reader that starts at `at` with n nodes answers, by what the definition gives:
+-- the tree stands in the table m, the nodes below n are as in l, and there are not more than two nodes for each token, less s
 pub data Gives (ks l m : List ℕ) (s n at : ℕ) {c : Cat} : Read → Res c → Type 0 where
-  tree : {t : Tree c} {next root count : ℕ} → next < length ks → root < count → n ≤ count → count + 2 * at + s ≤ n + 2 * next → Same n l m → Holds m root (ast t) → Gives ks l m s n at (Found next root count) (ok t next)
+  tree : {t : Tree c} {next root count : ℕ} → next < length ks → root < count → n ≤ count → count + 2 * at + s ≤ n + 2 * next
+      → Same n l m → Holds m root (ast t) → Gives ks l m s n at (Found next root count) (ok t next)
   none : {p : ℕ} → Gives ks l m s n at (Bad p) (bad p)
 
 -- d is enough for the definition's reader of this rank

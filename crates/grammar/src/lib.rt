@@ -1,6 +1,6 @@
 // The readers: from the kinds of the tokens to the syntax tree, in a table that is lent.
 ghost use mathlib.Core.Path.{_≡_};
-ghost use Prim.Native.Nat.{ℕ, _+_, _*_, _≤_, _<_};
+ghost use Prim.Native.Nat.{_+_, _*_, _≤_, _<_};
 ghost use lib.ListN.{length};
 ghost use Rattle.grammar.specs.Parse.{readOperand, readBracket, readCall, readArgs, moreArgs, readTerm, moreTerm, readSum, moreSum, readAtom, readConj, moreConj, readCond, moreCond, readGuard, readDecl, readNamed, readFail, readStmt, readBlock, readIf, readWhile, moreBody, readParams, moreParams, readFun, moreProg, parsed};
 ghost use Rattle.grammar.specs.Readers.{Stored, Ready, Fresh, Rest, Ended, Bodies, signOf, comparisonOf};

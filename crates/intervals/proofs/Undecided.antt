@@ -45,7 +45,7 @@ neither true b e = absurd (let z : _≡_ {A = ℕ} 0 1 = cc in omega arith)
 neither false true e = absurd (let z : _≡_ {A = ℕ} 0 1 = cc in omega arith)
 neither false false e = (refl, refl)
 
-pub undecided : (c : Cmp) (v w : Window) → decided c v w ≡ none → Neither c v w
+undecided : (c : Cmp) (v w : Window) → decided c v w ≡ none → Neither c v w
 unfolding decided
 undecided c v w e =
     let p = neither (always c v w) (always (negated c) v w) e in

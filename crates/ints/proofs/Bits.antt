@@ -87,12 +87,6 @@ word-prod a b f g =
 
 -- ---- words and numbers
 
--- the low 32 bits of a number of 32 bits are its bits
-pub low-bits : (a : ℤ) → SFits w32 a → low32 a ≡ ofZ w32 a
-unfolding low32
-low-bits (pos n) f = omega (arith, f .sfits)
-low-bits (negsuc n) f = omega (arith, f .sfits)
-
 pub bits-lt : (x : ℤ) → SFits w32 x → ofZ w32 x < 2 ^ 32
 bits-lt (pos n) f = omega (arith, f .sfits)
 bits-lt (negsuc n) f = omega arith

@@ -1,7 +1,7 @@
 -- What stands at the front, as the code's piece, by the kind of the first byte.
-use Prim.Native.Nat.{ℕ, zero, suc, _+_, _-_, _≤_, _<_, min}
+use Prim.Native.Nat.{ℕ, suc, _+_, _-_, _≤_, _<_, min}
 use mathlib.Core.Path.{_≡_, refl, sym, ap, _∙_}
-use mathlib.Core.Bool.{Bool, true, false}
+use mathlib.Core.Bool.{true, false}
 use mathlib.Core.List.{List, [], _∷_}
 use native.Mathlib.Omega.{arith}
 use native.Mathlib.Numerals.{add-one}
@@ -9,9 +9,8 @@ use lib.ListN.{length, take, drop, getD, length-drop, drop-of-length-le}
 use lib.Seq.{drop-cons, length-take-le}
 use lib.Dec.{eqb}
 use Rattle.syntax.specs.Token.{kEnd, kName, kNumber}
-use Rattle.lexer.specs.Lex.{isWord, isDigit, isLetter, isBlank, all, words, marks, kindIn, kindOf, longest, decimal, valueOf, front, blank, nothing, token}
+use Rattle.lexer.specs.Lex.{isWord, isDigit, isLetter, isBlank, all, words, marks, kindIn, kindOf, longest, decimal, valueOf, front, nothing, token}
 use Rattle.lexer.specs.Parts.{classOf, atLeast, span, limit, held, pieceOf}
-use Rattle.lexer.specs.declared.Piece.{Piece}
 use Rattle.lexer.specs.declared.Piece.the-variants.{Blank, Nothing, Token}
 use borrow.Author.Tests.{eq-eqb, ne-eqb, eqb-true}
 use Rattle.lexer.proofs.Bytes.{span-le, span-same, all-span, class-blank, class-letter, class-digit, word-class, digit-class}
@@ -50,7 +49,7 @@ unfolding front
 front-blank b bs e = rw (e, front)
 
 module _ (b : ℕ) (bs : List ℕ) (e : isBlank b ≡ false) where
-  front-token : (n : ℕ) → longest (b ∷ bs) ≡ suc n → front (b ∷ bs) ≡ token (kindOf (b ∷ take n bs)) (suc n) (valueOf (b ∷ take n bs))
+  pub front-token : (n : ℕ) → longest (b ∷ bs) ≡ suc n → front (b ∷ bs) ≡ token (kindOf (b ∷ take n bs)) (suc n) (valueOf (b ∷ take n bs))
   unfolding front
   front-token n h = rw (e, front) (rw h)
 

@@ -7,7 +7,7 @@ use native.Mathlib.Omega.{arith}
 use native.Mathlib.Numerals.{add-one}
 use native.Mathlib.Nat.{add-zero, add-suc, suc-add}
 use native.Mathlib.Decide.{decLt}
-use lib.ListN.{length, getD, take, drop, set, length-drop, drop-of-length-le}
+use lib.ListN.{length, take, drop, set, length-drop}
 use lib.Seq.{drop-cons, getD-set-same, getD-set-other}
 use lib.Dec.{eqb, ltb}
 use borrow.Author.Tests.{eqb-true, lt-ltb, le-ltb, ltb-false}
@@ -19,7 +19,6 @@ use Rattle.lexer.specs.Lex.{
   longest,
   valueOf,
   Token,
-  isLarge,
   Front,
   blank,
   nothing,
@@ -31,13 +30,12 @@ use Rattle.lexer.specs.Lex.{
   before,
   scan,
   Lexing,
-  tokens,
   refused,
   noneLarge,
   lexed,
 }
+use Rattle.lexer.specs.Tokens.{Longest}
 use Rattle.lexer.specs.Parts.{limit, held, pieceOf, largeAs, firstLarge, stored}
-use Rattle.lexer.specs.declared.Piece.{Piece}
 use Rattle.lexer.specs.declared.Piece.the-variants as piece
 
 longest-le : (n : ℕ) (l : List ℕ) → longestWithin n l ≤ n
@@ -59,15 +57,6 @@ longest-token (suc n) l m e = go (eqb (kindOf (take (suc n) l)) kEnd) refl e (λ
         → (longestWithin n l ≡ suc m → eqb (kindOf (take (suc m) l)) kEnd ≡ false) → eqb (kindOf (take (suc m) l)) kEnd ≡ false
     go true q e f = f e
     go false q e f = let z : n ≡ m = omega arith in subst (λ (x : ℕ). eqb (kindOf (take (suc x) l)) kEnd ≡ false) z q
-
--- a token at the front of l: the longest one, with its kind and value
-pub record Longest (l : List ℕ) (kind size value : ℕ) : Type 0 where
-  pub some : 1 ≤ size
-  pub fits : size ≤ length l
-  pub longest : size ≡ longest l
-  pub kind-of : kind ≡ kindOf (take size l)
-  pub is-token : eqb kind kEnd ≡ false
-  pub value-of : value ≡ valueOf (take size l)
 
 pub front-longest : (l : List ℕ) (k m v : ℕ) → front l ≡ token k m v → Longest l k m v
 unfolding front
@@ -136,9 +125,6 @@ piece-token (token j n v) k m w e =
     let b : n ≡ m = cc in
     let c : held j v ≡ w = cc in
     (v, cc, sym c ∙ ap (λ (x : ℕ). held x v) a)
-
-pub piece-size : (l : List ℕ) (i : ℕ) → i < length l → (k m w : ℕ) → pieceOf (front (drop i l)) ≡ piece.Token k m w → (1 ≤ m) × (i + m ≤ length l)
-piece-size l i h k m w e = let t = piece-token (front (drop i l)) k m w e in at-size l i h k m (t .0) (t .1)
 
 -- a value that is held only up to the limit is large where the whole one is, and whole where it is not
 number-held : (v : ℕ) → ltb 2147483647 (min v limit) ≡ ltb 2147483647 v

@@ -1,21 +1,20 @@
 -- Theorems about the definition: what holds of the tokens of a text.
 use Prim.Native.Nat.{ℕ, zero, suc, _+_, _-_, _≤_, _<_}
 use mathlib.Core.Path.{_≡_, refl, sym, ap, _∙_, subst}
-use mathlib.Core.Bool.{Bool, true, false}
-use mathlib.Core.List.{List, [], _∷_, _++_, map, map-append}
+use mathlib.Core.Bool.{Bool, true, false, _||_}
+use mathlib.Core.List.{List, [], _∷_, _++_, map-append}
 use native.Mathlib.Omega.{arith}
-use native.Mathlib.Numerals.{add-one}
-use native.Mathlib.Nat.{add-zero}
 use native.Mathlib.Decide.{decLt}
 use lib.ListN.{length, getD, take, drop, length-drop, length-append, drop-of-length-le, List·getD-append}
 use lib.Seq.{drop-cons, length-take-le, take-suc, getD-append-seam}
-use lib.Dec.{T, eqb, ltb}
-use borrow.Author.Tests.{ltb-true, ltb-false}
+use lib.Dec.{eqb, ltb}
+use borrow.Author.Tests.{eqb-true, le-ltb, ltb-true, ltb-false}
 use Rattle.syntax.specs.Token.{kEnd, kNumber}
 use Rattle.lexer.specs.Lex.{
   isBlank,
+  same,
+  kindIn,
   kindOf,
-  longestWithin,
   longest,
   valueOf,
   Token,
@@ -36,27 +35,10 @@ use Rattle.lexer.specs.Lex.{
   noneLarge,
   lexed,
 }
+use Rattle.lexer.specs.Tokens.{Longest, endAt, Blanks, Scans, ended, strayed, next, next-stray, FirstLarge, here, there}
 use Rattle.lexer.specs.Parts.{stored, kindsOf, placesOf}
-use Rattle.lexer.proofs.Fronts.{size-value}
-use Rattle.lexer.proofs.Loop.{Longest, front-longest, at-blank, at-nothing, at-size, at-token}
-
--- the end of a text of n bytes
-abbrev pub endAt : ℕ → Token
-endAt n = record { kind = kEnd; place = n; value = 0 }
-
--- from place p up to place q there are only blanks
-pub record Blanks (text : List ℕ) (p q : ℕ) : Type 0 where
-  pub ordered : p ≤ q
-  pub all-blank : (i : ℕ) → p ≤ i → i < q → isBlank (getD text i 0) ≡ true
-
--- What there is from place p on: blanks, then the longest token that begins there, and so on; at last blanks and the end, or a byte that begins no token.
-pub data Scans (text : List ℕ) : ℕ → Scanned → Type 0 where
-  ended : {p : ℕ} → Blanks text p (length text) → Scans text p (found (endAt (length text) ∷ []))
-  strayed : {p q : ℕ} → Blanks text p q → q < length text → front (drop q text) ≡ nothing → Scans text p (stray [] q)
-  next : {p : ℕ} {t : Token} {ts : List Token} (size : ℕ) → Blanks text p (t .place) → Longest (drop (t .place) text) (t .kind) size (t .value) → Scans text (t .place + size) (found ts)
-      → Scans text p (found (t ∷ ts))
-  next-stray : {p q : ℕ} {t : Token} {ts : List Token} (size : ℕ) → Blanks text p (t .place) → Longest (drop (t .place) text) (t .kind) size (t .value) → Scans text (t .place + size) (stray ts q)
-      → Scans text p (stray (t ∷ ts) q)
+use Rattle.lexer.proofs.Fronts.{size-value, front-token}
+use Rattle.lexer.proofs.Loop.{lexed-long, front-longest, at-blank, at-nothing, at-size, at-token}
 
 -- the first byte of a blank front
 front-blank : (l : List ℕ) (i : ℕ) → i < length l → front (drop i l) ≡ blank → isBlank (getD l i 0) ≡ true
@@ -115,11 +97,6 @@ pub data Small : List Token → Type 0 where
   none : Small []
   one : {t : Token} {ts : List Token} → isLarge t ≡ false → Small ts → Small (t ∷ ts)
 
--- the first large token stands at p
-pub data FirstLarge : List Token → ℕ → Type 0 where
-  here : {t : Token} {ts : List Token} → isLarge t ≡ true → FirstLarge (t ∷ ts) (t .place)
-  there : {t : Token} {ts : List Token} {p : ℕ} → isLarge t ≡ false → FirstLarge ts p → FirstLarge (t ∷ ts) p
-
 -- THEOREM. What the answer of the definition says of a text, in each of its cases.
 pub data Right (text : List ℕ) : Lexing → Type 0 where
   has-tokens : {ts : List Token} → length text ≤ 2048 → Scans text 0 (found ts) → Small ts → Right text (tokens ts)
@@ -145,6 +122,86 @@ lexed-right text = go (ltb 2048 (length text)) refl (scan 0 0 text) (scans-from 
     go true q s c = too-long (ltb-true 2048 (length text) q)
     go false q (stray us p) c = no-token (ltb-false 2048 (length text) q) c
     go false q (found us) c = judged text us us (ltb-false 2048 (length text) q) c (λ x. x) (λ p x. x)
+
+-- ---- and nothing else is there
+
+-- a blank byte begins no token
+blank-kind : (b : ℕ) (bs : List ℕ) → isBlank b ≡ true → kindOf (b ∷ bs) ≡ kEnd
+unfolding kindOf kindIn same
+blank-kind b bs e = go (eqb b 32) refl (eqb b 9) refl (eqb b 10) refl (eqb b 13) refl e
+  where
+    at : (n : ℕ) → kindOf (n ∷ bs) ≡ kEnd → eqb b n ≡ true → kindOf (b ∷ bs) ≡ kEnd
+    at n k q = subst (λ (x : ℕ). kindOf (x ∷ bs) ≡ kEnd) (sym (eqb-true b n q)) k
+
+    go : (w : Bool) → eqb b 32 ≡ w → (x : Bool) → eqb b 9 ≡ x → (y : Bool) → eqb b 10 ≡ y → (z : Bool) → eqb b 13 ≡ z → w || x || y || z ≡ true → kindOf (b ∷ bs) ≡ kEnd
+    go true p x q y r z s e = at 32 refl p
+    go false p true q y r z s e = at 9 refl q
+    go false p false q true r z s e = at 10 refl r
+    go false p false q false r true s e = at 13 refl s
+    go false p false q false r false s e = absurd (let z : _≡_ {A = ℕ} 0 1 = cc in omega arith)
+
+blank-front : (l : List ℕ) (i : ℕ) → i < length l → isBlank (getD l i 0) ≡ true → front (drop i l) ≡ blank
+unfolding front
+blank-front l i h e = rw (drop-cons l i 0 h) (rw (e, front))
+
+-- a longest token stands at the front
+longest-front : (l : List ℕ) (k m v : ℕ) → Longest l k m v → front l ≡ token k m v
+longest-front [] k m v f = absurd (omega (arith, f .some, f .fits))
+longest-front (b ∷ bs) k zero v f = absurd (omega (arith, f .some))
+longest-front (b ∷ bs) k (suc n) v f = go (isBlank b) refl
+  where
+    go : (t : Bool) → isBlank b ≡ t → front (b ∷ bs) ≡ token k (suc n) v
+    go true e =
+        let q : eqb k kEnd ≡ true = ap (λ (x : ℕ). eqb x kEnd) (f .kind-of ∙ blank-kind b (take n bs) e) in
+        absurd (let z : true ≡ false = sym q ∙ f .is-token in let y : _≡_ {A = ℕ} 0 1 = cc in omega arith)
+    go false e = let q = front-token b bs e n (sym (f .longest)) in let x = f .kind-of in let y = f .value-of in cc
+
+over-blanks : (d : ℕ) (l : List ℕ) (p q : ℕ) → q ≡ p + d → q ≤ length l → Blanks l p q → scan p 0 (drop p l) ≡ scan q 0 (drop q l)
+over-blanks zero l p q e h b = ap (λ (x : ℕ). scan x 0 (drop x l)) (omega arith)
+over-blanks (suc d) l p q e h b =
+    at-blank l p (omega arith) (blank-front l p (omega arith) (b .all-blank p (omega arith) (omega arith)))
+    ∙ over-blanks d l (p + 1) q (omega arith) h (record { ordered = omega arith; all-blank = λ i u v. b .all-blank i (omega arith) v })
+
+up-to : (l : List ℕ) (p q : ℕ) → q ≤ length l → Blanks l p q → scan p 0 (drop p l) ≡ scan q 0 (drop q l)
+up-to l p q h b = over-blanks (q - p) l p q (omega (arith, b .ordered)) h b
+
+at-end : (l : List ℕ) → scan (length l) 0 (drop (length l) l) ≡ found (endAt (length l) ∷ [])
+unfolding scan
+at-end l = rw (drop-of-length-le l {i = length l} (omega arith))
+
+module _ (l : List ℕ) (p size : ℕ) (t : Token) (b : Blanks l p (t .place)) (f : Longest (drop (t .place) l) (t .kind) size (t .value)) where
+  up-to-token : scan p 0 (drop p l) ≡ before t (scan (t .place + size) 0 (drop (t .place + size) l))
+  up-to-token =
+      let h : t .place < length l = omega (arith, f .some, f .fits, length-drop (t .place) l) in
+      up-to l p (t .place) (omega arith) b ∙ at-token l (t .place) h (t .kind) size (t .value) (longest-front (drop (t .place) l) (t .kind) size (t .value) f)
+
+-- THEOREM. What there is from a place on is what `scan` finds there, so it is one thing.
+pub scans-only : {text : List ℕ} {p : ℕ} {s : Scanned} → Scans text p s → scan p 0 (drop p text) ≡ s
+scans-only {text} {p} (ended b) = up-to text p (length text) (omega arith) b ∙ at-end text
+scans-only {text} {p} (strayed {q = q} b h f) = up-to text p q (omega arith) b ∙ at-nothing text q h f
+scans-only {text} {p} (next {t = t} size b f c) = up-to-token text p size t b f ∙ ap (before t) (scans-only c)
+scans-only {text} {p} (next-stray {t = t} size b f c) = up-to-token text p size t b f ∙ ap (before t) (scans-only c)
+
+small-passes : (every : List Token) {ts : List Token} → Small ts → noneLarge every ts ≡ tokens every
+unfolding noneLarge
+small-passes every none = refl
+small-passes every (one e s) = rw (e, noneLarge) (small-passes every s)
+
+large-refused : (every : List Token) {ts : List Token} {p : ℕ} → FirstLarge ts p → noneLarge every ts ≡ refused 3 p
+unfolding noneLarge
+large-refused every (here e) = rw (e, noneLarge)
+large-refused every (there e f) = rw (e, noneLarge) (large-refused every f)
+
+scanned : (text : List ℕ) {s : Scanned} → length text ≤ 2048 → Scans text 0 s → lexed text ≡ elim s [ stray ts p ↦ refused 2 p | found ts ↦ noneLarge ts ts ]
+unfolding lexed
+scanned text h s = rw (le-ltb 2048 (length text) h, lexed) (rw (scans-only s))
+
+-- THEOREM. The definition answers what holds of a text: no other answer does.
+pub lexed-only : (text : List ℕ) {a : Lexing} → Right text a → lexed text ≡ a
+lexed-only text (has-tokens {ts = ts} h s m) = scanned text h s ∙ small-passes ts m
+lexed-only text (too-long h) = lexed-long text h
+lexed-only text (no-token h s) = scanned text h s
+lexed-only text (too-large {ts = ts} h s f) = scanned text h s ∙ large-refused ts f
 
 -- THEOREM. Places ascend strictly, from p on.
 pub data Ascending : ℕ → List Token → Type 0 where
@@ -173,22 +230,16 @@ pub end-last : {text : List ℕ} {p : ℕ} {ts : List Token} → Scans text p (f
 end-last (ended b) = the-end
 end-last (next size b f c) = before-end (f .is-token) (end-last c)
 
--- THEOREM. Each token lies inside the text: a number by the place of its first byte, any other with its bytes, take value (drop place text).
+-- THEOREM. The value of a token that is no number is its size.
 pub token-fits : {l : List ℕ} {k m v : ℕ} → Longest l k m v → eqb k kNumber ≡ false → v ≡ m
 token-fits {l = l} {m = m} f e = f .value-of ∙ size-value (take m l) (ap (λ (x : ℕ). eqb x kNumber) (sym (f .kind-of)) ∙ e) ∙ length-take-le m l (f .fits)
 
+-- THEOREM. Each token has its place inside the text, or at its end.
 pub inside : {text : List ℕ} {p : ℕ} {ts : List Token} → Scans text p (found ts) → (i : ℕ) (d : Token) → i < length ts → (getD ts i d) .place ≤ length text
 inside (ended b) zero d h = omega arith
 inside (ended b) (suc i) d h = absurd (omega arith)
 inside {text = text} (next {t = t} size b f c) zero d h = omega (arith, f .some, f .fits, length-drop (t .place) text)
 inside (next size b f c) (suc i) d h = inside c i d (omega arith)
-
-pub bytes-inside : {text : List ℕ} {p : ℕ} {ts : List Token} → Scans text p (found ts) → (i : ℕ) (d : Token) → i < length ts → eqb ((getD ts i d) .kind) kNumber ≡ false
-    → (getD ts i d) .place + (getD ts i d) .value ≤ length text
-bytes-inside (ended b) zero d h e = omega arith
-bytes-inside (ended b) (suc i) d h e = absurd (omega arith)
-bytes-inside {text = text} (next {t = t} size b f c) zero d h e = omega (arith, f .some, f .fits, length-drop (t .place) text, token-fits f e)
-bytes-inside (next size b f c) (suc i) d h e = bytes-inside c i d (omega arith) e
 
 -- The tokens that the code has stored, one by one.
 pub stored-length : (n : ℕ) (ks ps vs : List ℕ) → length (stored n ks ps vs) ≡ n
@@ -231,8 +282,3 @@ right-tokens (has-tokens h s m) = (h, s, m)
 
 pub lexed-tokens : (text : List ℕ) (ts : List Token) → lexed text ≡ tokens ts → (length text ≤ 2048) × Scans text 0 (found ts) × Small ts
 lexed-tokens text ts e = right-tokens (subst (λ (a : Lexing). Right text a) e (lexed-right text))
-
-pub small-at : {ts : List Token} → Small ts → (i : ℕ) (d : Token) → i < length ts → isLarge (getD ts i d) ≡ false
-small-at none i d h = absurd (omega arith)
-small-at (one e s) zero d h = e
-small-at (one e s) (suc i) d h = small-at s i d (omega arith)

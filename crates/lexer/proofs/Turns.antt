@@ -1,15 +1,14 @@
 -- What holds at each turn of the lexer's loop, how a turn keeps it, and what it gives where the loop is left.
-use Prim.Native.Nat.{ℕ, zero, suc, _+_, _-_, _≤_, _<_}
+use Prim.Native.Nat.{ℕ, _+_, _≤_, _<_}
 use mathlib.Core.Path.{_≡_, refl, sym, ap, _∙_}
-use mathlib.Core.Bool.{true, false}
 use mathlib.Core.List.{List, [], _∷_, _++_, map}
 use native.Mathlib.Omega.{arith}
 use native.Mathlib.Numerals.{add-one}
 use lib.ListN.{length, drop, set, length-set, drop-of-length-le}
 use lib.Seq.{sets}
 use borrow.Author.Tests.{lt-ltb, le-ltb}
-use Rattle.lexer.specs.Lex.{Token, Front, blank, nothing, token, front, Scanned, found, stray, before, scan, tokens, refused, noneLarge, lexed}
-use Rattle.lexer.specs.Parts.{held, pieceOf, largeAs, firstLarge, stored, passed, written, kindsOf, placesOf, valuesOf, Lexes}
+use Rattle.lexer.specs.Lex.{Token, blank, nothing, token, front, Scanned, found, stray, before, scan, tokens, noneLarge, lexed}
+use Rattle.lexer.specs.Parts.{held, pieceOf, largeAs, firstLarge, stored, passed, written, Lexes}
 use Rattle.lexer.specs.declared.Piece.the-variants as piece
 use Rattle.lexer.specs.declared.Lexed.the-variants.{Tokens, Refused}
 use Rattle.lexer.proofs.Loop.{at-blank, at-nothing, at-size, at-token, piece-blank, piece-nothing, piece-token, outcome, lexed-long, lexed-start, outcome-token, stored-more}

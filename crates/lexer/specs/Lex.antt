@@ -4,7 +4,7 @@ use Prim.Native.Char.{code}
 use Prim.Native.String as S
 use Prim.Native.String.{String}
 use mathlib.Core.Bool.{Bool, true, false, _&&_, _||_}
-use mathlib.Core.List.{List, [], _∷_, _++_}
+use mathlib.Core.List.{List, [], _∷_}
 use lib.ListN.{length, take}
 use lib.Dec.{eqb, leb, ltb}
 use Rattle.syntax.specs.Token.{
@@ -41,7 +41,7 @@ use Rattle.syntax.specs.Token.{
 }
 
 -- "Bytes: letters, digits, underscore, blank, tab, LF, CR and the marks .."
-abbrev pub between : ℕ → ℕ → ℕ → Bool
+abbrev between : ℕ → ℕ → ℕ → Bool
 between a z b = leb a b && leb b z
 
 -- 0 to 9

@@ -1,4 +1,4 @@
--- What the functions inside the lexer answer, and what the answers of the code mean in the words of Lex.
+-- What the lexer and the functions inside it answer, and what the answers of the code mean, in the words of Lex.
 use Prim.Native.Nat.{ℕ, zero, suc, min}
 use mathlib.Core.Bool.{Bool, true, false}
 use mathlib.Core.Path.{_≡_}

@@ -2,7 +2,7 @@
 ghost use mathlib.Core.Path.{_≡_};
 ghost use mathlib.Core.Bool.{true};
 ghost use mathlib.Core.List.{[], _∷_};
-ghost use Prim.Native.Nat.{ℕ, min, _+_, _-_, _*_, _≤_, _<_};
+ghost use Prim.Native.Nat.{min, _+_, _-_, _*_, _≤_, _<_};
 ghost use lib.ListN.{length, drop, getD};
 ghost use Rattle.syntax.specs.Token.{kEnd, kName};
 ghost use Rattle.lexer.specs.Lex.{isDigit, isLetter, all, same, words, marks, kindIn, decimal, front};
@@ -13,7 +13,7 @@ use syntax::token;
 const LIMIT: u32 = 2147483648;
 
 // What stands at a place of the text: a blank byte, a byte that begins no token, or a token.
-pub enum Piece {
+enum Piece {
     Blank,
     Nothing,
     Token { kind: u8, size: usize, value: u32 },

@@ -33,11 +33,11 @@ pub natural-one : (n : ℕ) → n < 10 → natural n ≡ (48 + n) ∷ []
 unfolding natural digits
 natural-one n h = rw (lt-ltb n 10 h, natural, digits)
 
-pub natural-more : (n : ℕ) → 10 ≤ n → natural n ≡ natural (n / 10) ++ (48 + n % 10) ∷ []
+natural-more : (n : ℕ) → 10 ≤ n → natural n ≡ natural (n / 10) ++ (48 + n % 10) ∷ []
 unfolding natural digits
 natural-more n h = rw (le-ltb n 10 h, natural, digits) (ap (λ (l : List ℕ). l ++ (48 + n % 10) ∷ []) (enough n (suc (n / 10)) (n / 10) (omega arith) (omega arith)))
 
-pub natural-length : (m n : ℕ) → n < 10 ^ suc m → length (natural n) ≤ suc m
+natural-length : (m n : ℕ) → n < 10 ^ suc m → length (natural n) ≤ suc m
 natural-length zero n h = rw (natural-one n (omega arith)) (omega arith)
 natural-length (suc m) n h = go (λ p. natural-length m (n / 10) p) (ltb n 10) refl
   where

@@ -1,12 +1,11 @@
 -- Job lines and printed answers, by computation: each limit and one past it, and document 01's sample.
-use Prim.Native.Nat.{ℕ, suc}
+use Prim.Native.Nat.{ℕ}
 use mathlib.Core.Path.{_≡_, refl}
-use mathlib.Core.Bool.{Bool, true, false}
 use mathlib.Core.List.{List, [], _∷_, _++_, map}
 use lib.IntN.{ℤ, pos, negsuc}
 use Rattle.lexer.specs.Lex.{bytes, all, same, decimal}
 use Rattle.semantics.specs.Run.{Row}
-use Rattle.semantics.specs.Search.{whole, cuts, full, spent}
+use Rattle.semantics.specs.Search.{whole, cuts}
 use Rattle.lines.specs.declared.JobLine.{JobLine}
 use Rattle.lines.specs.declared.JobLine.the-variants.{Bad, Good}
 use Rattle.lines.specs.JobLine.{plain, minus, numberOf, place, jobIn, lineJob}

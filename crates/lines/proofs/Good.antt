@@ -1,5 +1,5 @@
 -- What a good job line holds: numbers of 32 bits, and a text that begins within the input and within its first 40 bytes.
-use Prim.Native.Nat.{ℕ, zero, suc, _+_, _≤_, _<_}
+use Prim.Native.Nat.{ℕ, zero, suc, _+_, _≤_}
 use native.Mathlib.Omega.{arith}
 use mathlib.Core.Path.{_≡_, refl, sym, _∙_, ap, subst}
 use mathlib.Core.Bool.{Bool, true, false, _&&_}
@@ -15,7 +15,7 @@ use Rattle.lexer.specs.Lex.{decimal, same, bytes}
 use Rattle.lines.specs.declared.Job.{Job}
 use Rattle.lines.specs.declared.JobLine.{JobLine}
 use Rattle.lines.specs.declared.JobLine.the-variants.{Bad, Good}
-use Rattle.lines.specs.JobLine.{isNatural, plain, minus, numberOf, place, before, after, blank, jobWith, jobIn, lineJob}
+use Rattle.lines.specs.JobLine.{isNatural, plain, minus, numberOf, place, before, blank, jobWith, jobIn, lineJob}
 use Rattle.lines.proofs.Words.{no-job, a-job, no-line, a-line}
 use Rattle.lines.proofs.Reach.{place-le, no-early-end}
 
@@ -65,7 +65,7 @@ abbrev IsBad : JobLine → Type 0
 IsBad Bad = Unit {0}
 IsBad (Good j) = ⊥
 
-pub bad-good : {j : Job} → Bad ≡ Good j → ⊥
+bad-good : {j : Job} → Bad ≡ Good j → ⊥
 bad-good e = subst IsBad e tt
 
 abbrev the : Job → JobLine → Job

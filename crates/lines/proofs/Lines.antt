@@ -11,7 +11,7 @@ use mir.Syntax.{w32}
 use mir.Val.{toZ, SFits}
 use mir.Facts.{toZ-ofZ}
 use Rattle.lexer.specs.Lex.{bytes}
-use Rattle.semantics.specs.Run.{Row, clamp}
+use Rattle.semantics.specs.Run.{clamp}
 use Rattle.lines.specs.Print.{integer, spaced, rowLine, rowLines, lineEnd, ending}
 use Rattle.lines.specs.Written.{countOf, endingAt, rowFrom, rowsFrom}
 

@@ -1,14 +1,14 @@
 -- Bytes written one part after the other.
-use Prim.Native.Nat.{ℕ, zero, suc, _+_, _≤_, _<_}
+use Prim.Native.Nat.{ℕ, suc, _+_, _<_}
 use native.Mathlib.Omega.{arith}
 use native.Mathlib.Numerals.{add-one}
 use mathlib.Core.Path.{_≡_, refl, sym, _∙_, ap}
 use mathlib.Core.List.{List, [], _∷_, _++_}
 use lib.ListN.{length, take, getD, set, length-append}
-use lib.Seq.{sets, length-sets, length-take-le, take-suc, take-all}
+use lib.Seq.{sets, length-sets, length-take-le, take-suc}
 use Rattle.lines.specs.Written.{Put}
 
-pub sets-append : (a b l : List ℕ) (i : ℕ) → sets (sets l i a) (i + length a) b ≡ sets l i (a ++ b)
+sets-append : (a b l : List ℕ) (i : ℕ) → sets (sets l i a) (i + length a) b ≡ sets l i (a ++ b)
 sets-append [] b l i =
     let e : i + 0 ≡ i = omega arith in
     ap (λ (k : ℕ). sets l k b) e

@@ -2,17 +2,17 @@
 use Prim.Native.Nat.{ℕ, zero, suc, _+_, _-_, _≤_, _<_}
 use native.Mathlib.Omega.{arith}
 use mathlib.Core.Path.{_≡_, refl, sym, _∙_, ap}
-use mathlib.Core.Bool.{Bool, true, false, _&&_, _||_}
+use mathlib.Core.Bool.{Bool, true, false, _||_}
 use mathlib.Core.Option.{Option, none, some}
 use mathlib.Core.List.{List, [], _∷_, _++_}
-use lib.ListN.{length, take, drop, length-drop, length-append}
+use lib.ListN.{length, take, length-drop, length-append}
 use lib.Seq.{length-take-le, take-append-le}
 use lib.Dec.{eqb, leb, ltb}
 use lib.IntN.{ℤ}
 use borrow.Author.Tests.{lt-leb, leb-true, ltb-true, ltb-false}
 use Rattle.lexer.specs.Lex.{isDigit, all, same, bytes}
 use Rattle.lexer.proofs.Bytes.{and-false, same-eq}
-use Rattle.lines.specs.declared.JobLine.the-variants.{Bad, Good}
+use Rattle.lines.specs.declared.JobLine.the-variants.{Bad}
 use Rattle.lines.specs.JobLine.{plain, minus, numberOf, place, before, after, blank, jobWith, jobIn, lineJob, lineSettled}
 use Rattle.lines.proofs.Words.{no-job, a-job, no-high, no-line, a-line}
 
@@ -47,7 +47,7 @@ no-third t none y = refl
 no-third t (some a) none = refl
 no-third t (some a) (some b) = refl
 
-pub long-line : (t : ℕ) (l : List ℕ) → 39 < length l → jobIn t l ≡ Bad
+long-line : (t : ℕ) (l : List ℕ) → 39 < length l → jobIn t l ≡ Bad
 long-line t l h = go (same (before blank l) (bytes "job")) refl
   where
     go : (b : Bool) → same (before blank l) (bytes "job") ≡ b → jobIn t l ≡ Bad
@@ -107,8 +107,8 @@ ended-line l r k =
     ∙ sym (a-line l k)
 
 -- of input that never ends 40 bytes settle the job line, whatever stands after them
-pub line-settled : (l r : List ℕ) → 40 ≤ length l → lineJob (l ++ r) ≡ lineJob l
-line-settled l r h = go (ltb (place 10 l) (length l)) refl
+long-settled : (l r : List ℕ) → 40 ≤ length l → lineJob (l ++ r) ≡ lineJob l
+long-settled l r h = go (ltb (place 10 l) (length l)) refl
   where
     go : (b : Bool) → ltb (place 10 l) (length l) ≡ b → lineJob (l ++ r) ≡ lineJob l
     go true q = ended-line l r (ltb-true (place 10 l) (length l) q)
@@ -120,6 +120,6 @@ pub line-settled : (l r : List ℕ) → lineSettled l ≡ true → lineJob (l ++
 line-settled l r h = go (leb 40 (length l)) (ltb (place 10 l) (length l)) refl refl h
   where
     go : (a b : Bool) → leb 40 (length l) ≡ a → ltb (place 10 l) (length l) ≡ b → a || b ≡ true → lineJob (l ++ r) ≡ lineJob l
-    go true b p q e = line-settled l r (leb-true 40 (length l) p)
+    go true b p q e = long-settled l r (leb-true 40 (length l) p)
     go false true p q e = ended-line l r (ltb-true (place 10 l) (length l) q)
     go false false p q e = absurd (let z : _≡_ {A = ℕ} 0 1 = cc in omega arith)

@@ -13,11 +13,11 @@ use mir.Val.{toZ, SFits}
 use mir.Facts.{toZ-ofZ}
 use lib.ListN.{length, take, drop, getD, drop-of-length-le, length-drop}
 use lib.Seq.{drop-cons, take-all}
-use lib.Dec.{eqb, leb, ltb}
+use lib.Dec.{leb, ltb}
 use borrow.Author.Tests.{eq-eqb, ne-eqb, le-leb, lt-leb, le-ltb, lt-ltb}
 use Rattle.lexer.specs.Lex.{isDigit, all, decimal, same, bytes}
 use Rattle.lines.specs.JobLine.{place, before, after, blank, isNatural, plain, minus, numberOf, jobWith, jobIn, lineJob}
-use Rattle.lines.specs.declared.JobLine.the-variants.{Bad, Good}
+use Rattle.lines.specs.declared.JobLine.the-variants.{Bad}
 use Rattle.lines.specs.Parts.{huge, valued, magnitudeOf, read}
 
 module _ (b : ℕ) (l : List ℕ) (i : ℕ) (h : i < length l) where
@@ -95,7 +95,7 @@ read-plain m h =
     let f : SFits w32 (pos m) = record { sfits = omega arith } in
     read-signed m (omega arith) ∙ ap some (toZ-ofZ f)
 
-pub read-minus : (k : ℕ) → suc k ≤ 2147483648 → read (4294967296 - suc k) ≡ some (negsuc k)
+read-minus : (k : ℕ) → suc k ≤ 2147483648 → read (4294967296 - suc k) ≡ some (negsuc k)
 read-minus k h =
     let f : SFits w32 (negsuc k) = record { sfits = omega arith } in
     read-signed (4294967296 - suc k) (omega arith) ∙ ap some (toZ-ofZ f)

@@ -1,4 +1,4 @@
--- What the public functions for printing say, in the words of Print: bytes written into a lent slice, an ending's number, the rows that words stand for.
+-- What the functions for printing say, in the words of Print: bytes written into a lent slice, an ending's number, the rows that words stand for.
 use Prim.Native.Nat.{ℕ, zero, suc, _+_, min}
 use mathlib.Core.Path.{_≡_}
 use mathlib.Core.List.{List, [], _∷_}

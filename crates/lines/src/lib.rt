@@ -37,7 +37,7 @@ fn wide(b: u8) -> u64
 }
 
 // The place where a byte first stands, the length where it stands nowhere.
-fn place(s: &[u8], b: u8) -> usize
+pub fn place(s: &[u8], b: u8) -> usize
     ensures { λ r. ⌜ (r ≡ placeOf b (now (s .entry))) × (r ≤ length (now (s .entry))) ⌝ }
 {
     let mut i = 0;
@@ -275,7 +275,7 @@ fn value_count(w: u32) -> usize
     w as usize
 }
 
-// The last line: an ending by its number, rows written, moves made.
+// An ending, by its number.
 fn put_ending(out: &mut [u8], at: usize, number: u32) -> usize
     requires { ⌜ at + 5 ≤ length (now out) ⌝ }
     ensures { λ r. ⌜ Put (now (out .entry)) at (ending (endingAt number)) (now (out .exit)) r × (r ≤ at + 5) ⌝ }
@@ -288,6 +288,7 @@ fn put_ending(out: &mut [u8], at: usize, number: u32) -> usize
     }
 }
 
+// The last line: an ending by its number, rows written, moves made.
 pub fn put_last_line(out: &mut [u8], at: usize, number: u32, rows: u32, moves: u32) -> usize
     requires { ⌜ at + 39 ≤ length (now out) ⌝ }
     ensures { λ r. ⌜ Put (now (out .entry)) at (lastLine (endingAt number) rows moves) (now (out .exit)) r ⌝ }

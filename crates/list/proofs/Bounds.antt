@@ -1,8 +1,7 @@
 -- What list answers is small: the place of a refusal is at most 2,048, and each row written was a move.
-use Prim.Native.Nat.{ℕ, zero, suc, _≤_, _/_}
+use Prim.Native.Nat.{ℕ, _≤_, _/_}
 use mathlib.Core.Path.{_≡_, refl, subst}
-use mathlib.Core.Bool.{true, false}
-use mathlib.Core.List.{List, [], _∷_}
+use mathlib.Core.List.{List}
 use mathlib.Core.Option.{Option, none, some}
 use native.Mathlib.Omega.{arith}
 use lib.ListN.{length}
@@ -12,32 +11,22 @@ use Rattle.checker.specs.Check.{Verdict, checked}
 use Rattle.checker.proofs.Small as W
 use Rattle.checker.proofs.Small.{Within, checked-low}
 use Rattle.semantics.specs.Search as S
-use Rattle.semantics.specs.Search.{Close, Move, plain, found, probe, byRanges}
-use Rattle.list.specs.List.{jobOf, Answer, refused, listed, ground, answering, list}
+use Rattle.semantics.specs.Search.{inUse}
+use Rattle.semantics.proofs.Answer.{few-rows}
+use Rattle.list.specs.List.{jobOf, Answer, refused, listed, ground, answering, places, list}
 
 abbrev pub Small : ℕ → Answer → Type 0
 Small budget (refused n p) = p ≤ 2048
 Small budget (listed r m c) = r ≤ budget
 
-rows-few : (c : Close) (ms : List Move) (skip room budget : ℕ) → length (S.answer c ms skip room budget .rows) ≤ budget
-unfolding S.answer
-rows-few c [] skip room budget = omega arith
-rows-few c (m ∷ ms) skip room zero = omega arith
-rows-few c (plain k ∷ ms) skip room (suc n) = omega (arith, rows-few c ms skip room n)
-rows-few c (probe false ∷ ms) skip room (suc n) = omega (arith, rows-few c ms skip room n)
-rows-few c (probe true ∷ ms) skip room (suc n) = omega (arith, rows-few S.cuts ms skip room n)
-rows-few c (found r ∷ ms) (suc k) room (suc n) = omega (arith, rows-few c ms k room n)
-rows-few c (found r ∷ ms) zero zero (suc n) = omega arith
-rows-few c (found r ∷ ms) zero (suc k) (suc n) = omega (arith, rows-few c ms zero k n)
-
 pub small-answer : (text : List ℕ) (low high : ℤ) (steps skip budget : ℕ) (rows : List ℤ) (scratch : List ℕ) → Small budget (list text low high steps skip budget rows scratch .answer)
 unfolding list S.listed
 small-answer text low high steps skip budget rows scratch = go (ground (length scratch) low high steps) (checked text) (checked-low text)
   where
-    go : (g : Option ℕ) (v : Verdict) → Within 2048 v → Small budget (answering text low high steps skip budget rows scratch g v .answer)
+    go : (g : Option ℕ) (v : Verdict) → Within 2048 v → Small budget (answering rows scratch (S.listed inUse (jobOf text low high steps) skip (places rows) budget) g v .answer)
     go (some n) v w = omega arith
     go none (C.refused n p) w = place w
       where
         place : Within 2048 (C.refused n p) → p ≤ 2048
         place (W.low h) = h
-    go none C.accepted w = rows-few S.whole (S.search byRanges (jobOf text low high steps)) skip (length rows / 10) budget
+    go none C.accepted w = few-rows S.whole (S.search inUse (jobOf text low high steps)) skip (length rows / 10) budget .1

@@ -36,7 +36,7 @@ use Rattle.simulation.specs.Words.{codeIn, wordsIn}
 use Rattle.simulation.specs.Placed.{Placed}
 use Rattle.compiler.specs.Coded.{program as coded}
 use Rattle.compiler.specs.Compile.{Ready, Compiled}
-use Rattle.compiler.proofs.Counts.{few-functions}
+use Rattle.text_rules.proofs.Counts.{few-functions}
 use Rattle.compiler.proofs.Fitting.{Keeps, Given, accepted-ready, accepted-placed, accepted-few, accepted-main}
 use Rattle.list.specs.List.{program}
 use Rattle.list.specs.Code.{Understood, Codes, Translates, refuses, has}

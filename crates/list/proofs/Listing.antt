@@ -13,8 +13,9 @@ use borrow.Author.Tests.{ltb-false, le-leb}
 use Rattle.checker.specs.Check as C
 use Rattle.checker.specs.Check.{Verdict, checked}
 use Rattle.semantics.specs.Run.{numbers}
-use Rattle.semantics.specs.Search.{to}
-use Rattle.list.specs.List.{ground, Left, answering, list}
+use Rattle.semantics.specs.Search as S
+use Rattle.semantics.specs.Search.{to, inUse}
+use Rattle.list.specs.List.{jobOf, ground, Left, answering, places, list}
 use Rattle.list.specs.Parts.{leaves}
 use Rattle.list.specs.Code.{Codes, Translates, refuses, has, Searches}
 use Rattle.list.proofs.Values.{neither}
@@ -57,16 +58,20 @@ groundless words low high steps e =
 -- ---- the answer
 
 module _ (text : List ℕ) (low high : ℤ) (steps skip budget : ℕ) (rows : List ℤ) (scratch : List ℕ) where
+  -- the answer by the grounds and by check
+  abbrev by : Option ℕ → Verdict → Left
+  by = answering rows scratch (S.listed inUse (jobOf text low high steps) skip (places rows) budget)
+
   -- 11 to 14
   pub list-grounded : (n : ℕ) → some n ≡ ground (length scratch) low high steps → leaves (L.Refused n 0) rows scratch ≡ list text low high steps skip budget rows scratch
   unfolding list
-  list-grounded n e = ap (λ (g : Option ℕ). answering text low high steps skip budget rows scratch g (checked text)) e
+  list-grounded n e = ap (λ (g : Option ℕ). by g (checked text)) e
 
   -- "then as check"
   module _ (free : none ≡ ground (length scratch) low high steps) where
-    list-checked : (v : Verdict) → v ≡ checked text → answering text low high steps skip budget rows scratch none v ≡ list text low high steps skip budget rows scratch
+    list-checked : (v : Verdict) → v ≡ checked text → by none v ≡ list text low high steps skip budget rows scratch
     unfolding list
-    list-checked v e = ap (answering text low high steps skip budget rows scratch none) e ∙ ap (λ (g : Option ℕ). answering text low high steps skip budget rows scratch g (checked text)) free
+    list-checked v e = ap (by none) e ∙ ap (λ (g : Option ℕ). by g (checked text)) free
 
     pub list-refused : {code : List ℕ} {n p : ℕ} → Translates text code (Refused n p) (checked text) → leaves (L.Refused n p) rows scratch ≡ list text low high steps skip budget rows scratch
     list-refused {code} {n} {p} t = go (checked text) refl t

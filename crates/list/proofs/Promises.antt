@@ -12,18 +12,20 @@ use mir.Syntax.{w32}
 use mir.Val.{SFits}
 use Rattle.checker.specs.Check as C
 use Rattle.checker.specs.Check.{Verdict, checked}
-use Rattle.semantics.specs.Run.{Job, plans}
+use Rattle.semantics.specs.Run.{Row}
+use Rattle.semantics.specs.Plans.{plans}
 use Rattle.semantics.specs.Search as S
-use Rattle.semantics.specs.Search.{to, byRanges}
+use Rattle.semantics.specs.Search.{to, inUse}
 use Rattle.semantics.specs.Demand.{In32}
-use Rattle.semantics.specs.Promise.{Promised, atWhole, atCut, atFull, atSpent}
-use Rattle.semantics.proofs.Theorems.{plan-list, plan-list-unique, promise-01}
+use Rattle.semantics.specs.Promise.{Promised}
+use Rattle.semantics.proofs.Theorems.{plan-list, plan-list-unique, promise, promise-unique, inUse-sound}
+use Rattle.simulation.specs.Code.{codeOf}
+use Rattle.simulation.proofs.Placed.{placed}
 use Rattle.simulation.proofs.Drive.{most-turns}
 use Rattle.simulation.proofs.Listing.{placed-lists}
-use Rattle.simulation.proofs.Back.{taken-back}
-use Rattle.list.specs.List.{jobOf, Answer, refused, listed, Left, ground, refuses, found, answering, list}
-use Rattle.list.specs.Promise as P
-use Rattle.list.specs.Promise.{Closes, Keeps}
+use Rattle.simulation.proofs.First.{taken-back}
+use Rattle.list.specs.List.{program, jobOf, places, Answer, refused, listed, Left, ground, refuses, lists, answering, list}
+use Rattle.list.specs.Promise.{answerWith, Keeps}
 
 -- ---- a window of 32 bits
 
@@ -37,17 +39,6 @@ in-32 low high f g = (least low f, most high g)
     most : (z : ℤ) → SFits w32 z → T (leZ z (pos 2147483647))
     most (pos n) h = le→leb n 2147483647 (omega (arith, h .sfits))
     most (negsuc n) h = tt
-
--- ---- how a search closes
-
-module _ (j : Job) (skip room budget : ℕ) (a : S.Answer) where
-  closing : Promised byRanges j skip room budget a → Closes j skip room budget (plans j) (a .rows) (a .moves) (a .close)
-  closing (atWhole e h n) = subst (Closes j skip room budget (plans j) (a .rows) (a .moves)) (sym e) (P.atWhole (h .written) n)
-  closing (atCut e h s) = subst (Closes j skip room budget (plans j) (a .rows) (a .moves)) (sym e) (P.atCut (h .written) s)
-  closing (atFull e h) = subst (Closes j skip room budget (plans j) (a .rows) (a .moves)) (sym e) (P.atFull (h .written) (h .more))
-  closing (atSpent e h) =
-      subst (Closes j skip room budget (plans j) (a .rows) (a .moves)) (sym e)
-      (P.atSpent (h .made) (h .written ∙ ap (λ (n : ℕ). drop skip (S.rowsIn (take n (S.search byRanges j)))) (sym (h .made))) (h .rest) (h .front))
 
 -- ---- list
 
@@ -63,39 +54,59 @@ abbrev Refusal : Answer → Type 0
 Refusal (refused n p) = Unit {0}
 Refusal (listed r m c) = ⊥
 
+-- a record by its parts
+left-path : {k l : Left} → k .answer ≡ l .answer → k .rows ≡ l .rows → k .scratch ≡ l .scratch → k ≡ l
+left-path p q r = λ i. record { answer = p i; rows = q i; scratch = r i }
+
 module _ (text : List ℕ) (low high : ℤ) (steps skip budget : ℕ) (rows : List ℤ) (scratch : List ℕ) where
-  unfolds : (g : Option ℕ) (v : Verdict) → ground (length scratch) low high steps ≡ g → checked text ≡ v → list text low high steps skip budget rows scratch ≡ answering text low high steps skip budget rows scratch g v
+  abbrev found : S.Answer
+  found = S.listed inUse (jobOf text low high steps) skip (places rows) budget
+
+  unfolds : (g : Option ℕ) (v : Verdict) → ground (length scratch) low high steps ≡ g → checked text ≡ v → list text low high steps skip budget rows scratch ≡ answering rows scratch found g v
   unfolding list
-  unfolds g v e f = ap (λ (g : Option ℕ). answering text low high steps skip budget rows scratch g (checked text)) e ∙ ap (answering text low high steps skip budget rows scratch g) f
+  unfolds g v e f = ap (λ (g : Option ℕ). answering rows scratch found g (checked text)) e ∙ ap (answering rows scratch found g) f
 
   -- the third demand, for every job that is not refused; low and high are of 32 bits, as list takes them
-  pub keeps : SFits w32 low → SFits w32 high → ground (length scratch) low high steps ≡ none → checked text ≡ C.accepted → Keeps text low high steps skip budget rows scratch (list text low high steps skip budget rows scratch)
-  keeps f h g v =
-      let e = unfolds none C.accepted g v in
-      let j = jobOf text low high steps in
-      let a = found text low high steps skip budget rows scratch in
-      record {
-        plans = plans j;
-        fixed = plan-list j;
-        alone = plan-list-unique j;
-        written = a .rows;
-        moves = a .moves;
-        ending = a .close;
-        answered = ap (λ (l : Left). l .answer) e;
-        slice = ap (λ (l : Left). l .rows) e;
-        cleared = ap (λ (l : Left). l .scratch) e;
-        closes = closing j skip (length rows / 10) budget a (promise-01 j (in-32 low high f h) skip (length rows / 10) budget);
-        made = λ c p k l. (most-turns c steps, placed-lists byRanges j c p skip (length rows / 10) budget k (most-turns c steps) l (omega arith));
-        restores = λ c p. record { back = taken-back byRanges (to low high) c steps };
-      }
+  module _ (f : SFits w32 low) (h : SFits w32 high) (g : ground (length scratch) low high steps ≡ none) (v : checked text ≡ C.accepted) where
+    pub keeps : Keeps text low high steps skip budget rows scratch (list text low high steps skip budget rows scratch)
+    keeps =
+        let e = unfolds none C.accepted g v in
+        let j = jobOf text low high steps in
+        record {
+          plans = plans j;
+          fixed = plan-list j;
+          alone = plan-list-unique j;
+          written = found .rows;
+          moves = found .moves;
+          ending = found .close;
+          answered = ap (λ (l : Left). l .answer) e;
+          slice = ap (λ (l : Left). l .rows) e;
+          cleared = ap (λ (l : Left). l .scratch) e;
+          closes = promise inUse inUse-sound j (in-32 low high f h) skip (places rows) budget;
+          code = codeOf (program text);
+          coded = placed (program text);
+          searches = λ c p. record {
+            enough = most-turns c steps;
+            gives = λ k n l m. placed-lists inUse j c p skip (places rows) budget k n l m;
+            back = λ earlier p q w. taken-back inUse (to low high) c steps w;
+          };
+        }
+
+    -- and nothing else keeps it: what keeps the demand is what list answers and leaves
+    pub keeps-only : (left : Left) → Keeps text low high steps skip budget rows scratch left → left ≡ list text low high steps skip budget rows scratch
+    keeps-only left k =
+        let j = jobOf text low high steps in
+        let a : answerWith (k .written) (k .moves) (k .ending) ≡ found =
+        promise-unique inUse inUse-sound j (in-32 low high f h) skip (places rows) budget _ (subst (λ (l : List Row). Promised inUse j l skip (places rows) budget (answerWith (k .written) (k .moves) (k .ending))) (plan-list-unique j (k .plans) (k .fixed)) (k .closes)) in
+        left-path (k .answered) (k .slice) (k .cleared) ∙ ap (lists rows scratch) a ∙ sym (unfolds none C.accepted g v)
 
   -- a refusal leaves both slices as they were
-  untouched-by : (g : Option ℕ) (v : Verdict) (n p : ℕ) → answering text low high steps skip budget rows scratch g v .answer ≡ refused n p → answering text low high steps skip budget rows scratch g v ≡ refuses text low high steps skip budget rows scratch n p
-  untouched-by (some m) v n p e = ap₂ (refuses text low high steps skip budget rows scratch) (ap numberIn e) (ap placeIn e)
-  untouched-by none (C.refused m q) n p e = ap₂ (refuses text low high steps skip budget rows scratch) (ap numberIn e) (ap placeIn e)
+  untouched-by : (g : Option ℕ) (v : Verdict) (n p : ℕ) → answering rows scratch found g v .answer ≡ refused n p → answering rows scratch found g v ≡ refuses rows scratch n p
+  untouched-by (some m) v n p e = ap₂ (refuses rows scratch) (ap numberIn e) (ap placeIn e)
+  untouched-by none (C.refused m q) n p e = ap₂ (refuses rows scratch) (ap numberIn e) (ap placeIn e)
   untouched-by none C.accepted n p e = absurd (subst Refusal (sym e) tt)
 
-  pub untouched : (n p : ℕ) → list text low high steps skip budget rows scratch .answer ≡ refused n p → list text low high steps skip budget rows scratch ≡ refuses text low high steps skip budget rows scratch n p
+  pub untouched : (n p : ℕ) → list text low high steps skip budget rows scratch .answer ≡ refused n p → list text low high steps skip budget rows scratch ≡ refuses rows scratch n p
   unfolding list
   untouched n p e = untouched-by (ground (length scratch) low high steps) (checked text) n p e
 
@@ -106,16 +117,16 @@ answerBy (some n) v a = refused n 0
 answerBy none (C.refused n p) a = refused n p
 answerBy none C.accepted a = listed (length (a .rows)) (a .moves) (a .close)
 
-module _ (text : List ℕ) (low high : ℤ) (steps skip budget : ℕ) where
-  same-by : (rows : List ℤ) (scratch : List ℕ) (g : Option ℕ) (v : Verdict) → answering text low high steps skip budget rows scratch g v .answer ≡ answerBy g v (S.listed byRanges (jobOf text low high steps) skip (length rows / 10) budget)
-  same-by rows scratch (some n) v = refl
-  same-by rows scratch none (C.refused n p) = refl
-  same-by rows scratch none C.accepted = refl
+same-by : (rows : List ℤ) (scratch : List ℕ) (a : S.Answer) (g : Option ℕ) (v : Verdict) → answering rows scratch a g v .answer ≡ answerBy g v a
+same-by rows scratch a (some n) v = refl
+same-by rows scratch a none (C.refused n p) = refl
+same-by rows scratch a none C.accepted = refl
 
+module _ (text : List ℕ) (low high : ℤ) (steps skip budget : ℕ) where
   -- the answer is the same for slices of the same lengths
   pub same : (rows held : List ℤ) (scratch dirty : List ℕ) → length rows ≡ length held → length scratch ≡ length dirty → list text low high steps skip budget rows scratch .answer ≡ list text low high steps skip budget held dirty .answer
   unfolding list
   same rows held scratch dirty e f =
-      same-by rows scratch (ground (length scratch) low high steps) (checked text)
-      ∙ ap₂ (λ (n m : ℕ). answerBy (ground n low high steps) (checked text) (S.listed byRanges (jobOf text low high steps) skip (m / 10) budget)) f e
-      ∙ sym (same-by held dirty (ground (length dirty) low high steps) (checked text))
+      same-by rows scratch _ (ground (length scratch) low high steps) (checked text)
+      ∙ ap₂ (λ (n m : ℕ). answerBy (ground n low high steps) (checked text) (S.listed inUse (jobOf text low high steps) skip (m / 10) budget)) f e
+      ∙ sym (same-by held dirty _ (ground (length dirty) low high steps) (checked text))

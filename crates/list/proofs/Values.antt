@@ -9,9 +9,9 @@ use lib.Dec.{eqb, ltb}
 use borrow.Author.Tests.{ltb-false}
 use Rattle.syntax.specs.Token.{kName, kNumber}
 use Rattle.lexer.specs.Lex.{Token, isLarge, kindOf, found, lexed, tokens}
+use Rattle.lexer.specs.Tokens.{Longest, Scans, ended, next}
 use Rattle.lexer.proofs.Fronts.{size-value}
-use Rattle.lexer.proofs.Loop.{Longest}
-use Rattle.lexer.proofs.Theorems.{Scans, ended, next, Small, one, lexed-tokens}
+use Rattle.lexer.proofs.Theorems.{Small, one, lexed-tokens}
 use Rattle.checker.specs.Check.{values}
 
 pub neither : (a b : Bool) → a || b ≡ false → b ≡ false

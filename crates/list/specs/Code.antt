@@ -8,10 +8,13 @@ use Rattle.lexer.specs.Lex as L
 use Rattle.lexer.specs.Lex.{Token, lexed}
 use Rattle.grammar.specs.Text.{Tokens}
 use Rattle.checker.specs.Check.{Verdict, accepted, refused, kinds, places, values}
+use Rattle.checker.specs.Sizes.{TOKENS, HEADS}
 use Rattle.checker.specs.Analysis.{Known}
 use Rattle.simulation.specs.Words.{codeIn}
 use Rattle.simulation.specs.Placed.{Placed}
-use Rattle.list.specs.List.{program, Left, lists, found}
+use Rattle.semantics.specs.Search as S
+use Rattle.semantics.specs.Search.{inUse}
+use Rattle.list.specs.List.{program, jobOf, Left, lists, places as placesIn}
 use Rattle.list.specs.Parts.{leaves}
 use Rattle.list.specs.declared.Listed.{Listed}
 use Rattle.list.specs.declared.Coded.{Coded}
@@ -24,12 +27,12 @@ pub record Understood (text ps vs nodes : List ℕ) (root : ℕ) (heads : List �
   pub placed : places tokens ≡ ps
   pub valued : values tokens ≡ vs
   pub ended : Tokens (kinds tokens)
-  pub few : length tokens ≤ 2049
+  pub few : length tokens ≤ TOKENS
   pub items : List ℕ
   pub events : ℕ
-  pub named : 2049 ≤ length slots
-  pub functions : 8192 ≤ length heads
-  pub known : Known text (kinds tokens) ps vs nodes items heads (replicate 2049 0) slots root events h
+  pub named : TOKENS ≤ length slots
+  pub functions : HEADS ≤ length heads
+  pub known : Known text (kinds tokens) ps vs nodes items heads (replicate TOKENS 0) slots root events h
 
 -- n entries in these words are the code of the text's program
 pub record Codes (text code : List ℕ) (n : ℕ) : Type 0 where
@@ -44,4 +47,4 @@ pub data Translates (text code : List ℕ) : Coded → Verdict → Type 0 where
 
 -- on the code of any text, what is answered and left is what list answers and leaves for it
 pub record Searches (code : List ℕ) (n : ℕ) (low high : ℤ) (steps skip budget : ℕ) (rows : List ℤ) (scratch : List ℕ) (left : Left) : Type 0 where
-  pub is : (text : List ℕ) → Placed (codeIn code n) (program text) → left ≡ lists text low high steps skip budget rows scratch (found text low high steps skip budget rows scratch)
+  pub is : (text : List ℕ) → Placed (codeIn code n) (program text) → left ≡ lists rows scratch (S.listed inUse (jobOf text low high steps) skip (placesIn rows) budget)

@@ -15,7 +15,7 @@ use Rattle.checker.specs.Check.{Verdict, kinds, checked, programOf}
 use Rattle.semantics.specs.Program.{Program}
 use Rattle.semantics.specs.Run.{numbers, Job}
 use Rattle.semantics.specs.Search as S
-use Rattle.semantics.specs.Search.{to, byRanges, Close}
+use Rattle.semantics.specs.Search.{to, inUse, Close}
 use Rattle.settings.specs.Rows.{sheet}
 
 -- ---- the program of a text
@@ -52,25 +52,25 @@ ground words low high steps =
     (cond (ltb 4096 (length (numbers (to low high)))) (some 13)
     (cond (eqb steps 0 || ltb 1000 steps) (some 14) none)))
 
+-- "A refusal writes nothing into what was lent."
+abbrev pub refuses : List ℤ → List ℕ → (number place : ℕ) → Left
+refuses rows scratch n p = record { answer = refused n p; rows = rows; scratch = scratch }
+
+-- "Else scratch is left all zero, with rows written, moves made and an ending": the rows of the search from the slice's start on, and then what it held
+abbrev pub lists : List ℤ → List ℕ → S.Answer → Left
+lists rows scratch a = record { answer = listed (length (a .rows)) (a .moves) (a .close); rows = sheet rows (a .rows); scratch = replicate (length scratch) 0 }
+
+-- the first ground for a refusal, ".. then as check. Else .." what the search has found
+abbrev pub answering : List ℤ → List ℕ → S.Answer → Option ℕ → Verdict → Left
+answering rows scratch found (some n) v = refuses rows scratch n 0
+answering rows scratch found none (C.refused n p) = refuses rows scratch n p
+answering rows scratch found none C.accepted = lists rows scratch found
+
+-- "as many rows as the slice has whole tens of words"
+abbrev pub places : List ℤ → ℕ
+places rows = length rows / 10
+
 -- "List takes text, low and high (32 bits, signed), step limit, rows to skip and a budget of moves (all three 32 bits, unsigned), a rows slice and a scratch slice of 32-bit words."
-module _ (text : List ℕ) (low high : ℤ) (steps skip budget : ℕ) (rows : List ℤ) (scratch : List ℕ) where
-  -- "A refusal writes nothing into what was lent."
-  abbrev pub refuses : ℕ → ℕ → Left
-  refuses n p = record { answer = refused n p; rows = rows; scratch = scratch }
-
-  -- "Else scratch is left all zero, with rows written, moves made and an ending": the rows of the search from the slice's start on, and then what it held
-  abbrev pub lists : S.Answer → Left
-  lists a = record { answer = listed (length (a .rows)) (a .moves) (a .close); rows = sheet rows (a .rows); scratch = replicate (length scratch) 0 }
-
-  -- the search of document 01, with as many places for rows "as the slice has whole tens of words"
-  abbrev pub found : S.Answer
-  found = S.listed byRanges (jobOf text low high steps) skip (length rows / 10) budget
-
-  -- the first ground for a refusal, ".. then as check. Else .."
-  abbrev pub answering : Option ℕ → Verdict → Left
-  answering (some n) v = refuses n 0
-  answering none (C.refused n p) = refuses n p
-  answering none C.accepted = lists found
-
-  unfoldable pub list : Left
-  list = answering (ground (length scratch) low high steps) (checked text)
+unfoldable pub list : List ℕ → ℤ → ℤ → (steps skip budget : ℕ) → List ℤ → List ℕ → Left
+list text low high steps skip budget rows scratch =
+    answering rows scratch (S.listed inUse (jobOf text low high steps) skip (places rows) budget) (ground (length scratch) low high steps) (checked text)

@@ -1,4 +1,4 @@
-// List: the grounds for its refusals, and the slice that it leaves.
+// List: its refusals, the code of the text's program, the search on it, and what is answered and left.
 ghost use mathlib.Core.Path.{_≡_};
 ghost use Prim.Native.Nat.{_+_, _*_, _≤_, _<_};
 ghost use mathlib.Core.Option.{none};
@@ -16,6 +16,7 @@ ghost use Rattle.list.specs.List.{ground, listed, list as listOf};
 ghost use Rattle.list.specs.Parts.{groundOf, answerOf, leaves};
 ghost use Rattle.list.specs.Code.{Understood, Codes, Translates, Searches};
 use checker::Analysed;
+use checker::sizes;
 use intervals::Window;
 use search::Answered;
 use search::Ending;
@@ -163,14 +164,14 @@ fn code_of(text: &[u8], code: &mut [u32]) -> Coded
     requires { ⌜ length (now code) ≡ 4120 ⌝ }
     ensures { λ r. ⌜ Translates (now (text .entry)) (now (code .exit)) r (checked (now (text .entry))) ⌝ }
 {
-    let mut kinds = [0u8; 2049];
-    let mut places = [0u32; 2049];
-    let mut values = [0u32; 2049];
-    let mut nodes = [0u32; 20490];
-    let mut items = [0u32; 12288];
-    let mut heads = [0u32; 8192];
-    let mut scope = [0u32; 12288];
-    let mut slots = [0u32; 2049];
+    let mut kinds = [0u8; sizes::TOKENS];
+    let mut places = [0u32; sizes::TOKENS];
+    let mut values = [0u32; sizes::TOKENS];
+    let mut nodes = [0u32; sizes::NODES];
+    let mut items = [0u32; sizes::EVENTS];
+    let mut heads = [0u32; sizes::HEADS];
+    let mut scope = [0u32; sizes::SCOPE];
+    let mut slots = [0u32; sizes::TOKENS];
     translate(
         text,
         &mut kinds,

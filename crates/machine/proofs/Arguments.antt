@@ -3,7 +3,7 @@ use mathlib.Core.Path.{_≡_, refl, sym, ap, ap₂, _∙_, subst, subst₂}
 use mathlib.Core.List.{List, [], _∷_, _++_, map}
 use mathlib.Core.Logic.{⊎-elim, _≢_}
 use Prim.Native.Nat.{ℕ, zero, suc, _+_, _-_, _*_, _≤_, _<_}
-use native.Mathlib.Nat.{eq-or-lt-of-le, le-trans}
+use native.Mathlib.Nat.{eq-or-lt-of-le}
 use native.Mathlib.Omega.{arith}
 use lib.ListN.{length, getD, set, drop, replicate, length-set, List·getD-eq-default}
 use lib.Seq.{getD-set-same, getD-set-other, getD-take, getD-drop}
@@ -17,11 +17,12 @@ use Rattle.simulation.specs.Nodes as nodes
 use Rattle.simulation.specs.Nodes.{Cell, Within, meaning}
 use Rattle.simulation.specs.Words.{kinds, entriesIn, entryOf, codeIn}
 use Rattle.simulation.proofs.Words.{entry-in, length-entries}
+use Rattle.machine.specs.Layout.{frameCells, frameWords, framePlace, variablePlace, cellPlace, callerPlace, callerBase}
 use Rattle.machine.specs.Memory.{Sym, cellAs, cellAt, nodesIn, cells, temps, frameAt, callers}
-use Rattle.machine.specs.Contracts.{cellOf, Room, Stacked, Ready, Other, Kept, Put, Reads, Taking, Blank, topped, Gathering, Goes, acts}
+use Rattle.machine.specs.Contracts.{cellOf, Stacked, Ready, Other, Kept, Put, Reads, Taking, Blank, topped, Gathering, Goes, acts}
 use Rattle.machine.specs.declared.Value.{Value}
 use Rattle.machine.specs.declared.Run.{Run}
-use Rattle.machine.proofs.Tables.{Same, nodes-kept, frame-cell, temp-cell, stacked-same, frame-same, temps-same, callers-same, room-same, room-less}
+use Rattle.machine.proofs.Tables.{Same, nodes-kept, frame-cell, temp-cell, stacked-same, frame-same, temps-same, callers-same, room-same}
 use Rattle.machine.proofs.Stays.{three, topped-ready, kept-then, kept-low, held-stays, framed-stays, temps-stay, frame-stays, callers-stay, cells-set}
 use Rattle.machine.proofs.Moves.{reads}
 
@@ -104,7 +105,7 @@ before-is zero = omega arith
 before-is (suc j) = omega arith
 
 -- the next frame is written, and the rest stays
-module _ (m m₂ : List ℕ) (r : Run) (ready : Ready m r) (deep : r .depth < 32) (len : length m₂ ≡ length m) (o : Other m m₂ (32 * (r .depth + 1)) (32 * (r .depth + 1) + 32)) where
+module _ (m m₂ : List ℕ) (r : Run) (ready : Ready m r) (deep : r .depth < 32) (len : length m₂ ≡ length m) (o : Other m m₂ (framePlace (r .depth + 1)) (framePlace (r .depth + 1) + frameWords)) where
   same-next : Same m m₂ (r .depth + 1) (r .depth) (r .top) (r .nodes)
   same-next = record {
     d-fits = omega arith;
@@ -141,14 +142,14 @@ module _ (ws : List ℕ) (size : ℕ) (m : List ℕ) (r : Run) (n : ℕ) (deep :
   c = codeIn ws size
 
   abbrev next-at : ℕ
-  next-at = 32 * (r .depth + 1)
+  next-at = framePlace (r .depth + 1)
 
   -- none was taken, and the frame is blank
-  pub gathering-none : (m₂ : List ℕ) → Ready m r → length m₂ ≡ length m → Blank m m₂ next-at 16 → Gathering c m₂ m₂ r n n (r .pc) (r .top)
+  pub gathering-none : (m₂ : List ℕ) → Ready m r → length m₂ ≡ length m → Blank m m₂ next-at frameCells → Gathering c m₂ m₂ r n n (r .pc) (r .top)
   gathering-none m₂ ready len b = record {
     values = [];
     is = λ f g. refl;
-    framed = λ f g. frame-zeros (known (pos 0)) 16 n ∙ zero-cells f g m₂ next-at 16 (λ k l. b .cell k l);
+    framed = λ f g. frame-zeros (known (pos 0)) 16 n ∙ zero-cells f g m₂ next-at frameCells (λ k l. b .cell k l);
     ready = ready-next m m₂ r ready deep len (b .other);
     high = omega arith;
     other = record { outside = λ k l. refl };
@@ -156,7 +157,7 @@ module _ (ws : List ℕ) (size : ℕ) (m : List ℕ) (r : Run) (n : ℕ) (deep :
   }
 
   -- all were taken
-  pub gathering-all : (m₁ m₂ : List ℕ) (j top : ℕ) → Ready m r → length m₁ ≡ length m → Blank m m₁ next-at 16 → Gathering c m₁ m₂ r n 0 j top → Gathering c m m₂ r n 0 0 top
+  pub gathering-all : (m₁ m₂ : List ℕ) (j top : ℕ) → Ready m r → length m₁ ≡ length m → Blank m m₁ next-at frameCells → Gathering c m₁ m₂ r n 0 j top → Gathering c m m₂ r n 0 0 top
   unfolding gather
   gathering-all m₁ m₂ j top ready len b g = record {
     values = g .values;
@@ -170,10 +171,12 @@ module _ (ws : List ℕ) (size : ℕ) (m : List ℕ) (r : Run) (n : ℕ) (deep :
 
   -- one argument more
   module _ (m₁ m₂ : List ℕ) (k j top : ℕ) (g : Gathering c m m₁ r n (suc k) j top) (v : Value) (top₂ : ℕ) (t : Taking c m₁ (topped r top) (before j) v top₂) where
-    gather-one : (f : Cell → Sym) → Reads f → (d : ℕ) → d ≡ extent (getD (codeIn ws size .entries) (before j) (act Act.fail)) → gather known search.work c (frameAt f m₁ (r .depth)) (temps f m₁ (r .base) (top - r .base)) (suc k) j (map f (g .values))
+    gather-one : (f : Cell → Sym) → Reads f → (d : ℕ) → d ≡ extent (getD (codeIn ws size .entries) (before j) (act Act.fail))
+        → gather known search.work c (frameAt f m₁ (r .depth)) (temps f m₁ (r .base) (top - r .base)) (suc k) j (map f (g .values))
         ≡ gather known search.work c (frameAt f m₁ (r .depth)) (temps f m₁ (r .base) (top₂ - r .base)) k (before j - d) (f (cellOf v) ∷ map f (g .values))
     unfolding gather
-    gather-one f h d e = ap (λ u. gather known search.work c (frameAt f m₁ (r .depth)) (u .rest) k (before j - extent (getD (codeIn ws size .entries) (before j) (act Act.fail))) (u .value ∷ map f (g .values))) (t .is f h)
+    gather-one f h d e = ap (λ u. gather known search.work c (frameAt f m₁ (r .depth)) (u .rest) k (before j - extent (getD (codeIn ws size .entries) (before j) (act Act.fail)))
+        (u .value ∷ map f (g .values))) (t .is f h)
         ∙ ap (λ d. gather known search.work c (frameAt f m₁ (r .depth)) (temps f m₁ (r .base) (top₂ - r .base)) k (before j - d) (f (cellOf v) ∷ map f (g .values))) (sym e)
 
     ready₁ : Ready m₁ (topped r top₂)
@@ -192,13 +195,15 @@ module _ (ws : List ℕ) (size : ℕ) (m : List ℕ) (r : Run) (n : ℕ) (deep :
     }
 
     -- into its cell
-    gathering-one : (d : ℕ) → d ≡ extent (getD (codeIn ws size .entries) (before j) (act Act.fail)) → k < 16 → length m₂ ≡ length m₁ → Put m₁ m₂ (next-at + 2 * k) (cellOf v) → Gathering c m m₂ r n k (before j - d) top₂
+    gathering-one : (d : ℕ) → d ≡ extent (getD (codeIn ws size .entries) (before j) (act Act.fail)) → k < 16 → length m₂ ≡ length m₁ → Put m₁ m₂ (next-at + 2 * k) (cellOf v)
+        → Gathering c m m₂ r n k (before j - d) top₂
     gathering-one d e h len p = record {
       values = cellOf v ∷ g .values;
-      is = λ f u. g .is f u ∙ gather-one f u d e ∙ ap₂ (λ x ts. gather known search.work c x ts k (before j - d) (f (cellOf v) ∷ map f (g .values))) (frame-next m₁ m₂ (topped r top₂) ready₁ deep len o f) (temps-next m₁ m₂ (topped r top₂) ready₁ deep len o f);
+      is = λ f u. g .is f u ∙ gather-one f u d e ∙ ap₂ (λ x ts. gather known search.work c x ts k (before j - d) (f (cellOf v) ∷ map f (g .values)))
+          (frame-next m₁ m₂ (topped r top₂) ready₁ deep len o f) (temps-next m₁ m₂ (topped r top₂) ready₁ deep len o f);
       framed = λ f u. frame-one (known (pos 0)) (f (cellOf v)) 16 k (map f (g .values)) h
           ∙ ap (λ l. set l k (f (cellOf v))) (g .framed f u)
-          ∙ cells-set m₁ m₂ (r .nodes) f f (λ v h. refl) (cellOf v) next-at 16 k h (p .cell) apart (g .within);
+          ∙ cells-set m₁ m₂ (r .nodes) f f (λ v h. refl) (cellOf v) next-at frameCells k h (p .cell) apart (g .within);
       ready = ready-next m₁ m₂ (topped r top₂) ready₁ deep len o;
       high = omega (arith, t .high, g .high);
       other = record { outside = λ i l. o .outside i l ∙ g .other .outside i l };
@@ -207,7 +212,7 @@ module _ (ws : List ℕ) (size : ℕ) (m : List ℕ) (r : Run) (n : ℕ) (deep :
           (three i k);
     }
       where
-        o : Other m₁ m₂ next-at (next-at + 32)
+        o : Other m₁ m₂ next-at (next-at + frameWords)
         o = record { outside = λ i l. p .other .outside i (λ x y. l (omega arith) (omega arith)) }
 
         apart : (i : ℕ) → i < 16 → i ≢ k → cellAt m₂ (next-at + 2 * i) ≡ cellAt m₁ (next-at + 2 * i)
@@ -218,12 +223,14 @@ module _ (ws : List ℕ) (size : ℕ) (m : List ℕ) (r : Run) (n : ℕ) (deep :
     at-before : (j : ℕ) → e ≡ j - 1 → before j ≡ e
     at-before j q = before-is j ∙ sym q
 
-    pub gathering-turn : (m₂ : List ℕ) (k j : ℕ) → 0 < k → e ≡ j - 1 → Gathering c m m₁ r n k j top → k - 1 < 16 → length m₂ ≡ length m₁ → Put m₁ m₂ (next-at + 2 * (k - 1)) (cellOf v) → Gathering c m m₂ r n (k - 1) j₂ top₂
+    pub gathering-turn : (m₂ : List ℕ) (k j : ℕ) → 0 < k → e ≡ j - 1 → Gathering c m m₁ r n k j top → k - 1 < 16 → length m₂ ≡ length m₁ → Put m₁ m₂ (next-at + 2 * (k - 1)) (cellOf v)
+        → Gathering c m m₂ r n (k - 1) j₂ top₂
     gathering-turn m₂ zero j z q g h len p = absurd (omega arith)
     gathering-turn m₂ (suc k) j z q g h len p =
         let b = at-before j q in
         subst₂ (λ (a u : ℕ). Gathering c m m₂ r n a u top₂) {x = k} {y = suc k - 1} (omega arith) (ap (λ (x : ℕ). x - d) b ∙ sym je)
-        (gathering-one m₁ m₂ k j top g v top₂ (subst (λ (x : ℕ). Taking c m₁ (topped r top) x v top₂) (sym b) t) d (de ∙ ap (λ (x : ℕ). extent (getD (codeIn ws size .entries) x (act Act.fail))) (sym b)) (omega arith) len
+        (gathering-one m₁ m₂ k j top g v top₂ (subst (λ (x : ℕ). Taking c m₁ (topped r top) x v top₂) (sym b) t) d
+        (de ∙ ap (λ (x : ℕ). extent (getD (codeIn ws size .entries) x (act Act.fail))) (sym b)) (omega arith) len
         (subst (λ (x : ℕ). Put m₁ m₂ (next-at + 2 * x) (cellOf v)) {x = suc k - 1} {y = k} (omega arith) p))
 
     pub gathering-skip : (k j : ℕ) → 0 < k → e ≡ j - 1 → Gathering c m m₁ r n k j top → 16 ≤ k - 1 → Gathering c m m₁ r n (k - 1) j₂ top₂
@@ -231,7 +238,8 @@ module _ (ws : List ℕ) (size : ℕ) (m : List ℕ) (r : Run) (n : ℕ) (deep :
     gathering-skip (suc k) j z q g h =
         let b = at-before j q in
         subst₂ (λ (a u : ℕ). Gathering c m m₁ r n a u top₂) {x = k} {y = suc k - 1} (omega arith) (ap (λ (x : ℕ). x - d) b ∙ sym je)
-        (gathering-past m₁ m₁ k j top g v top₂ (subst (λ (x : ℕ). Taking c m₁ (topped r top) x v top₂) (sym b) t) d (de ∙ ap (λ (x : ℕ). extent (getD (codeIn ws size .entries) x (act Act.fail))) (sym b)) (omega arith))
+        (gathering-past m₁ m₁ k j top g v top₂ (subst (λ (x : ℕ). Taking c m₁ (topped r top) x v top₂) (sym b) t) d
+        (de ∙ ap (λ (x : ℕ). extent (getD (codeIn ws size .entries) x (act Act.fail))) (sym b)) (omega arith))
 
 -- ---- a call
 
@@ -246,19 +254,20 @@ start-is ws size g h l = getD-take 16 (drop (2 * size) ws) g 2 l ∙ getD-drop (
 module _ (ws : List ℕ) (size : ℕ) (m m₂ : List ℕ) (r : Run) (g n top : ℕ) (long : 2 * size + 16 ≤ length ws) (ready : Ready m r) (deep : r .depth < 32) (gl : g < 16) (len : length m₂ ≡ length m)
     (s : Gathering (codeIn ws size) m m₂ r n 0 0 top) where
   abbrev m₃ : List ℕ
-  m₃ = set (set m₂ (1056 + 2 * r .depth) (r .pc + 1)) (1057 + 2 * r .depth) (r .base)
+  m₃ = set (set m₂ (callerPlace (r .depth)) (r .pc + 1)) (callerBase (r .depth)) (r .base)
 
   abbrev f₀ : Cell → Sym
   f₀ = meaning (nodesIn m (r .nodes))
 
-  unwritten : (k : ℕ) → k ≢ 1056 + 2 * r .depth → k ≢ 1057 + 2 * r .depth → getD m₃ k 0 ≡ getD m₂ k 0
-  unwritten k a b = getD-set-other (set m₂ (1056 + 2 * r .depth) (r .pc + 1)) (1057 + 2 * r .depth) k (r .base) 0 b ∙ getD-set-other m₂ (1056 + 2 * r .depth) k (r .pc + 1) 0 a
+  unwritten : (k : ℕ) → k ≢ callerPlace (r .depth) → k ≢ callerBase (r .depth) → getD m₃ k 0 ≡ getD m₂ k 0
+  unwritten k a b = getD-set-other (set m₂ (callerPlace (r .depth)) (r .pc + 1)) (callerBase (r .depth)) k (r .base) 0 b ∙ getD-set-other m₂ (callerPlace (r .depth)) k (r .pc + 1) 0 a
 
-  saved-pc : getD m₃ (1056 + 2 * r .depth) 0 ≡ r .pc + 1
-  saved-pc = getD-set-other (set m₂ (1056 + 2 * r .depth) (r .pc + 1)) (1057 + 2 * r .depth) (1056 + 2 * r .depth) (r .base) 0 (omega arith) ∙ getD-set-same m₂ (1056 + 2 * r .depth) (r .pc + 1) 0 (omega (arith, ready .tops .words))
+  saved-pc : getD m₃ (callerPlace (r .depth)) 0 ≡ r .pc + 1
+  saved-pc = getD-set-other (set m₂ (callerPlace (r .depth)) (r .pc + 1)) (callerBase (r .depth)) (callerPlace (r .depth)) (r .base) 0 (omega arith)
+      ∙ getD-set-same m₂ (callerPlace (r .depth)) (r .pc + 1) 0 (omega (arith, ready .tops .words))
 
-  saved-base : getD m₃ (1057 + 2 * r .depth) 0 ≡ r .base
-  saved-base = getD-set-same (set m₂ (1056 + 2 * r .depth) (r .pc + 1)) (1057 + 2 * r .depth) (r .base) 0 (simp length-set (omega (arith, ready .tops .words)))
+  saved-base : getD m₃ (callerBase (r .depth)) 0 ≡ r .base
+  saved-base = getD-set-same (set m₂ (callerPlace (r .depth)) (r .pc + 1)) (callerBase (r .depth)) (r .base) 0 (simp length-set (omega (arith, ready .tops .words)))
 
   same₃ : Same m₂ m₃ (r .depth + 2) (r .depth) top (r .nodes)
   same₃ = record {
@@ -267,18 +276,23 @@ module _ (ws : List ℕ) (size : ℕ) (m m₂ : List ℕ) (r : Run) (g n top : �
     frames = λ k l. unwritten k (omega arith) (omega arith);
     saved = λ k h l. unwritten k (omega arith) (omega arith);
     held = λ k j h a b. unwritten k (omega arith) (omega arith);
-    kept = record { fixed = λ k a b. unwritten k (omega arith) (omega arith); tables = λ k j a b. unwritten k (omega arith) (omega arith); noded = λ k j h a b. unwritten k (omega arith) (omega arith) };
+    kept = record {
+      fixed = λ k a b. unwritten k (omega arith) (omega arith);
+      tables = λ k j a b. unwritten k (omega arith) (omega arith);
+      noded = λ k j h a b. unwritten k (omega arith) (omega arith);
+    };
   }
 
   kept₃ : Kept m m₃ (r .nodes)
   kept₃ = kept-then (kept-low (r .nodes) (s .other) (omega arith)) (same₃ .kept)
 
   -- the new frame, the caller's, and the callers'
-  within₂ : (j : ℕ) → j < 16 * (r .depth + 1) + 16 → Within (r .nodes) (cellAt m₂ (2 * j))
-  within₂ j l = ⊎-elim (λ e. at-next j l (omega arith)) (λ h. ⊎-elim (λ h. s .ready .framed j (omega arith)) (λ h. at-next j l (omega arith)) h) (three j (16 * (r .depth + 1)))
+  within₂ : (j : ℕ) → j < frameCells * (r .depth + 1) + frameCells → Within (r .nodes) (cellAt m₂ (cellPlace j))
+  within₂ j l = ⊎-elim (λ e. at-next j l (omega arith)) (λ h. ⊎-elim (λ h. s .ready .framed j (omega arith)) (λ h. at-next j l (omega arith)) h) (three j (frameCells * (r .depth + 1)))
     where
-      at-next : (j : ℕ) → j < 16 * (r .depth + 1) + 16 → 16 * (r .depth + 1) ≤ j → Within (r .nodes) (cellAt m₂ (2 * j))
-      at-next j l h = subst (λ (i : ℕ). Within (r .nodes) (cellAt m₂ i)) {x = 32 * (r .depth + 1) + 2 * (j - 16 * (r .depth + 1))} {y = 2 * j} (omega arith) (s .within (j - 16 * (r .depth + 1)) (omega arith))
+      at-next : (j : ℕ) → j < frameCells * (r .depth + 1) + frameCells → frameCells * (r .depth + 1) ≤ j → Within (r .nodes) (cellAt m₂ (cellPlace j))
+      at-next j l h = subst (λ (i : ℕ). Within (r .nodes) (cellAt m₂ i)) {x = variablePlace (r .depth + 1) (j - frameCells * (r .depth + 1))} {y = cellPlace j} (omega arith)
+          (s .within (j - frameCells * (r .depth + 1)) (omega arith))
 
   frame-new : frame (known (pos 0)) 16 (map f₀ (s .values)) ≡ frameAt f₀ m₃ (r .depth + 1)
   frame-new = s .framed f₀ (reads (nodesIn m (r .nodes))) ∙ frame-same same₃ f₀ f₀ (λ v h. refl) (r .depth + 1) (omega arith) within₂
@@ -297,10 +311,10 @@ module _ (ws : List ℕ) (size : ℕ) (m m₂ : List ℕ) (r : Run) (g n top : �
   unfolding callers
   callers-new =
       (λ i. record { pc = pc-is i; temps = temps-old i; frame = frame-old i } ∷ callers-old i)
-      ∙ ap (λ (b : ℕ). record { pc = getD m₃ (1056 + 2 * r .depth) 0; temps = temps f₀ m₃ b (top - b); frame = frameAt f₀ m₃ (r .depth) } ∷ callers f₀ m₃ (r .depth) b) (sym saved-base)
+      ∙ ap (λ (b : ℕ). record { pc = getD m₃ (callerPlace (r .depth)) 0; temps = temps f₀ m₃ b (top - b); frame = frameAt f₀ m₃ (r .depth) } ∷ callers f₀ m₃ (r .depth) b) (sym saved-base)
       ∙ ap (λ (d : ℕ). callers f₀ m₃ d top) {x = suc (r .depth)} {y = r .depth + 1} (omega arith)
     where
-      pc-is : suc (r .pc) ≡ getD m₃ (1056 + 2 * r .depth) 0
+      pc-is : suc (r .pc) ≡ getD m₃ (callerPlace (r .depth)) 0
       pc-is = omega (arith, saved-pc)
 
   temps-new : _≡_ {A = List Sym} [] (temps f₀ m₃ top (top - top))
@@ -308,27 +322,31 @@ module _ (ws : List ℕ) (size : ℕ) (m m₂ : List ℕ) (r : Run) (g n top : �
   temps-new = ap (temps f₀ m₃ top) {x = 0} {y = top - top} (omega arith)
 
   entering-is : (d : ℕ) → 32 - r .depth ≡ suc d → acts (codeIn ws size) m r (Act.call g n)
-      ≡ Doing.step (machine (getD (codeIn ws size .starts) g 2) (r .flag) [] (frame (known (pos 0)) 16 (map f₀ (s .values))) (record { pc = suc (r .pc); temps = temps f₀ m₂ (r .base) (top - r .base); frame = frameAt f₀ m (r .depth) } ∷ callers f₀ m (r .depth) (r .base)) d)
+      ≡ Doing.step (machine (getD (codeIn ws size .starts) g 2) (r .flag) [] (frame (known (pos 0)) 16 (map f₀ (s .values)))
+      (record { pc = suc (r .pc); temps = temps f₀ m₂ (r .base) (top - r .base); frame = frameAt f₀ m (r .depth) } ∷ callers f₀ m (r .depth) (r .base)) d)
   unfolding gather
   entering-is d e =
-      ap (λ k. entering known search.work (codeIn ws size) k g (gather known search.work (codeIn ws size) (frameAt f₀ m (r .depth)) (temps f₀ m (r .base) (r .top - r .base)) n (r .pc) []) (r .pc) (r .flag) (frameAt f₀ m (r .depth)) (callers f₀ m (r .depth) (r .base))) e
+      ap (λ k. entering known search.work (codeIn ws size) k g (gather known search.work (codeIn ws size) (frameAt f₀ m (r .depth)) (temps f₀ m (r .base) (r .top - r .base)) n (r .pc) []) (r .pc)
+      (r .flag) (frameAt f₀ m (r .depth)) (callers f₀ m (r .depth) (r .base))) e
       ∙ ap (λ a. entering known search.work (codeIn ws size) (suc d) g a (r .pc) (r .flag) (frameAt f₀ m (r .depth)) (callers f₀ m (r .depth) (r .base))) (s .is f₀ (reads (nodesIn m (r .nodes))))
 
   stacked₃ : Stacked m₃ (r .depth + 1) top
   stacked₃ = subst (λ (k : ℕ). Stacked m₃ k top) {x = suc (r .depth)} {y = r .depth + 1} (omega arith)
       (rw saved-base (s .ready .low, stacked-same same₃ (r .depth) (r .base) (omega arith) (s .ready .stack)))
 
-  pub entered : Goes Doing.step 1 (acts (codeIn ws size) m r (Act.call g n)) m (r .nodes) m₃ (record { pc = getD ws (2 * size + g) 0; flag = r .flag; base = top; top = top; depth = r .depth + 1; nodes = r .nodes })
+  pub entered : Goes Doing.step 1 (acts (codeIn ws size) m r (Act.call g n)) m (r .nodes) m₃
+      (record { pc = getD ws (2 * size + g) 0; flag = r .flag; base = top; top = top; depth = r .depth + 1; nodes = r .nodes })
   entered = record {
     is = entering-is (31 - r .depth) (omega arith) ∙ (λ i. Doing.step (machine (start-is ws size g long gl i) (r .flag) (temps-new i) (frame-new i) (callers-new i) (left-is i)))
-        ∙ ap (λ l. Doing.step (machine (getD ws (2 * size + g) 0) (r .flag) (temps (meaning l) m₃ top (top - top)) (frameAt (meaning l) m₃ (r .depth + 1)) (callers (meaning l) m₃ (r .depth + 1) top) (32 - (r .depth + 1)))) (sym (nodes-kept kept₃ (r .nodes) (omega arith)));
+        ∙ ap (λ l. Doing.step (machine (getD ws (2 * size + g) 0) (r .flag) (temps (meaning l) m₃ top (top - top)) (frameAt (meaning l) m₃ (r .depth + 1))
+        (callers (meaning l) m₃ (r .depth + 1) top) (32 - (r .depth + 1)))) (sym (nodes-kept kept₃ (r .nodes) (omega arith)));
     ready = record {
       deep = omega arith;
       low = omega arith;
       tops = record { words = simp length-set (omega (arith, s .ready .tops .words)); small = s .ready .tops .small };
       few = record { words = simp length-set (omega (arith, s .ready .few .words)); small = s .ready .few .small };
       stack = stacked₃;
-      framed = λ i l. subst (Within (r .nodes)) (sym (frame-cell same₃ (2 * i) (omega arith))) (within₂ i l);
+      framed = λ i l. subst (Within (r .nodes)) (sym (frame-cell same₃ (cellPlace i) (omega arith))) (within₂ i l);
       held = λ i l. subst (Within (r .nodes)) (sym (temp-cell same₃ i l)) (s .ready .held i l);
     };
     kept = kept₃;

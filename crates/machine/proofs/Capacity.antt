@@ -1,21 +1,20 @@
 -- How much a machine holds, so that the step limit says how long the memory must be; and the memory at the start of a path.
-use mathlib.Core.Path.{_≡_, refl, sym, ap, _∙_, subst}
-use mathlib.Core.List.{List, [], _∷_}
+use mathlib.Core.Path.{_≡_, refl, sym, ap, subst}
+use mathlib.Core.List.{List, []}
 use mathlib.Core.Bool.{false}
-use Prim.Native.Nat.{ℕ, zero, suc, _+_, _-_, _*_, _≤_, _<_}
+use Prim.Native.Nat.{ℕ, zero, suc, _+_, _-_, _*_, _≤_}
 use native.Mathlib.Omega.{arith}
 use lib.ListN.{length, getD}
 use lib.IntN.{pos}
 use Rattle.semantics.specs.Does.{frame}
-use Rattle.semantics.specs.Search as search
 use Rattle.semantics.specs.Search.{known}
-use Rattle.simulation.specs.Code.{Code}
-use Rattle.simulation.specs.Machine.{machine, start}
+use Rattle.simulation.specs.Machine.{machine}
 use Rattle.simulation.specs.Nodes as nodes
 use Rattle.simulation.specs.Nodes.{Cell, Within, meaning}
 use Rattle.simulation.proofs.Bounds.{heldBy, held, Sound}
-use Rattle.machine.specs.Memory.{Sym, cellAt, nodesIn, temps, frameAt, callers, machineIn, machineAt}
-use Rattle.machine.specs.Contracts.{Room, Stacked, Ready, Blank, Started}
+use Rattle.machine.specs.Layout.{frameCells, cellPlace, callerBase, tablesPlace}
+use Rattle.machine.specs.Memory.{cellAt, nodesIn, temps, frameAt, callers, machineAt}
+use Rattle.machine.specs.Contracts.{Stacked, Ready, Blank, Started}
 use Rattle.machine.specs.declared.Run.{Run}
 use Rattle.machine.proofs.Moves.{reads}
 use Rattle.machine.proofs.Arguments.{zero-cells}
@@ -32,9 +31,9 @@ module _ {X : Type 0} (f : Cell → X) (m : List ℕ) where
   unfolding callers
   held-callers zero top h = omega arith
   held-callers (suc d) top h =
-      let k : getD m (1057 + 2 * d) 0 ≤ top = h .0 in
-      let i : heldBy (callers f m d (getD m (1057 + 2 * d) 0)) ≡ getD m (1057 + 2 * d) 0 + d = held-callers d (getD m (1057 + 2 * d) 0) (h .1) in
-      omega (arith, temps-length (getD m (1057 + 2 * d) 0) (top - getD m (1057 + 2 * d) 0))
+      let k : getD m (callerBase d) 0 ≤ top = h .0 in
+      let i : heldBy (callers f m d (getD m (callerBase d) 0)) ≡ getD m (callerBase d) 0 + d = held-callers d (getD m (callerBase d) 0) (h .1) in
+      omega (arith, temps-length (getD m (callerBase d) 0) (top - getD m (callerBase d) 0))
 
 -- the temporaries and callers that the machine holds are those of the memory
 pub held-is : (m : List ℕ) (r : Run) → Ready m r → held (machineAt m r) ≡ r .top + r .depth
@@ -49,7 +48,7 @@ tops-le m r k h s = omega (arith, s .few, held-is m r h)
 abbrev fresh : Run
 fresh = record { pc = 0; flag = false; base = 0; top = 0; depth = 0; nodes = 0 }
 
-pub started : (m m₂ : List ℕ) → 1200 ≤ length m → length m₂ ≡ length m → Blank m m₂ 0 16 → Started m m₂ fresh
+pub started : (m m₂ : List ℕ) → tablesPlace ≤ length m → length m₂ ≡ length m → Blank m m₂ 0 frameCells → Started m m₂ fresh
 unfolding temps callers
 started m m₂ l len b = record {
   is = λ c i. machine 0 false [] (sym first i) [] 32;
@@ -59,7 +58,7 @@ started m m₂ l len b = record {
     tops = record { words = omega arith; small = omega arith };
     few = record { words = omega arith; small = omega arith };
     stack = refl;
-    framed = λ i g. subst (λ (j : ℕ). Within 0 (cellAt m₂ j)) {x = 0 + 2 * i} {y = 2 * i} (omega arith) (subst (Within 0) (sym (b .cell i (omega arith))) tt);
+    framed = λ i g. subst (λ (j : ℕ). Within 0 (cellAt m₂ j)) {x = 0 + 2 * i} {y = cellPlace i} (omega arith) (subst (Within 0) (sym (b .cell i (omega arith))) tt);
     held = λ i g. absurd (omega arith);
   };
   other = b .other;

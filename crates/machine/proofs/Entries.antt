@@ -1,7 +1,7 @@
 -- One entry worked, by its kind.
 use mathlib.Core.Path.{_≡_, refl, sym, ap, ap₂, _∙_, subst}
 use mathlib.Core.Bool.{Bool, true, false, Bool·beq}
-use mathlib.Core.List.{List, [], _∷_}
+use mathlib.Core.List.{List, []}
 use mathlib.Core.Logic.{⊎-elim}
 use Prim.Native.Nat.{ℕ, zero, suc, _+_, _-_, _*_, _/_, _%_, _≤_, _<_}
 use native.Mathlib.Nat.{eq-or-lt-of-le}
@@ -11,14 +11,14 @@ use lib.IntN.{pos}
 use Rattle.semantics.specs.Program.{slot}
 use Rattle.semantics.specs.Search as search
 use Rattle.semantics.specs.Search.{known}
-use Rattle.simulation.specs.Code.{Code, Entry, act, Act}
+use Rattle.simulation.specs.Code.{Entry, act, Act}
 use Rattle.simulation.specs.Machine.{Caller, Machine, machine, Doing, gather, entering, leaving, landing, working, advance}
 use Rattle.simulation.specs.Nodes.{meaning}
 use Rattle.simulation.specs.Words.{kinds, entriesIn, entryOf, codeIn}
 use Rattle.simulation.proofs.Words.{entry-in, length-entries}
 use Rattle.ints.specs.Numbers.{comparison, operation}
 use Rattle.machine.specs.Memory.{Sym, nodesIn, temps, frameAt, callers, machineAt}
-use Rattle.machine.specs.Contracts.{cellOf, Ready, Kept, Taking, Paired, topped, Goes, acts, storing, Asked, Freed, moved, flagged, Tested, Gave}
+use Rattle.machine.specs.Contracts.{cellOf, Ready, Taking, Paired, topped, Goes, acts, storing, Asked, Freed, moved, flagged, Tested, Gave}
 use Rattle.machine.specs.declared.Value.{Value}
 use Rattle.machine.specs.declared.Run.{Run}
 use Rattle.machine.proofs.Stays.{topped-ready, kept-none}
@@ -50,7 +50,8 @@ up : {lo k : ℕ} → lo ≤ k → (k ≡ lo → ⊥) → suc lo ≤ k
 up {lo} {k} a b = omega arith
 
 -- a kind from 13 on that is none of the twelve
-pub past-all : (k : ℕ) → 13 ≤ k → (k ≡ 13 → ⊥) → (k ≡ 14 → ⊥) → (k ≡ 15 → ⊥) → (k ≡ 16 → ⊥) → (k ≡ 17 → ⊥) → (k ≡ 18 → ⊥) → (k ≡ 19 → ⊥) → (k ≡ 20 → ⊥) → (k ≡ 21 → ⊥) → (k ≡ 22 → ⊥) → (k ≡ 23 → ⊥) → (k ≡ 24 → ⊥) → 24 < k
+pub past-all : (k : ℕ) → 13 ≤ k → (k ≡ 13 → ⊥) → (k ≡ 14 → ⊥) → (k ≡ 15 → ⊥) → (k ≡ 16 → ⊥) → (k ≡ 17 → ⊥) → (k ≡ 18 → ⊥) → (k ≡ 19 → ⊥) → (k ≡ 20 → ⊥) → (k ≡ 21 → ⊥) → (k ≡ 22 → ⊥)
+    → (k ≡ 23 → ⊥) → (k ≡ 24 → ⊥) → 24 < k
 past-all k b c d e f g h i j l m n o = up (up (up (up (up (up (up (up (up (up (up (up b c) d) e) f) g) h) i) j) l) m) n) o
 
 -- a jump made or not
@@ -106,7 +107,8 @@ module _ (ws : List ℕ) (size : ℕ) (m : List ℕ) (r : Run) where
 
     adv : (x : Entry) → entryOf K W ≡ x → goes ≡ works x
     unfolding advance
-    adv x e = ap works (entry-in ws 0 size (r .pc) inside ∙ ap₂ (λ i j. entryOf (getD ws i 0) (getD ws j 0)) {x = 0 + 2 * r .pc} {y = 2 * r .pc} {u = suc (0 + 2 * r .pc)} {v = 2 * r .pc + 1} (omega arith) (omega arith) ∙ e)
+    adv x e = ap works (entry-in ws 0 size (r .pc) inside ∙ ap₂ (λ i j. entryOf (getD ws i 0) (getD ws j 0)) {x = 0 + 2 * r .pc} {y = 2 * r .pc} {u = suc (0 + 2 * r .pc)} {v = 2 * r .pc + 1}
+        (omega arith) (omega arith) ∙ e)
 
     adv-at : (k : ℕ) → K ≡ k → goes ≡ works (entryOf k W)
     adv-at k e = adv _ (ap (λ k. entryOf k W) e)
@@ -122,7 +124,8 @@ module _ (ws : List ℕ) (size : ℕ) (m : List ℕ) (r : Run) where
     next-pc = omega arith
 
     -- nothing but the place and the flag has changed
-    goes-on : (how : Machine Sym → Doing Sym) (k : ℕ) (pc₁ pc₂ : ℕ) (b : Bool) → Ready m r → pc₁ ≡ pc₂ → goes ≡ how (machine pc₁ b ts fr cs (32 - r .depth)) → Goes how k goes m (r .nodes) m (record { pc = pc₂; flag = b; base = r .base; top = r .top; depth = r .depth; nodes = r .nodes })
+    goes-on : (how : Machine Sym → Doing Sym) (k : ℕ) (pc₁ pc₂ : ℕ) (b : Bool) → Ready m r → pc₁ ≡ pc₂ → goes ≡ how (machine pc₁ b ts fr cs (32 - r .depth))
+        → Goes how k goes m (r .nodes) m (record { pc = pc₂; flag = b; base = r .base; top = r .top; depth = r .depth; nodes = r .nodes })
     goes-on how k pc₁ pc₂ b h e q = record {
       is = q ∙ ap (λ (i : ℕ). how (machine i b ts fr cs (32 - r .depth))) e;
       ready = ready-moved m r pc₂ b h;
@@ -134,17 +137,26 @@ module _ (ws : List ℕ) (size : ℕ) (m : List ℕ) (r : Run) where
 
     pub adv-leaf : 1 ≤ K → K < 4 → Ready m r → Goes Doing.silent 0 goes m (r .nodes) m (moved r (r .pc + 1))
     unfolding entryOf
-    adv-leaf a b h = all-from (λ k. K ≡ k → Goes Doing.silent 0 goes m (r .nodes) m (moved r (r .pc + 1))) 3 1 K a b
-        ((λ e. goes-on Doing.silent 0 _ _ (r .flag) h next-pc (adv-at 1 e)), ((λ e. goes-on Doing.silent 0 _ _ (r .flag) h next-pc (adv-at 2 e)), ((λ e. goes-on Doing.silent 0 _ _ (r .flag) h next-pc (adv-at 3 e)), tt))) refl
+    adv-leaf a b h = all-from (λ k. K ≡ k → Goes Doing.silent 0 goes m (r .nodes) m (moved r (r .pc + 1))) 3 1 K a b (
+      (λ e. goes-on Doing.silent 0 _ _ (r .flag) h next-pc (adv-at 1 e)),
+      (
+        (λ e. goes-on Doing.silent 0 _ _ (r .flag) h next-pc
+            (adv-at 2 e)),
+        ((λ e. goes-on Doing.silent 0 _ _ (r .flag) h next-pc (adv-at 3 e)), tt),
+      ),
+    ) refl
 
     pub adv-op : 4 ≤ K → K < 7 → acts (codeIn ws size) m r (Act.operate (operation (K - 4)) W) ≡ goes
     adv-op a b = sym (adv _ (kind-op W K a b))
 
-    pub adv-cmp : 7 ≤ K → K < 13 → (x y : Value) (top : ℕ) → Ready m r → Paired (codeIn ws size) m r W x y top → Tested goes m (r .nodes) m (K - 7) x y (record { pc = r .pc + 1; flag = r .flag; base = r .base; top = top; depth = r .depth; nodes = r .nodes })
+    pub adv-cmp : 7 ≤ K → K < 13 → (x y : Value) (top : ℕ) → Ready m r → Paired (codeIn ws size) m r W x y top
+        → Tested goes m (r .nodes) m (K - 7) x y (record { pc = r .pc + 1; flag = r .flag; base = r .base; top = top; depth = r .depth; nodes = r .nodes })
     adv-cmp a b x y top h p = record {
       is = adv _ (kind-cmp W K a b)
-          ∙ ap (λ t. Doing.test (comparison (K - 7)) (t .first) (t .second) (λ q. machine (suc (r .pc)) q (t .rest) fr cs (32 - r .depth))) (p .is (meaning (nodesIn m (r .nodes))) (reads (nodesIn m (r .nodes))))
-          ∙ ap (λ (i : ℕ). Doing.test (comparison (K - 7)) (meaning (nodesIn m (r .nodes)) (cellOf x)) (meaning (nodesIn m (r .nodes)) (cellOf y)) (λ q. machine i q (temps (meaning (nodesIn m (r .nodes))) m (r .base) (top - r .base)) fr cs (32 - r .depth))) next-pc;
+          ∙ ap (λ t. Doing.test (comparison (K - 7)) (t .first) (t .second) (λ q. machine (suc (r .pc)) q (t .rest) fr cs (32 - r .depth)))
+          (p .is (meaning (nodesIn m (r .nodes))) (reads (nodesIn m (r .nodes))))
+          ∙ ap (λ (i : ℕ). Doing.test (comparison (K - 7)) (meaning (nodesIn m (r .nodes)) (cellOf x)) (meaning (nodesIn m (r .nodes)) (cellOf y))
+          (λ q. machine i q (temps (meaning (nodesIn m (r .nodes))) m (r .base) (top - r .base)) fr cs (32 - r .depth))) next-pc;
       six = omega arith;
       same = refl;
       ready = ready-moved m (topped r top) (r .pc + 1) (r .flag) (topped-ready m r top h (p .low) (p .high));
@@ -157,7 +169,8 @@ module _ (ws : List ℕ) (size : ℕ) (m : List ℕ) (r : Run) where
 
     pub adv-cut : K ≡ 13 → r .depth ≡ 32 → goes ≡ Doing.cut
     unfolding entryOf
-    adv-cut e d = adv-at 13 e ∙ ap (λ (k : ℕ). entering known search.work (codeIn ws size) k (W % 16) (gather known search.work (codeIn ws size) fr ts (W / 16) (r .pc) []) (r .pc) (r .flag) fr cs) {x = 32 - r .depth} {y = 0} (omega arith)
+    adv-cut e d = adv-at 13 e ∙ ap (λ (k : ℕ). entering known search.work (codeIn ws size) k (W % 16) (gather known search.work (codeIn ws size) fr ts (W / 16) (r .pc) []) (r .pc)
+        (r .flag) fr cs) {x = 32 - r .depth} {y = 0} (omega arith)
 
     pub adv-call : K ≡ 13 → acts (codeIn ws size) m r (Act.call (W % 16) (W / 16)) ≡ goes
     unfolding entryOf

@@ -2,11 +2,11 @@
 use mathlib.Core.Path.{_≡_, refl, sym, ap, ap₂, _∙_, subst}
 use mathlib.Core.List.{List, [], _∷_, _++_}
 use mathlib.Core.Logic.{_⊎_, inl, inr}
-use Prim.Native.Nat.{ℕ, zero, suc, _+_, _-_, _*_, _/_, _%_, _≤_, _<_}
+use Prim.Native.Nat.{ℕ, zero, suc, _+_, _-_, _*_, _%_, _≤_, _<_}
 use native.Mathlib.Nat.{le-trans}
 use native.Mathlib.Numerals.{add-one}
 use native.Mathlib.Omega.{arith}
-use lib.ListN.{length, getD, drop, List·getD-eq-default}
+use lib.ListN.{getD, drop, List·getD-eq-default}
 use lib.IntN.{ℤ, pos}
 use mir.Syntax.{w32}
 use mir.Val.{toZ, SFits}
@@ -21,8 +21,10 @@ use Rattle.simulation.specs.Nodes.{Node, operation, Within, adding, working}
 use Rattle.simulation.specs.Words.{kinds, entriesIn, entryOf, codeIn}
 use Rattle.simulation.proofs.Words.{entry-in, length-entries}
 use Rattle.ints.specs.Numbers as numbers
+use Rattle.machine.specs.Kinds.{nodeOp, leftOpen, rightOpen}
+use Rattle.machine.specs.Layout.{frameCells, framePlace, variablePlace, cellPlace, tempPlace, nodePlace, nodeEnd}
 use Rattle.machine.specs.Memory.{Sym, cellAs, cellAt, nodeAs, nodeAt, nodesIn, cells, temps, frameAt}
-use Rattle.machine.specs.Contracts.{cellOf, Sized, Ready, Other, Kept, Noded, Worked, Reads, Popped, Taking, Paired, topped}
+use Rattle.machine.specs.Contracts.{cellOf, Ready, Holds, Other, Kept, Noded, Worked, Popped, Taking, Paired, topped}
 use Rattle.machine.specs.declared.Value.{Value}
 use Rattle.machine.specs.declared.Value.the-variants.{Known, Open}
 use Rattle.machine.specs.declared.Run.{Run}
@@ -31,7 +33,7 @@ use Rattle.machine.proofs.Tables.{nodes-length, nodes-kept}
 -- ---- operations
 
 -- where a node is written after n others, those stay
-pub kept-node : (m m′ : List ℕ) (n : ℕ) → Other m m′ (1202 + 12 * n) (1205 + 12 * n) → Kept m m′ n
+pub kept-node : (m m′ : List ℕ) (n : ℕ) → Other m m′ (nodePlace n) (nodeEnd n) → Kept m m′ n
 kept-node m m′ n o = record {
   fixed = λ k a b. o .outside k (λ p q. omega arith);
   tables = λ k j a b. o .outside k (λ p q. omega arith);
@@ -42,7 +44,7 @@ nodes-one : (m m′ : List ℕ) (n : ℕ) (x : Node) → Noded m m′ n x → no
 unfolding nodesIn
 nodes-one m m′ n x d = ap (nodesIn m′) (add-one n) ∙ ap₂ (λ l y. l ++ y ∷ []) (nodes-kept (kept-node m m′ n (d .other)) n (omega arith)) (d .node)
 
-pub node-op : (op k x y p q : ℕ) → k % 4 ≡ suc op → k / 4 % 2 ≡ p → k / 8 ≡ q → nodeAs k x y ≡ operation (numbers.operation op) (cellAs p x) (cellAs q y)
+pub node-op : (op k x y p q : ℕ) → nodeOp k ≡ suc op → leftOpen k ≡ p → rightOpen k ≡ q → nodeAs k x y ≡ operation (numbers.operation op) (cellAs p x) (cellAs q y)
 node-op op k x y p q a b c = rw (a, b, c)
 
 module _ (m m′ : List ℕ) (n : ℕ) (o : Op) (v w : Value) (x : Node) (d : Noded m m′ n x) (e : x ≡ operation o (cellOf v) (cellOf w)) (small : n < 4294967296) where
@@ -93,15 +95,16 @@ popped-none m r e = record {
     n₀ : r .top - r .base ≡ 0
     n₀ = omega arith
 
-pub popped-one : (m : List ℕ) (r : Run) (v : Value) → Ready m r → (r .top ≡ r .base → ⊥) → cellOf v ≡ cellAt m (1200 + 12 * (r .top - 1)) → Sized v → Popped m r v (r .top - 1)
+pub popped-one : (m : List ℕ) (r : Run) (v : Value) → Ready m r → (r .top ≡ r .base → ⊥) → Holds m (tempPlace (r .top - 1)) v → Popped m r v (r .top - 1)
 unfolding temps
-popped-one m r v h e q s = record {
+popped-one m r v h e q = record {
   is = λ f g. ap (λ n. popped known search.work (codeIn [] 0) (temps f m (r .base) n)) {x = r .top - r .base} {y = suc (r .top - 1 - r .base)} (omega (arith, h .low))
-      ∙ ap (λ x. record { value = f x; rest = temps f m (r .base) (r .top - 1 - r .base) }) (ap (λ i. cellAt m (1200 + 12 * i)) {x = r .base + (r .top - 1 - r .base)} {y = r .top - 1} (omega (arith, h .low)) ∙ sym q);
+      ∙ ap (λ x. record { value = f x; rest = temps f m (r .base) (r .top - 1 - r .base) })
+      (ap (λ i. cellAt m (tempPlace i)) {x = r .base + (r .top - 1 - r .base)} {y = r .top - 1} (omega (arith, h .low)) ∙ sym (q .is));
   low = omega (arith, h .low);
   high = omega arith;
-  sized = s;
-  within = subst (Within (r .nodes)) (sym q) (h .held (r .top - 1) (omega (arith, h .low)));
+  sized = q .sized;
+  within = subst (Within (r .nodes)) (sym (q .is)) (h .held (r .top - 1) (omega (arith, h .low)));
 }
 
 cells-at : {X : Type 0} (f : nodes.Cell → X) (m : List ℕ) (i n w : ℕ) (d : X) → w < n → getD (cells f m i n) w d ≡ f (cellAt m (i + 2 * w))
@@ -119,10 +122,12 @@ module _ (ws : List ℕ) (size : ℕ) where
   taken-out f ts (suc r) (inl e) = absurd (omega arith)
   taken-out f ts (suc r) (inr l) = ap (reading known search.work c f ts) (List·getD-eq-default (entriesIn ws 0 size) (act Act.fail) {n = r} (omega (arith, length-entries ws 0 size)))
 
-  taken-entry : (f ts : List Sym) (j : ℕ) → (j ≡ 0 → ⊥) → (size < j → ⊥) → taken known search.work c f ts j ≡ reading known search.work c f ts (entryOf (getD ws (2 * (j - 1)) 0) (getD ws (2 * (j - 1) + 1) 0))
+  taken-entry : (f ts : List Sym) (j : ℕ) → (j ≡ 0 → ⊥) → (size < j → ⊥) → taken known search.work c f ts j
+      ≡ reading known search.work c f ts (entryOf (getD ws (2 * (j - 1)) 0) (getD ws (2 * (j - 1) + 1) 0))
   taken-entry f ts zero h k = absurd (h refl)
   taken-entry f ts (suc r) h k =
-      ap (reading known search.work c f ts) (entry-in ws 0 size r (omega arith) ∙ ap₂ (λ i j. entryOf (getD ws i 0) (getD ws j 0)) {x = 0 + 2 * r} {y = 2 * (suc r - 1)} {u = suc (0 + 2 * r)} {v = 2 * (suc r - 1) + 1} (omega arith) (omega arith))
+      ap (reading known search.work c f ts) (entry-in ws 0 size r (omega arith) ∙ ap₂ (λ i j. entryOf (getD ws i 0) (getD ws j 0)) {x = 0 + 2 * r} {y = 2 * (suc r - 1)} {u = suc
+      (0 + 2 * r)} {v = 2 * (suc r - 1) + 1} (omega arith) (omega arith))
 
   -- the kinds that are no operands of their own
   abbrev Pops : List Sym → List Sym → List Entry → Type 0
@@ -168,15 +173,17 @@ module _ (ws : List ℕ) (size : ℕ) where
         within = tt;
       }
 
-      pub taking-name : (v : Value) → Ready m r → cellOf v ≡ cellAt m (32 * r .depth + 2 * (w % 16)) → Sized v → k ≡ 2 → Taking c m r j v (r .top)
+      pub taking-name : (v : Value) → Ready m r → Holds m (variablePlace (r .depth) (w % frameCells)) v → k ≡ 2 → Taking c m r j v (r .top)
       unfolding entryOf
-      taking-name v y a s b = record {
+      taking-name v y a b = record {
         is = λ f u. entry _ _ ∙ ap (λ k. reading known search.work c (frameAt f m (r .depth)) (temps f m (r .base) (r .top - r .base)) (entryOf k w)) b
-            ∙ ap (λ x. record { value = x; rest = temps f m (r .base) (r .top - r .base) }) (cells-at f m (32 * r .depth) 16 (w % 16) (known (pos 0)) (omega arith) ∙ ap f (sym a));
+            ∙ ap (λ x. record { value = x; rest = temps f m (r .base) (r .top - r .base) })
+            (cells-at f m (framePlace (r .depth)) frameCells (w % frameCells) (known (pos 0)) (omega arith) ∙ ap f (sym (a .is)));
         low = y .low;
         high = omega arith;
-        sized = s;
-        within = subst (Within (r .nodes)) (ap (cellAt m) {x = 2 * (16 * r .depth + w % 16)} {y = 32 * r .depth + 2 * (w % 16)} (omega arith) ∙ sym a) (y .framed (16 * r .depth + w % 16) (omega arith));
+        sized = a .sized;
+        within = subst (Within (r .nodes)) (ap (cellAt m) {x = cellPlace (frameCells * r .depth + w % frameCells)} {y = variablePlace (r .depth) (w % frameCells)} (omega arith) ∙ sym (a .is))
+            (y .framed (frameCells * r .depth + w % frameCells) (omega arith));
       }
 
   pub paired : (m : List ℕ) (r : Run) (d : ℕ) (x y : Value) (tx ty : ℕ) → Taking c m r (r .pc) y ty → Taking c m (topped r ty) (r .pc - d) x tx → Paired c m r d x y tx

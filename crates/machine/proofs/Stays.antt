@@ -1,20 +1,17 @@
 -- What stays of a machine where most words stay: after a temporary was added, after a variable was written, and in the next frame.
 use mathlib.Core.Path.{_≡_, refl, sym, ap, ap₂, _∙_, subst}
-use mathlib.Core.List.{List, [], _∷_}
+use mathlib.Core.List.{List, _∷_}
 use mathlib.Core.Logic.{⊎-elim, _≢_, _⊎_, inl, inr}
 use Prim.Native.Nat.{ℕ, zero, suc, _+_, _-_, _*_, _≤_, _<_}
-use native.Mathlib.Nat.{eq-or-lt-of-le, le-trans}
 use native.Mathlib.Omega.{arith}
 use native.Mathlib.Decide.{decLt}
-use lib.ListN.{length, getD, set}
-use Rattle.semantics.specs.Program.{slot}
-use Rattle.semantics.specs.Does.{store}
-use Rattle.simulation.specs.Machine.{machine}
-use Rattle.simulation.specs.Nodes.{Cell, Within, meaning}
-use Rattle.machine.specs.Memory.{cellAs, cellAt, nodesIn, cells, temps, frameAt, callers, machineIn}
-use Rattle.machine.specs.Contracts.{Room, Ready, Other, Kept, Put, topped}
+use lib.ListN.{set}
+use Rattle.simulation.specs.Nodes.{Cell, Within}
+use Rattle.machine.specs.Layout.{frameCells, cellPlace, windowsPlace, tempPlace}
+use Rattle.machine.specs.Memory.{cellAt, cells, temps, frameAt, callers}
+use Rattle.machine.specs.Contracts.{Ready, Other, Kept, Put, topped}
 use Rattle.machine.specs.declared.Run.{Run}
-use Rattle.machine.proofs.Tables.{Same, within-more, frame-cell, temp-cell, stacked-same, cells-same, frame-same, temps-same, callers-same, room-same, room-less}
+use Rattle.machine.proofs.Tables.{Same, within-more, frame-cell, temp-cell, cells-same, frame-same, temps-same, callers-same, room-less}
 
 pub three : (x y : ℕ) → (x ≡ y) ⊎ ((x < y) ⊎ (y < x))
 three x y = go (decLt x y) (decLt y x)
@@ -43,7 +40,7 @@ kept-then a b = record {
 }
 
 -- a write into the frames or the callers
-pub kept-low : {m m′ : List ℕ} {i j : ℕ} (n : ℕ) → Other m m′ i j → j ≤ 1120 → Kept m m′ n
+pub kept-low : {m m′ : List ℕ} {i j : ℕ} (n : ℕ) → Other m m′ i j → j ≤ windowsPlace → Kept m m′ n
 kept-low n o l = record {
   fixed = λ k a b. o .outside k (λ p q. omega arith);
   tables = λ k j a b. o .outside k (λ p q. omega arith);
@@ -51,7 +48,7 @@ kept-low n o l = record {
 }
 
 -- a temporary
-pub kept-temp : {m m′ : List ℕ} {v : Cell} (t n : ℕ) → Put m m′ (1200 + 12 * t) v → Kept m m′ n
+pub kept-temp : {m m′ : List ℕ} {v : Cell} (t n : ℕ) → Put m m′ (tempPlace t) v → Kept m m′ n
 kept-temp t n p = record {
   fixed = λ k a b. p .other .outside k (λ u v. omega arith);
   tables = λ k j a b. p .other .outside k (λ u v. omega arith);
@@ -61,11 +58,11 @@ kept-temp t n p = record {
 -- ---- what stays of the machine
 
 module _ (m m′ : List ℕ) (r : Run) (d t n : ℕ) (s : Same m m′ d (r .depth) t (r .nodes)) (ready : Ready m r) (small : t ≤ r .top) (more : r .nodes ≤ n) where
-  pub held-stays : (i : ℕ) → i < t → Within n (cellAt m′ (1200 + 12 * i))
-  held-stays i l = subst (Within n) (sym (temp-cell s i l)) (within-more (r .nodes) n more (cellAt m (1200 + 12 * i)) (ready .held i (omega arith)))
+  pub held-stays : (i : ℕ) → i < t → Within n (cellAt m′ (tempPlace i))
+  held-stays i l = subst (Within n) (sym (temp-cell s i l)) (within-more (r .nodes) n more (cellAt m (tempPlace i)) (ready .held i (omega arith)))
 
-  pub framed-stays : (i : ℕ) → i < 16 * d → i < 16 * r .depth + 16 → Within n (cellAt m′ (2 * i))
-  framed-stays i l g = subst (Within n) (sym (frame-cell s (2 * i) (omega arith))) (within-more (r .nodes) n more (cellAt m (2 * i)) (ready .framed i g))
+  pub framed-stays : (i : ℕ) → i < frameCells * d → i < frameCells * r .depth + frameCells → Within n (cellAt m′ (cellPlace i))
+  framed-stays i l g = subst (Within n) (sym (frame-cell s (cellPlace i) (omega arith))) (within-more (r .nodes) n more (cellAt m (cellPlace i)) (ready .framed i g))
 
   module _ {X : Type 0} (f f′ : Cell → X) (agree : (v : Cell) → Within (r .nodes) v → f′ v ≡ f v) where
     pub temps-stay : (u : ℕ) → r .base ≤ u → u ≤ t → temps f m (r .base) (u - r .base) ≡ temps f′ m′ (r .base) (u - r .base)

@@ -2,16 +2,17 @@
 use mathlib.Core.Path.{_≡_, refl, sym, ap, ap₂, _∙_, subst}
 use mathlib.Core.List.{List, [], _∷_, _++_}
 use mathlib.Core.Logic.{⊎-elim, _≢_}
-use Prim.Native.Nat.{ℕ, zero, suc, _+_, _-_, _*_, _/_, _%_, _≤_, _<_}
+use Prim.Native.Nat.{ℕ, zero, suc, _+_, _-_, _*_, _≤_, _<_}
 use native.Mathlib.Nat.{eq-or-lt-of-le, le-trans}
 use native.Mathlib.Numerals.{add-one}
 use native.Mathlib.Omega.{arith}
 use lib.ListN.{length, getD, set, length-set, length-append}
 use lib.Seq.{getD-set-same, getD-set-other}
-use Rattle.simulation.specs.Nodes.{Cell, Known, Open, Node, meaning, Within}
+use Rattle.simulation.specs.Nodes.{Cell, Known, Open, meaning, Within}
 use Rattle.simulation.proofs.Nodes.{meaning-grows}
+use Rattle.machine.specs.Layout.{frameCells, framePlace, variablePlace, cellPlace, callersPlace, callerPlace, callerBase, tempPlace, tempEnd, nodePlace, nodeLeft, nodeRight}
 use Rattle.machine.specs.Memory.{cellAs, cellAt, nodeAs, nodeAt, nodesIn, cells, temps, frameAt, callers}
-use Rattle.machine.specs.Contracts.{Room, Stacked, Other, Kept, Put, Noded}
+use Rattle.machine.specs.Contracts.{Room, Stacked, Kept, Put, Noded}
 
 -- ---- nodes
 
@@ -21,7 +22,7 @@ nodes-length m zero = refl
 nodes-length m (suc n) = length-append (nodesIn m n) (nodeAt m n ∷ []) ∙ ap (λ k. k + 1) (nodes-length m n) ∙ add-one n
 
 node-kept : {m m′ : List ℕ} {n : ℕ} → Kept m m′ n → (j : ℕ) → j < n → nodeAt m′ j ≡ nodeAt m j
-node-kept s j h = rw (s .noded (1202 + 12 * j) j h (omega arith) (omega arith), s .noded (1203 + 12 * j) j h (omega arith) (omega arith), s .noded (1204 + 12 * j) j h (omega arith) (omega arith))
+node-kept s j h = rw (s .noded (nodePlace j) j h (omega arith) (omega arith), s .noded (nodeLeft j) j h (omega arith) (omega arith), s .noded (nodeRight j) j h (omega arith) (omega arith))
 
 -- the first nodes stay
 pub nodes-kept : {m m′ : List ℕ} {n : ℕ} → Kept m m′ n → (j : ℕ) → j ≤ n → nodesIn m′ j ≡ nodesIn m j
@@ -59,21 +60,21 @@ room-less k l r = record { words = omega (arith, r .words); small = omega (arith
 pub record Same (m m′ : List ℕ) (d c t n : ℕ) : Type 0 where
   pub d-fits : d ≤ 33
   pub c-fits : c ≤ 32
-  pub frames : (k : ℕ) → k < 32 * d → getD m′ k 0 ≡ getD m k 0
-  pub saved : (k : ℕ) → 1056 ≤ k → k < 1056 + 2 * c → getD m′ k 0 ≡ getD m k 0
-  pub held : (k j : ℕ) → j < t → 1200 + 12 * j ≤ k → k < 1202 + 12 * j → getD m′ k 0 ≡ getD m k 0
+  pub frames : (k : ℕ) → k < framePlace d → getD m′ k 0 ≡ getD m k 0
+  pub saved : (k : ℕ) → callersPlace ≤ k → k < callerPlace c → getD m′ k 0 ≡ getD m k 0
+  pub held : (k j : ℕ) → j < t → tempPlace j ≤ k → k < tempEnd j → getD m′ k 0 ≡ getD m k 0
   pub kept : Kept m m′ n
 
 module _ {m m′ : List ℕ} {d c t n : ℕ} (s : Same m m′ d c t n) where
-  pub frame-cell : (i : ℕ) → i + 1 < 32 * d → cellAt m′ i ≡ cellAt m i
+  pub frame-cell : (i : ℕ) → i + 1 < framePlace d → cellAt m′ i ≡ cellAt m i
   frame-cell i h = ap₂ cellAs (s .frames i (omega arith)) (s .frames (i + 1) h)
 
-  pub temp-cell : (j : ℕ) → j < t → cellAt m′ (1200 + 12 * j) ≡ cellAt m (1200 + 12 * j)
-  temp-cell j h = ap₂ cellAs (s .held (1200 + 12 * j) j h (omega arith) (omega arith)) (s .held (1200 + 12 * j + 1) j h (omega arith) (omega arith))
+  pub temp-cell : (j : ℕ) → j < t → cellAt m′ (tempPlace j) ≡ cellAt m (tempPlace j)
+  temp-cell j h = ap₂ cellAs (s .held (tempPlace j) j h (omega arith) (omega arith)) (s .held (tempPlace j + 1) j h (omega arith) (omega arith))
 
   pub stacked-same : (e b : ℕ) → e ≤ c → Stacked m e b → Stacked m′ e b
   stacked-same zero b l h = h
-  stacked-same (suc e) b l h = rw (s .saved (1057 + 2 * e) (omega arith) (omega arith)) (h .0, stacked-same e (getD m (1057 + 2 * e) 0) (omega arith) (h .1))
+  stacked-same (suc e) b l h = rw (s .saved (callerBase e) (omega arith) (omega arith)) (h .0, stacked-same e (getD m (callerBase e) 0) (omega arith) (h .1))
 
 -- cells that stay, if f′ reads as f the cells that n nodes are enough for
 pub cells-same : {X : Type 0} (m m′ : List ℕ) (n : ℕ) (f f′ : Cell → X) → ((v : Cell) → Within n v → f′ v ≡ f v) → (i k : ℕ) → ((j : ℕ) → j < k → cellAt m′ (i + 2 * j) ≡ cellAt m (i + 2 * j))
@@ -90,23 +91,25 @@ cells-same m m′ n f f′ agree i (suc k) q h =
 
 -- what the tables stand for, if f′ reads as f the cells that n nodes are enough for
 module _ {m m′ : List ℕ} {d c t n : ℕ} (s : Same m m′ d c t n) {X : Type 0} (f f′ : Cell → X) (agree : (v : Cell) → Within n v → f′ v ≡ f v) where
-  pub frame-same : (e : ℕ) → e < d → ((j : ℕ) → j < 16 * e + 16 → Within n (cellAt m (2 * j))) → frameAt f m e ≡ frameAt f′ m′ e
-  frame-same e l h = cells-same m m′ n f f′ agree (32 * e) 16 (λ j k. frame-cell s (32 * e + 2 * j) (omega arith)) (λ j k. subst (λ (i : ℕ). Within n (cellAt m i)) {x = 2 * (16 * e + j)} {y = 32 * e + 2 * j} (omega arith) (h (16 * e + j) (omega arith)))
+  pub frame-same : (e : ℕ) → e < d → ((j : ℕ) → j < frameCells * e + frameCells → Within n (cellAt m (cellPlace j))) → frameAt f m e ≡ frameAt f′ m′ e
+  frame-same e l h = cells-same m m′ n f f′ agree (framePlace e) frameCells (λ j k. frame-cell s (variablePlace e j) (omega arith))
+      (λ j k. subst (λ (i : ℕ). Within n (cellAt m i)) {x = cellPlace (frameCells * e + j)} {y = variablePlace e j} (omega arith) (h (frameCells * e + j) (omega arith)))
 
-  pub temps-same : (i k : ℕ) → i + k ≤ t → ((j : ℕ) → j < t → Within n (cellAt m (1200 + 12 * j))) → temps f m i k ≡ temps f′ m′ i k
+  pub temps-same : (i k : ℕ) → i + k ≤ t → ((j : ℕ) → j < t → Within n (cellAt m (tempPlace j))) → temps f m i k ≡ temps f′ m′ i k
   unfolding temps
   temps-same i zero l h = refl
-  temps-same i (suc k) l h = ap₂ (λ x l. x ∷ l) (sym (ap f′ (temp-cell s (i + k) (omega arith)) ∙ agree (cellAt m (1200 + 12 * (i + k))) (h (i + k) (omega arith)))) (temps-same i k (omega arith) h)
+  temps-same i (suc k) l h = ap₂ (λ x l. x ∷ l) (sym (ap f′ (temp-cell s (i + k) (omega arith)) ∙ agree (cellAt m (tempPlace (i + k))) (h (i + k) (omega arith)))) (temps-same i k (omega arith) h)
 
-  pub callers-same : (e top : ℕ) → e ≤ d → e ≤ c → top ≤ t → Stacked m e top → ((j : ℕ) → j < 16 * e → Within n (cellAt m (2 * j))) → ((j : ℕ) → j < t → Within n (cellAt m (1200 + 12 * j))) → callers f m e top ≡ callers f′ m′ e top
+  pub callers-same : (e top : ℕ) → e ≤ d → e ≤ c → top ≤ t → Stacked m e top → ((j : ℕ) → j < frameCells * e → Within n (cellAt m (cellPlace j)))
+      → ((j : ℕ) → j < t → Within n (cellAt m (tempPlace j))) → callers f m e top ≡ callers f′ m′ e top
   unfolding callers
   callers-same zero top l z k b g h = refl
   callers-same (suc e) top l z k b g h =
-      let c₁ : getD m (1057 + 2 * e) 0 ≤ top = b .0 in
-      let p = temps-same (getD m (1057 + 2 * e) 0) (top - getD m (1057 + 2 * e) 0) (omega arith) h in
+      let c₁ : getD m (callerBase e) 0 ≤ top = b .0 in
+      let p = temps-same (getD m (callerBase e) 0) (top - getD m (callerBase e) 0) (omega arith) h in
       let q = frame-same e (omega arith) (λ j u. g j (omega arith)) in
-      let r = callers-same e (getD m (1057 + 2 * e) 0) (omega arith) (omega arith) (le-trans c₁ k) (b .1) (λ j u. g j (omega arith)) h in
-      rw (s .saved (1056 + 2 * e) (omega arith) (omega arith), s .saved (1057 + 2 * e) (omega arith) (omega arith)) (λ i. record { pc = getD m (1056 + 2 * e) 0; temps = p i; frame = q i } ∷ r i)
+      let r = callers-same e (getD m (callerBase e) 0) (omega arith) (omega arith) (le-trans c₁ k) (b .1) (λ j u. g j (omega arith)) h in
+      rw (s .saved (callerPlace e) (omega arith) (omega arith), s .saved (callerBase e) (omega arith) (omega arith)) (λ i. record { pc = getD m (callerPlace e) 0; temps = p i; frame = q i } ∷ r i)
 
 -- ---- writing
 
@@ -130,25 +133,27 @@ module _ (m : List ℕ) (i a b : ℕ) (h : i + 1 < length m) where
 -- a node
 module _ (m : List ℕ) (n k x y : ℕ) (h : Room m (n + 1)) where
   abbrev n₁ : List ℕ
-  n₁ = set m (1202 + 12 * n) k
+  n₁ = set m (nodePlace n) k
 
   abbrev n₂ : List ℕ
-  n₂ = set n₁ (1202 + 12 * n + 1) x
+  n₂ = set n₁ (nodePlace n + 1) x
 
   abbrev n₃ : List ℕ
-  n₃ = set n₂ (1202 + 12 * n + 2) y
+  n₃ = set n₂ (nodePlace n + 2) y
 
-  apart : (j : ℕ) → j ≢ 1202 + 12 * n → j ≢ 1202 + 12 * n + 1 → j ≢ 1202 + 12 * n + 2 → getD n₃ j 0 ≡ getD m j 0
-  apart j a b c = getD-set-other n₂ (1202 + 12 * n + 2) j y 0 c ∙ getD-set-other n₁ (1202 + 12 * n + 1) j x 0 b ∙ getD-set-other m (1202 + 12 * n) j k 0 a
+  apart : (j : ℕ) → j ≢ nodePlace n → j ≢ nodePlace n + 1 → j ≢ nodePlace n + 2 → getD n₃ j 0 ≡ getD m j 0
+  apart j a b c = getD-set-other n₂ (nodePlace n + 2) j y 0 c ∙ getD-set-other n₁ (nodePlace n + 1) j x 0 b ∙ getD-set-other m (nodePlace n) j k 0 a
 
-  first : getD n₃ (1202 + 12 * n) 0 ≡ k
-  first = getD-set-other n₂ (1202 + 12 * n + 2) (1202 + 12 * n) y 0 (omega arith) ∙ getD-set-other n₁ (1202 + 12 * n + 1) (1202 + 12 * n) x 0 (omega arith) ∙ getD-set-same m (1202 + 12 * n) k 0 (omega (arith, h .words))
+  first : getD n₃ (nodePlace n) 0 ≡ k
+  first = getD-set-other n₂ (nodePlace n + 2) (nodePlace n) y 0 (omega arith) ∙ getD-set-other n₁ (nodePlace n + 1) (nodePlace n) x 0 (omega arith)
+      ∙ getD-set-same m (nodePlace n) k 0 (omega (arith, h .words))
 
-  second : getD n₃ (1203 + 12 * n) 0 ≡ x
-  second = ap (λ (k : ℕ). getD n₃ k 0) {x = 1203 + 12 * n} {y = 1202 + 12 * n + 1} (omega arith) ∙ getD-set-other n₂ (1202 + 12 * n + 2) (1202 + 12 * n + 1) y 0 (omega arith) ∙ getD-set-same n₁ (1202 + 12 * n + 1) x 0 (simp length-set (omega (arith, h .words)))
+  second : getD n₃ (nodeLeft n) 0 ≡ x
+  second = ap (λ (k : ℕ). getD n₃ k 0) {x = nodeLeft n} {y = nodePlace n + 1} (omega arith) ∙ getD-set-other n₂ (nodePlace n + 2) (nodePlace n + 1) y 0 (omega arith)
+      ∙ getD-set-same n₁ (nodePlace n + 1) x 0 (simp length-set (omega (arith, h .words)))
 
-  third : getD n₃ (1204 + 12 * n) 0 ≡ y
-  third = ap (λ (k : ℕ). getD n₃ k 0) {x = 1204 + 12 * n} {y = 1202 + 12 * n + 2} (omega arith) ∙ getD-set-same n₂ (1202 + 12 * n + 2) y 0 (simp length-set (omega (arith, h .words)))
+  third : getD n₃ (nodeRight n) 0 ≡ y
+  third = ap (λ (k : ℕ). getD n₃ k 0) {x = nodeRight n} {y = nodePlace n + 2} (omega arith) ∙ getD-set-same n₂ (nodePlace n + 2) y 0 (simp length-set (omega (arith, h .words)))
 
   pub noded : Noded m n₃ n (nodeAs k x y)
   noded = record {

@@ -1,7 +1,7 @@
 -- What the functions of the machine promise: which words they may change, and what the memory stands for afterwards.
 use mathlib.Core.Path.{_≡_}
 use mathlib.Core.Bool.{Bool}
-use mathlib.Core.List.{List, [], _∷_, _++_, map}
+use mathlib.Core.List.{List, [], _++_, map}
 use Prim.Native.Nat.{ℕ, zero, suc, _+_, _-_, _*_, _<_, _≤_}
 use lib.ListN.{getD, length, replicate}
 use lib.IntN.{ℤ, pos}
@@ -18,10 +18,10 @@ use Rattle.simulation.specs.Nodes as nodes
 use Rattle.simulation.specs.Nodes.{Node, unknown, operation, meaning, Within, working}
 use Rattle.simulation.specs.Words.{codeIn}
 use Rattle.ints.specs.Numbers.{comparison}
+use Rattle.machine.specs.Layout.{frameCells, frameWords, framePlace, variablePlace, cellPlace, callerBase, windowsPlace, tablesPlace, tempPlace, nodePlace, nodeEnd, rangeLow, indexEnd, wordsFor}
 use Rattle.machine.specs.Memory.{Sym, cellAt, nodeAt, nodesIn, cells, temps, frameAt, callers, machineAt}
 use Rattle.machine.specs.declared.Value.{Value}
 use Rattle.machine.specs.declared.Value.the-variants.{Known, Open}
-use Rattle.machine.specs.declared.Cell as code
 use Rattle.machine.specs.declared.Run.{Run}
 use Rattle.machine.specs.declared.Did.{Did}
 use Rattle.machine.specs.declared.Did.the-variants.{Silent, Step, Free, Test, Returned, Failed, Cut}
@@ -46,13 +46,13 @@ meant m n v = meaning (nodesIn m n) (cellOf v)
 
 -- the tables have room for n entries, and the place of each fits into a word
 pub record Room (m : List ℕ) (n : ℕ) : Type 0 where
-  pub words : 1200 + 12 * n ≤ length m
+  pub words : wordsFor n ≤ length m
   pub small : n < 4294967296
 
 -- the temporaries of d callers lie one after another, the first one's at 0, and end at b
 abbrev pub Stacked : List ℕ → ℕ → ℕ → Type 0
 Stacked m zero b = b ≡ 0
-Stacked m (suc d) b = (getD m (1057 + 2 * d) 0 ≤ b) × Stacked m d (getD m (1057 + 2 * d) 0)
+Stacked m (suc d) b = (getD m (callerBase d) 0 ≤ b) × Stacked m d (getD m (callerBase d) 0)
 
 -- a memory that holds a machine: at most 32 calls nest, the tables have room for its temporaries and nodes, and each of its cells that is open is one of its nodes
 pub record Ready (m : List ℕ) (r : Run) : Type 0 where
@@ -61,8 +61,8 @@ pub record Ready (m : List ℕ) (r : Run) : Type 0 where
   pub tops : Room m (r .top)
   pub few : Room m (r .nodes)
   pub stack : Stacked m (r .depth) (r .base)
-  pub framed : (i : ℕ) → i < 16 * r .depth + 16 → Within (r .nodes) (cellAt m (2 * i))
-  pub held : (i : ℕ) → i < r .top → Within (r .nodes) (cellAt m (1200 + 12 * i))
+  pub framed : (i : ℕ) → i < frameCells * r .depth + frameCells → Within (r .nodes) (cellAt m (cellPlace i))
+  pub held : (i : ℕ) → i < r .top → Within (r .nodes) (cellAt m (tempPlace i))
 
 -- ---- which words may change
 
@@ -72,11 +72,16 @@ pub record Other (m m′ : List ℕ) (i j : ℕ) : Type 0 where
 
 -- windows, setting, ranges, numbers, tests and outcomes stay, and so do the first n nodes
 pub record Kept (m m′ : List ℕ) (n : ℕ) : Type 0 where
-  pub fixed : (k : ℕ) → 1120 ≤ k → k < 1200 → getD m′ k 0 ≡ getD m k 0
-  pub tables : (k j : ℕ) → 1205 + 12 * j ≤ k → k < 1212 + 12 * j → getD m′ k 0 ≡ getD m k 0
-  pub noded : (k j : ℕ) → j < n → 1202 + 12 * j ≤ k → k < 1205 + 12 * j → getD m′ k 0 ≡ getD m k 0
+  pub fixed : (k : ℕ) → windowsPlace ≤ k → k < tablesPlace → getD m′ k 0 ≡ getD m k 0
+  pub tables : (k j : ℕ) → rangeLow j ≤ k → k < indexEnd j → getD m′ k 0 ≡ getD m k 0
+  pub noded : (k j : ℕ) → j < n → nodePlace j ≤ k → k < nodeEnd j → getD m′ k 0 ≡ getD m k 0
 
 -- ---- cells and nodes
+
+-- the cell at word i is a value
+pub record Holds (m : List ℕ) (i : ℕ) (v : Value) : Type 0 where
+  pub is : cellOf v ≡ cellAt m i
+  pub sized : Sized v
 
 -- a cell was written
 pub record Put (m m′ : List ℕ) (i : ℕ) (v : nodes.Cell) : Type 0 where
@@ -85,12 +90,12 @@ pub record Put (m m′ : List ℕ) (i : ℕ) (v : nodes.Cell) : Type 0 where
 
 -- a node was added to n others
 pub record Noded (m m′ : List ℕ) (n : ℕ) (x : Node) : Type 0 where
-  pub other : Other m m′ (1202 + 12 * n) (1205 + 12 * n)
+  pub other : Other m m′ (nodePlace n) (nodeEnd n)
   pub node : nodeAt m′ n ≡ x
 
 -- an operation was worked with n nodes, for which a node may have been added; then there are n′
 pub record Worked (m m′ : List ℕ) (n : ℕ) (o : Op) (v w : Value) (u : Value) (n′ : ℕ) : Type 0 where
-  pub other : Other m m′ (1202 + 12 * n) (1205 + 12 * n)
+  pub other : Other m m′ (nodePlace n) (nodeEnd n)
   pub nodes : nodesIn m′ n′ ≡ working o (cellOf v) (cellOf w) (nodesIn m n) .nodes
   pub is : cellOf u ≡ working o (cellOf v) (cellOf w) (nodesIn m n) .cell
   pub more : n ≤ n′
@@ -110,7 +115,8 @@ Reads f = (z : ℤ) → f (nodes.Known z) ≡ known z
 
 -- the newest temporary was taken
 pub record Popped (m : List ℕ) (r : Run) (v : Value) (top : ℕ) : Type 0 where
-  pub is : (f : nodes.Cell → Sym) → Reads f → popped known search.work (codeIn [] 0) (temps f m (r .base) (r .top - r .base)) ≡ record { value = f (cellOf v); rest = temps f m (r .base) (top - r .base) }
+  pub is : (f : nodes.Cell → Sym) → Reads f → popped known search.work (codeIn [] 0) (temps f m (r .base) (r .top - r .base))
+      ≡ record { value = f (cellOf v); rest = temps f m (r .base) (top - r .base) }
   pub low : r .base ≤ top
   pub high : top ≤ r .top
   pub sized : Sized v
@@ -118,7 +124,8 @@ pub record Popped (m : List ℕ) (r : Run) (v : Value) (top : ℕ) : Type 0 wher
 
 -- the operand before entry j was taken
 pub record Taking (c : Code) (m : List ℕ) (r : Run) (j : ℕ) (v : Value) (top : ℕ) : Type 0 where
-  pub is : (f : nodes.Cell → Sym) → Reads f → taken known search.work c (frameAt f m (r .depth)) (temps f m (r .base) (r .top - r .base)) j ≡ record { value = f (cellOf v); rest = temps f m (r .base) (top - r .base) }
+  pub is : (f : nodes.Cell → Sym) → Reads f → taken known search.work c (frameAt f m (r .depth)) (temps f m (r .base) (r .top - r .base)) j
+      ≡ record { value = f (cellOf v); rest = temps f m (r .base) (top - r .base) }
   pub low : r .base ≤ top
   pub high : top ≤ r .top
   pub sized : Sized v
@@ -127,7 +134,8 @@ pub record Taking (c : Code) (m : List ℕ) (r : Run) (j : ℕ) (v : Value) (top
 -- two operands were taken
 pub record Paired (c : Code) (m : List ℕ) (r : Run) (d : ℕ) (x y : Value) (top : ℕ) : Type 0 where
   pub is : (f : nodes.Cell → Sym) → Reads f
-      → two known search.work c (frameAt f m (r .depth)) (temps f m (r .base) (r .top - r .base)) (r .pc) d ≡ record { first = f (cellOf x); second = f (cellOf y); rest = temps f m (r .base) (top - r .base) }
+      → two known search.work c (frameAt f m (r .depth)) (temps f m (r .base) (r .top - r .base)) (r .pc) d
+      ≡ record { first = f (cellOf x); second = f (cellOf y); rest = temps f m (r .base) (top - r .base) }
   pub low : r .base ≤ top
   pub high : top ≤ r .top
   pub left-sized : Sized x
@@ -139,7 +147,7 @@ pub record Paired (c : Code) (m : List ℕ) (r : Run) (d : ℕ) (x y : Value) (t
 
 -- n cells were made 0, from word i on; the next ones of a frame may have changed too
 pub record Blank (m m′ : List ℕ) (i n : ℕ) : Type 0 where
-  pub other : Other m m′ i (i + 32)
+  pub other : Other m m′ i (i + frameWords)
   pub cell : (k : ℕ) → k < n → cellAt m′ (i + 2 * k) ≡ nodes.Known (pos 0)
 
 abbrev pub topped : Run → ℕ → Run
@@ -151,11 +159,11 @@ pub record Gathering (c : Code) (m m′ : List ℕ) (r : Run) (n k j top : ℕ) 
   pub is : (f : nodes.Cell → Sym) → Reads f
       → gather known search.work c (frameAt f m (r .depth)) (temps f m (r .base) (r .top - r .base)) n (r .pc) []
       ≡ gather known search.work c (frameAt f m′ (r .depth)) (temps f m′ (r .base) (top - r .base)) k j (map f values)
-  pub framed : (f : nodes.Cell → Sym) → Reads f → frame (known (pos 0)) 16 (replicate k (known (pos 0)) ++ map f values) ≡ cells f m′ (32 * (r .depth + 1)) 16
+  pub framed : (f : nodes.Cell → Sym) → Reads f → frame (known (pos 0)) 16 (replicate k (known (pos 0)) ++ map f values) ≡ cells f m′ (framePlace (r .depth + 1)) frameCells
   pub ready : Ready m′ (topped r top)
   pub high : top ≤ r .top
-  pub other : Other m m′ (32 * (r .depth + 1)) (32 * (r .depth + 1) + 32)
-  pub within : (i : ℕ) → i < 16 → Within (r .nodes) (cellAt m′ (32 * (r .depth + 1) + 2 * i))
+  pub other : Other m m′ (framePlace (r .depth + 1)) (framePlace (r .depth + 1) + frameWords)
+  pub within : (i : ℕ) → i < 16 → Within (r .nodes) (cellAt m′ (variablePlace (r .depth + 1) i))
 
 -- ---- what an entry did
 

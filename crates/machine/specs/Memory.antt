@@ -1,14 +1,7 @@
--- What the words of the lent memory stand for.
---   0 to 1055        33 frames of 16 cells, two words a cell
---   1056 to 1119     the callers, two words each: where they go on, and where their temporaries begin
---   1120 to 1135     the eight windows, low and high
---   1136 to 1143     the eight numbers of the present setting
---   1200 and on      tables that grow, twelve words for each index k, from 1200 + 12 * k on:
---                    0, 1 temporary k; 2, 3, 4 node k; 5, 6 its range; 7 its number under the present setting; 8, 9, 10 test k; 11 outcome k
--- No table has more entries than steps were made, so that a memory of 1200 + 12 * n words is enough for n steps.
+-- What the words of the lent memory stand for; where they stand is said in Layout.
 use mathlib.Core.Bool.{Bool, true, false}
 use mathlib.Core.List.{List, [], _∷_, _++_}
-use Prim.Native.Nat.{ℕ, zero, suc, _+_, _-_, _*_, _/_, _%_}
+use Prim.Native.Nat.{ℕ, zero, suc, _+_, _-_}
 use lib.ListN.{getD, take}
 use lib.IntN.{ℤ}
 use mir.Syntax.{w32}
@@ -21,6 +14,8 @@ use Rattle.simulation.specs.Nodes.{Cell, Known, Open, Node, unknown, operation,
 use Rattle.ints.specs.Numbers as numbers
 use Rattle.intervals.specs.Meaning.{ofPairs}
 use Rattle.window_memory.specs.Memory.{pairsAt}
+use Rattle.machine.specs.Kinds.{nodeOp, leftOpen, rightOpen, testCompare, testLeftOpen, testRightOpen}
+use Rattle.machine.specs.Layout.{frameCells, framePlace, callerPlace, callerBase, windowsPlace, valuePlace, tempPlace, nodePlace, nodeLeft, nodeRight, rangeLow, rangeHigh, numberPlace, testPlace, testLeft, testRight, outcomePlace}
 use Rattle.machine.specs.declared.Run.{Run}
 
 -- a value of the program, as the search knows it
@@ -40,16 +35,16 @@ cellAt m i = cellAs (getD m i 0) (getD m (i + 1) 0)
 
 -- ---- nodes
 
--- a node's three words: its kind, and the second words of its two cells. The kind is 0 for a free variable, whose number is the second word; else 1, 2 or 3 for an operation, and to this 4 is added where the first cell is open, and 8 where the second is
+-- a node's three words: its kind, and the second words of its two cells; a free variable's number is the second word
 abbrev pub nodeBy : ℕ → ℕ → Cell → Cell → Node
 nodeBy zero x a b = unknown x
 nodeBy (suc n) x a b = operation (numbers.operation n) a b
 
 abbrev pub nodeAs : ℕ → ℕ → ℕ → Node
-nodeAs k x y = nodeBy (k % 4) x (cellAs (k / 4 % 2) x) (cellAs (k / 8) y)
+nodeAs k x y = nodeBy (nodeOp k) x (cellAs (leftOpen k) x) (cellAs (rightOpen k) y)
 
 abbrev pub nodeAt : List ℕ → ℕ → Node
-nodeAt m j = nodeAs (getD m (1202 + 12 * j) 0) (getD m (1203 + 12 * j) 0) (getD m (1204 + 12 * j) 0)
+nodeAt m j = nodeAs (getD m (nodePlace j) 0) (getD m (nodeLeft j) 0) (getD m (nodeRight j) 0)
 
 -- the first n nodes
 unfoldable pub nodesIn : List ℕ → ℕ → List Node
@@ -67,16 +62,16 @@ module _ {X : Type 0} (f : Cell → X) (m : List ℕ) where
   -- n temporaries from place i on, the last one first
   unfoldable pub temps : ℕ → ℕ → List X
   temps i zero = []
-  temps i (suc n) = f (cellAt m (1200 + 12 * (i + n))) ∷ temps i n
+  temps i (suc n) = f (cellAt m (tempPlace (i + n))) ∷ temps i n
 
   -- the frame of the function that d others wait for
   abbrev pub frameAt : ℕ → List X
-  frameAt d = cells (32 * d) 16
+  frameAt d = cells (framePlace d) frameCells
 
   -- d callers, the newest first; the newest one's temporaries end at top
   unfoldable pub callers : ℕ → ℕ → List (Caller X)
   callers zero top = []
-  callers (suc d) top = let b = getD m (1057 + 2 * d) 0 in record { pc = getD m (1056 + 2 * d) 0; temps = temps b (top - b); frame = frameAt d } ∷ callers d b
+  callers (suc d) top = let b = getD m (callerBase d) 0 in record { pc = getD m (callerPlace d) 0; temps = temps b (top - b); frame = frameAt d } ∷ callers d b
 
   abbrev pub machineIn : Run → Machine X
   machineIn r = machine (r .pc) (r .flag) (temps (r .base) (r .top - r .base)) (frameAt (r .depth)) (callers (r .depth) (r .base)) (32 - r .depth)
@@ -89,32 +84,32 @@ machineAt m r = machineIn (meaning (nodesIn m (r .nodes))) m r
 
 -- the first n windows, and the first n numbers of the setting
 abbrev pub windowsIn : List ℕ → ℕ → List Window
-windowsIn m n = take n (ofPairs (pairsAt m 1120 8))
+windowsIn m n = take n (ofPairs (pairsAt m windowsPlace 8))
 
 unfoldable pub settingIn : List ℕ → ℕ → List ℤ
 settingIn m zero = []
-settingIn m (suc n) = settingIn m n ++ toZ w32 (getD m (1136 + n) 0) ∷ []
+settingIn m (suc n) = settingIn m n ++ toZ w32 (getD m (valuePlace n) 0) ∷ []
 
 -- the ranges of the first n nodes, and their numbers under the setting
 unfoldable pub rangesIn : List ℕ → ℕ → List Window
 rangesIn m zero = []
-rangesIn m (suc n) = rangesIn m n ++ to (toZ w32 (getD m (1205 + 12 * n) 0)) (toZ w32 (getD m (1206 + 12 * n) 0)) ∷ []
+rangesIn m (suc n) = rangesIn m n ++ to (toZ w32 (getD m (rangeLow n) 0)) (toZ w32 (getD m (rangeHigh n) 0)) ∷ []
 
 unfoldable pub numbersIn : List ℕ → ℕ → List ℤ
 numbersIn m zero = []
-numbersIn m (suc n) = numbersIn m n ++ toZ w32 (getD m (1207 + 12 * n) 0) ∷ []
+numbersIn m (suc n) = numbersIn m n ++ toZ w32 (getD m (numberPlace n) 0) ∷ []
 
--- a test's three words: its kind, and the second words of its two cells. The kind is the comparison's number, and to this 8 is added where the first cell is open, and 16 where the second is
+-- a test's three words: its kind, and the second words of its two cells
 abbrev pub testAs : ℕ → ℕ → ℕ → Noted
-testAs k x y = record { compare = numbers.comparison (k % 8); left = cellAs (k / 8 % 2) x; right = cellAs (k / 16) y }
+testAs k x y = record { compare = numbers.comparison (testCompare k); left = cellAs (testLeftOpen k) x; right = cellAs (testRightOpen k) y }
 
 abbrev pub testAt : List ℕ → ℕ → Noted
-testAt m t = testAs (getD m (1208 + 12 * t) 0) (getD m (1209 + 12 * t) 0) (getD m (1210 + 12 * t) 0)
+testAt m t = testAs (getD m (testPlace t) 0) (getD m (testLeft t) 0) (getD m (testRight t) 0)
 
 -- the first n tests, the newest first
 unfoldable pub testsIn : List ℕ → ℕ → List Noted
 testsIn m zero = []
-testsIn m (suc n) = testAs (getD m (1208 + 12 * n) 0) (getD m (1209 + 12 * n) 0) (getD m (1210 + 12 * n) 0) ∷ testsIn m n
+testsIn m (suc n) = testAs (getD m (testPlace n) 0) (getD m (testLeft n) 0) (getD m (testRight n) 0) ∷ testsIn m n
 
 abbrev pub outcomeAs : ℕ → Bool
 outcomeAs zero = false
@@ -123,4 +118,4 @@ outcomeAs (suc n) = true
 -- the outcomes of n choices from choice i on, the oldest first
 unfoldable pub outcomesIn : List ℕ → ℕ → ℕ → List Bool
 outcomesIn m i zero = []
-outcomesIn m i (suc n) = outcomeAs (getD m (1211 + 12 * i) 0) ∷ outcomesIn m (suc i) n
+outcomesIn m i (suc n) = outcomeAs (getD m (outcomePlace i) 0) ∷ outcomesIn m (suc i) n

@@ -9,8 +9,14 @@ ghost use Rattle.simulation.specs.Machine.{Doing, extent as extentS, landing as
 ghost use Rattle.simulation.specs.Code.{operate as operateS, store as storeS, return as returnS, fail as failS, call as callS, act};
 ghost use Rattle.simulation.specs.Words.{codeIn};
 ghost use Rattle.ints.specs.Numbers.{operation};
-ghost use Rattle.machine.specs.Memory.{cellAt, nodeAs, machineAt};
-ghost use Rattle.machine.specs.Contracts.{cellOf, Sized, Room, Ready, Put, Noded, Worked, Popped, Taking, Paired, Blank, Gathering, Goes, acts, storing, Asked, moved as movedS, flagged as flaggedS, Done, Started};
+ghost use Rattle.machine.specs.Layout.{frameCells, frameWords, variablePlace, tablesPlace};
+ghost use Rattle.machine.specs.Memory.{nodeAs, machineAt};
+ghost use Rattle.machine.specs.Contracts.{cellOf, Sized, Room, Ready, Holds, Put, Noded, Worked, Popped, Taking, Paired, Blank, Gathering, Goes, acts, storing, Asked, moved as movedS, flagged as flaggedS, Done, Started};
+use code::Address;
+use code::entry;
+
+pub mod kinds;
+pub mod layout;
 
 // "A value is known, or open with the expression it stands for": a number, or the place of a node.
 pub enum Value {
@@ -22,9 +28,6 @@ pub enum Value {
 pub struct Cell {
     pub value: Value,
 }
-
-// "An address names a variable and is never itself a value": a variable's place in its frame.
-pub struct Address(pub usize);
 
 // The machine's state, beside the memory: the entry to be worked next, the flag, where the temporaries of the function that runs begin and end, how many functions wait for it, and how many nodes there are.
 pub struct Run {
@@ -69,7 +72,7 @@ pub struct Both {
 // The cell at a word.
 fn load(mem: &[u32], at: usize) -> Cell
     requires { ⌜ at + 1 < length (now mem) ⌝ }
-    ensures { λ r. ⌜ (cellOf (r .value) ≡ cellAt (now (mem .entry)) at) × Sized (r .value) ⌝ }
+    ensures { λ r. ⌜ Holds (now (mem .entry)) at (r .value) ⌝ }
 {
     if mem[at] == 0 {
         Cell {
@@ -105,7 +108,7 @@ fn node(mem: &mut [u32], nodes: usize, k: u32, x: u32, y: u32)
     requires { ⌜ Room (now mem) (nodes + 1) ⌝ }
     ensures { λ _. ⌜ Noded (now (mem .entry)) (now (mem .exit)) nodes (nodeAs k x y) ⌝ }
 {
-    let at = 1202 + 12 * nodes;
+    let at = layout::NODES + layout::STRIDE * nodes;
     mem[at] = k;
     mem[at + 1] = x;
     mem[at + 2] = y;
@@ -123,7 +126,7 @@ fn work(mem: &mut [u32], nodes: usize, op: u32, v: Value, w: Value) -> Made
                 nodes: nodes,
             },
             Value::Open(j) => {
-                node(mem, nodes, op + 9, ints::word(a), j as u32);
+                node(mem, nodes, op + kinds::KNOWN_OPEN, ints::word(a), j as u32);
                 Made {
                     value: Value::Open(nodes),
                     nodes: nodes + 1,
@@ -132,14 +135,14 @@ fn work(mem: &mut [u32], nodes: usize, op: u32, v: Value, w: Value) -> Made
         },
         Value::Open(i) => match w {
             Value::Known(b) => {
-                node(mem, nodes, op + 5, i as u32, ints::word(b));
+                node(mem, nodes, op + kinds::OPEN_KNOWN, i as u32, ints::word(b));
                 Made {
                     value: Value::Open(nodes),
                     nodes: nodes + 1,
                 }
             }
             Value::Open(j) => {
-                node(mem, nodes, op + 13, i as u32, j as u32);
+                node(mem, nodes, op + kinds::OPEN_OPEN, i as u32, j as u32);
                 Made {
                     value: Value::Open(nodes),
                     nodes: nodes + 1,
@@ -160,12 +163,21 @@ fn pop(mem: &[u32], run: Run) -> Took
             top: run.top,
         };
     }
-    let c = load(mem, 1200 + 12 * (run.top - 1));
+    let c = load(mem, layout::TEMPORARIES + layout::STRIDE * (run.top - 1));
     let v = c.value;
     Took {
         value: v,
         top: run.top - 1,
     }
+}
+
+// What a variable of the function that runs holds.
+fn variable(mem: &[u32], run: Run, a: Address) -> Value
+    requires { ⌜ Ready (now mem) run × (a .0 < frameCells) ⌝ }
+    ensures { λ r. ⌜ Holds (now (mem .entry)) (variablePlace (run .depth) (a .0)) r ⌝ }
+{
+    let c = load(mem, layout::FRAME * run.depth + layout::CELL * a.0);
+    c.value
 }
 
 // The operand that ends just before entry j.
@@ -181,28 +193,20 @@ fn take(code: &[u32], size: usize, mem: &[u32], run: Run, j: usize) -> Took
     }
     let k = code[2 * (j - 1)];
     let w = code[2 * (j - 1) + 1];
-    if k == 1 {
+    if k == entry::NUMBER {
         return Took {
             value: Value::Known(ints::signed(w)),
             top: run.top,
         };
     }
-    if k == 2 {
-        let c = load(mem, 32 * run.depth + 2 * (w as usize % 16));
-        let v = c.value;
+    if k == entry::NAME {
+        let v = variable(mem, run, Address(w as usize % layout::CELLS));
         return Took {
             value: v,
             top: run.top,
         };
     }
     pop(mem, run)
-}
-
-// a - b, or 0.
-fn less(a: usize, b: usize) -> usize
-    ensures { λ r. ⌜ r ≡ a - b ⌝ }
-{
-    if a < b { 0 } else { a - b }
 }
 
 // The two operands of the next entry, the right one of which has d entries.
@@ -219,7 +223,7 @@ fn pair(code: &[u32], size: usize, mem: &[u32], run: Run, d: usize) -> Both
         depth: run.depth,
         nodes: run.nodes,
     };
-    let a = take(code, size, mem, rest, less(run.pc, d));
+    let a = take(code, size, mem, rest, ints::monus(run.pc, d));
     let x = a.value;
     let y = b.value;
     Both {
@@ -239,7 +243,11 @@ fn operate(code: &[u32], size: usize, mem: &mut [u32], run: Run, op: u32, d: usi
     let y = p.right;
     let made = work(mem, run.nodes, op, x, y);
     let v = made.value;
-    put(mem, 1200 + 12 * p.top, Cell { value: v });
+    put(
+        mem,
+        layout::TEMPORARIES + layout::STRIDE * p.top,
+        Cell { value: v },
+    );
     Run {
         pc: run.pc + 1,
         flag: run.flag,
@@ -252,12 +260,16 @@ fn operate(code: &[u32], size: usize, mem: &mut [u32], run: Run, op: u32, d: usi
 
 // An assignment.
 fn store(code: &[u32], size: usize, mem: &mut [u32], run: Run, a: Address) -> Run
-    requires { ⌜ (2 * size ≤ length (now code)) × Ready (now mem) run × (a .0 < 16) × (run .pc < size) ⌝ }
+    requires { ⌜ (2 * size ≤ length (now code)) × Ready (now mem) run × (a .0 < frameCells) × (run .pc < size) ⌝ }
     ensures { λ r. ⌜ Goes Doing.silent 0 (acts (codeIn (now (code .entry)) size) (now (mem .entry)) run (storeS (slot (a .0)))) (now (mem .entry)) (run .nodes) (now (mem .exit)) r ⌝ }
 {
     let t = take(code, size, mem, run, run.pc);
     let v = t.value;
-    put(mem, 32 * run.depth + 2 * a.0, Cell { value: v });
+    put(
+        mem,
+        layout::FRAME * run.depth + layout::CELL * a.0,
+        Cell { value: v },
+    );
     Run {
         pc: run.pc + 1,
         flag: run.flag,
@@ -270,12 +282,12 @@ fn store(code: &[u32], size: usize, mem: &mut [u32], run: Run, a: Address) -> Ru
 
 // A declaration: the variable is 0.
 fn clear(mem: &mut [u32], run: Run, a: Address) -> Run
-    requires { ⌜ Ready (now mem) run × (a .0 < 16) × (run .pc < 65536) ⌝ }
+    requires { ⌜ Ready (now mem) run × (a .0 < frameCells) × (run .pc < 65536) ⌝ }
     ensures { λ r. ⌜ Goes (λ x. x) 0 (storing (now (mem .entry)) run (a .0) (known (pos 0))) (now (mem .entry)) (run .nodes) (now (mem .exit)) r ⌝ }
 {
     put(
         mem,
-        32 * run.depth + 2 * a.0,
+        layout::FRAME * run.depth + layout::CELL * a.0,
         Cell {
             value: Value::Known(0),
         },
@@ -292,13 +304,13 @@ fn clear(mem: &mut [u32], run: Run, a: Address) -> Run
 
 // A free declaration: the variable is the unknown k.
 fn ask(mem: &mut [u32], run: Run, a: Address, k: u32) -> Run
-    requires { ⌜ Ready (now mem) run × (a .0 < 16) × (run .pc < 65536) × Room (now mem) (run .nodes + 1) ⌝ }
+    requires { ⌜ Ready (now mem) run × (a .0 < frameCells) × (run .pc < 65536) × Room (now mem) (run .nodes + 1) ⌝ }
     ensures { λ r. ⌜ Asked (storing (now (mem .entry)) run (a .0)) (now (mem .entry)) (run .nodes) (now (mem .exit)) k r ⌝ }
 {
-    node(mem, run.nodes, 0, k, 0);
+    node(mem, run.nodes, kinds::FREE, k, 0);
     put(
         mem,
-        32 * run.depth + 2 * a.0,
+        layout::FRAME * run.depth + layout::CELL * a.0,
         Cell {
             value: Value::Open(run.nodes),
         },
@@ -321,9 +333,13 @@ fn leave(code: &[u32], size: usize, mem: &mut [u32], run: Run) -> Run
     let t = take(code, size, mem, run, run.pc);
     let v = t.value;
     let d = run.depth - 1;
-    let pc = mem[1056 + 2 * d] as usize;
-    let base = mem[1057 + 2 * d] as usize;
-    put(mem, 1200 + 12 * run.base, Cell { value: v });
+    let pc = mem[layout::CALLERS + layout::CALLER * d] as usize;
+    let base = mem[layout::CALLER_BASES + layout::CALLER * d] as usize;
+    put(
+        mem,
+        layout::TEMPORARIES + layout::STRIDE * run.base,
+        Cell { value: v },
+    );
     Run {
         pc: pc,
         flag: run.flag,
@@ -336,14 +352,14 @@ fn leave(code: &[u32], size: usize, mem: &mut [u32], run: Run) -> Run
 
 // Sixteen cells that are 0.
 fn blank(mem: &mut [u32], at: usize)
-    requires { ⌜ at + 32 ≤ length (now mem) ⌝ }
-    ensures { λ _. ⌜ Blank (now (mem .entry)) (now (mem .exit)) at 16 ⌝ }
+    requires { ⌜ at + frameWords ≤ length (now mem) ⌝ }
+    ensures { λ _. ⌜ Blank (now (mem .entry)) (now (mem .exit)) at frameCells ⌝ }
 {
     let mut i = 0;
-    while i < 16 {
+    while i < layout::CELLS {
         put(
             mem,
-            at + 2 * i,
+            at + layout::CELL * i,
             Cell {
                 value: Value::Known(0),
             },
@@ -358,7 +374,7 @@ fn extent(code: &[u32], size: usize, e: usize) -> usize
     ensures { λ r. ⌜ r ≡ extentS (getD (codeIn (now (code .entry)) size .entries) e (act failS)) ⌝ }
 {
     if e < size {
-        if code[2 * e] == 3 {
+        if code[2 * e] == entry::ARGUMENT {
             return code[2 * e + 1] as usize;
         }
     }
@@ -370,14 +386,14 @@ fn gather(code: &[u32], size: usize, mem: &mut [u32], run: Run, n: usize) -> usi
     requires { ⌜ (2 * size ≤ length (now code)) × Ready (now mem) run × (run .depth < 32) ⌝ }
     ensures { λ r. ⌜ Gathering (codeIn (now (code .entry)) size) (now (mem .entry)) (now (mem .exit)) run n 0 0 r ⌝ }
 {
-    let at = 32 * (run.depth + 1);
+    let at = layout::FRAME * (run.depth + 1);
     blank(mem, at);
     let mut k = n;
     let mut j = run.pc;
     let mut top = run.top;
     while 0 < k {
         k -= 1;
-        let e = less(j, 1);
+        let e = ints::monus(j, 1);
         let rest = Run {
             pc: run.pc,
             flag: run.flag,
@@ -388,11 +404,11 @@ fn gather(code: &[u32], size: usize, mem: &mut [u32], run: Run, n: usize) -> usi
         };
         let t = take(code, size, mem, rest, e);
         let d = extent(code, size, e);
-        j = less(e, d);
+        j = ints::monus(e, d);
         top = t.top;
-        if k < 16 {
+        if k < layout::CELLS {
             let v = t.value;
-            put(mem, at + 2 * k, Cell { value: v });
+            put(mem, at + layout::CELL * k, Cell { value: v });
         }
     }
     top
@@ -404,8 +420,8 @@ fn enter(code: &[u32], size: usize, mem: &mut [u32], run: Run, g: usize, n: usiz
     ensures { λ r. ⌜ Goes Doing.step 1 (acts (codeIn (now (code .entry)) size) (now (mem .entry)) run (callS g n)) (now (mem .entry)) (run .nodes) (now (mem .exit)) r ⌝ }
 {
     let top = gather(code, size, mem, run, n);
-    mem[1056 + 2 * run.depth] = (run.pc + 1) as u32;
-    mem[1057 + 2 * run.depth] = run.base as u32;
+    mem[layout::CALLERS + layout::CALLER * run.depth] = (run.pc + 1) as u32;
+    mem[layout::CALLER_BASES + layout::CALLER * run.depth] = run.base as u32;
     Run {
         pc: code[2 * size + g] as usize,
         flag: run.flag,
@@ -459,7 +475,7 @@ fn landing(run: Run, flag: bool, w: usize) -> usize
 
 // Where a path starts.
 pub fn start(mem: &mut [u32]) -> Run
-    requires { ⌜ 1200 ≤ length (now mem) ⌝ }
+    requires { ⌜ tablesPlace ≤ length (now mem) ⌝ }
     ensures { λ r. ⌜ Started (now (mem .entry)) (now (mem .exit)) r ⌝ }
 {
     blank(mem, 0);
@@ -484,9 +500,9 @@ pub fn advance(code: &[u32], size: usize, mem: &mut [u32], run: Run, k: u32) -> 
     let kind = code[2 * run.pc];
     let w = code[2 * run.pc + 1] as usize;
     match kind {
-        1..=3 => Did::Silent(moved(run, run.pc + 1)),
-        4..=6 => Did::Step(operate(code, size, mem, run, kind - 4, w)),
-        7..=12 => {
+        entry::NUMBER..=entry::ARGUMENT => Did::Silent(moved(run, run.pc + 1)),
+        entry::ADD..=entry::MUL => Did::Step(operate(code, size, mem, run, kind - entry::ADD, w)),
+        entry::COMPARE..=entry::COMPARE_LAST => {
             let p = pair(code, size, mem, run, w);
             let x = p.left;
             let y = p.right;
@@ -498,25 +514,32 @@ pub fn advance(code: &[u32], size: usize, mem: &mut [u32], run: Run, k: u32) -> 
                 depth: run.depth,
                 nodes: run.nodes,
             };
-            Did::Test(kind - 7, x, y, rest)
+            Did::Test(kind - entry::COMPARE, x, y, rest)
         }
-        13 => {
-            if run.depth == 32 {
+        entry::CALL => {
+            if run.depth == layout::DEPTH {
                 return Did::Cut;
             }
-            Did::Step(enter(code, size, mem, run, w % 16, w / 16))
+            Did::Step(enter(
+                code,
+                size,
+                mem,
+                run,
+                w % entry::FUNCTIONS,
+                w / entry::FUNCTIONS,
+            ))
         }
-        14 => Did::Silent(flagged(run, false)),
-        15 => Did::Silent(flagged(run, true)),
-        16 => Did::Silent(moved(run, landing(run, false, w))),
-        17 => Did::Silent(moved(run, landing(run, true, w))),
-        18 => Did::Silent(moved(run, run.pc + 1 + w)),
-        19 => Did::Step(moved(run, less(run.pc, w))),
-        20 => Did::Step(moved(run, run.pc + 1)),
-        21 => Did::Step(clear(mem, run, Address(w % 16))),
-        22 => Did::Free(ask(mem, run, Address(w % 16), k)),
-        23 => Did::Silent(store(code, size, mem, run, Address(w % 16))),
-        24 => {
+        entry::NEVER => Did::Silent(flagged(run, false)),
+        entry::ALWAYS => Did::Silent(flagged(run, true)),
+        entry::JUMP => Did::Silent(moved(run, landing(run, false, w))),
+        entry::JUMP_TRUE => Did::Silent(moved(run, landing(run, true, w))),
+        entry::SKIP => Did::Silent(moved(run, run.pc + 1 + w)),
+        entry::AGAIN => Did::Step(moved(run, ints::monus(run.pc, w))),
+        entry::BEGIN => Did::Step(moved(run, run.pc + 1)),
+        entry::CLEAR => Did::Step(clear(mem, run, Address(w % layout::CELLS))),
+        entry::ASK => Did::Free(ask(mem, run, Address(w % layout::CELLS), k)),
+        entry::STORE => Did::Silent(store(code, size, mem, run, Address(w % layout::CELLS))),
+        entry::RETURN => {
             if run.depth == 0 {
                 let t = take(code, size, mem, run, run.pc);
                 let v = t.value;

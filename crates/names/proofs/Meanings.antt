@@ -1,5 +1,5 @@
 -- Meanings, written one after the other, are what each token means at the end.
-use Prim.Native.Nat.{ℕ, zero, suc, _+_, _*_, _≤_, _<_}
+use Prim.Native.Nat.{ℕ, _+_, _≤_, _<_}
 use mathlib.Core.Path.{_≡_, refl, sym, ap, _∙_}
 use mathlib.Core.Bool.{Bool, true, false, not, cond}
 use mathlib.Core.List.{List, [], _∷_, _++_}
@@ -10,7 +10,7 @@ use lib.Seq.{getD-set-same, getD-set-other}
 use lib.Dec.{eqb}
 use borrow.Author.Tests.{eqb-true, eqb-false}
 use Rattle.events.specs.Event.{Event, function, parameter, thing, opens, closes, declares, uses, calls, ends}
-use Rattle.events.specs.Stored.{eventOf}
+use Rattle.events.specs.Stored.{eFunction, eParameter, eThing, eOpens, eDeclares, eUses, eCalls, eEnds, eventOf}
 use Rattle.text_rules.specs.Names.{Meaning, meant, meanings}
 use Rattle.scopes.specs.Memory.{tokenOf}
 use Rattle.names.specs.Steps.{noted, Named}
@@ -76,4 +76,4 @@ by-tests false false false false false false false false c x y = omega arith
 pub token-stored : (k x y : ℕ) → tokenOf (eventOf k x y) ≤ x
 unfolding eventOf
 token-stored k x y =
-    by-tests (eqb k 1) (eqb k 2) (eqb k 3) (eqb k 4) (eqb k 5) (eqb k 6) (eqb k 7) (eqb k 8) (not (eqb y 0)) x y
+    by-tests (eqb k eFunction) (eqb k eParameter) (eqb k eThing) (eqb k eOpens) (eqb k eDeclares) (eqb k eUses) (eqb k eCalls) (eqb k eEnds) (not (eqb y 0)) x y

@@ -3,21 +3,16 @@ use Prim.Native.Nat.{ℕ}
 use mathlib.Core.Path.{_≡_, refl, sym, ap, subst, _∙_}
 use mathlib.Core.Bool.{Bool}
 use mathlib.Core.List.{List, [], _∷_, _++_}
-use mathlib.Core.Option.{Option, none, some}
+use mathlib.Core.Option.{Option, none}
 use lib.ListN.{length, getD}
 use Rattle.events.specs.Event.{Event}
 use Rattle.text_rules.specs.Scan.{scan, on, lesser, least}
 use Rattle.text_rules.specs.Rules.{Head, heads}
 use Rattle.text_rules.specs.Names.{entered, nowhere, misnamed, uncalled, repeated, named, meanings}
 use Rattle.text_rules.specs.Answers.{leastWith}
-use Rattle.text_rules.proofs.Scans.{lesser-turn, with-append, with-none}
+use Rattle.text_rules.proofs.Scans.{lesser-with, with-append, with-none}
 use Rattle.names.specs.Steps.{wrong, Seen, Named}
 use Rattle.names.proofs.Meanings.{noted-meant, length-noted}
-
-lesser-with : (i : ℕ) (l : List ℕ) (p : Option ℕ) → lesser i (leastWith l p) ≡ leastWith l (lesser i p)
-unfolding leastWith
-lesser-with i [] p = refl
-lesser-with i (j ∷ l) p = lesser-turn i j (leastWith l p) ∙ ap (lesser j) (lesser-with i l p)
 
 with-swap : (a b : List ℕ) (p : Option ℕ) → leastWith a (leastWith b p) ≡ leastWith b (leastWith a p)
 unfolding leastWith

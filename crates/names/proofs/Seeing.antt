@@ -1,7 +1,6 @@
 -- What is seen at one name.
 use Prim.Native.Nat.{ℕ}
-use mathlib.Core.Path.{_≡_, refl, sym, subst}
-use mathlib.Core.Bool.{Bool, true}
+use mathlib.Core.Path.{_≡_, sym, subst}
 use mathlib.Core.List.{List, [], _∷_, _++_, append-nil}
 use mathlib.Core.Option.{Option, none, some}
 use lib.ListN.{set}
@@ -10,28 +9,24 @@ use Rattle.text_rules.specs.Answers.{leastWith}
 use Rattle.text_rules.specs.Names.{ifFound, unlessFound, Meaning, meaning, asFound}
 use Rattle.names.specs.Steps.{noted, Seen}
 
--- (what is said of what was found does not depend on how names are compared)
-abbrev same : ℕ → ℕ → Bool
-same i j = true
-
 module _ {o p : Option ℕ} (i : ℕ) {slots : List ℕ} where
   -- a declaration of a name that can't be seen, and of one that can
-  pub new : {n : ℕ} {slots′ : List ℕ} → none ≡ o → slots′ ≡ set slots i n → Seen (ifFound same o i) (meaning i n ∷ []) p slots p slots′
+  pub new : {n : ℕ} {slots′ : List ℕ} → none ≡ o → slots′ ≡ set slots i n → Seen (ifFound o i) (meaning i n ∷ []) p slots p slots′
   unfolding leastWith noted
   new e w = record { least = rw (sym e); written = w }
 
   pub again :
       {m n : ℕ} {q : Option ℕ} {slots′ : List ℕ} → some m ≡ o → slots′ ≡ set slots i n → q ≡ lesser i p
-      → Seen (ifFound same o i) (meaning i n ∷ []) p slots q slots′
+      → Seen (ifFound o i) (meaning i n ∷ []) p slots q slots′
   unfolding leastWith noted
   again e w l = record { least = rw (sym e) l; written = w }
 
   -- a name that means nothing, and one that means n
-  pub unknown : {q : Option ℕ} → none ≡ o → q ≡ lesser i p → Seen (unlessFound same o i) (asFound o i) p slots q slots
+  pub unknown : {q : Option ℕ} → none ≡ o → q ≡ lesser i p → Seen (unlessFound o i) (asFound o i) p slots q slots
   unfolding leastWith noted
   unknown e l = record { least = rw (sym e) l; written = rw (sym e) }
 
-  pub known : {n : ℕ} {slots′ : List ℕ} → some n ≡ o → slots′ ≡ set slots i n → Seen (unlessFound same o i) (asFound o i) p slots p slots′
+  pub known : {n : ℕ} {slots′ : List ℕ} → some n ≡ o → slots′ ≡ set slots i n → Seen (unlessFound o i) (asFound o i) p slots p slots′
   unfolding leastWith noted
   known e w = record { least = rw (sym e); written = rw (sym e) w }
 
@@ -45,10 +40,10 @@ nothing e f = record { least = rw e; written = rw f }
 
 -- the name of a function that no earlier one has, and of one that an earlier one has
 module _ {o : Option ℕ} (i : ℕ) (p : Option ℕ) where
-  pub first-one : none ≡ o → p ≡ leastWith (ifFound same o i) p
+  pub first-one : none ≡ o → p ≡ leastWith (ifFound o i) p
   unfolding leastWith
   first-one e = rw (sym e)
 
-  pub one-more : {m : ℕ} {q : Option ℕ} → some m ≡ o → q ≡ lesser i p → q ≡ leastWith (ifFound same o i) p
+  pub one-more : {m : ℕ} {q : Option ℕ} → some m ≡ o → q ≡ lesser i p → q ≡ leastWith (ifFound o i) p
   unfolding leastWith
   one-more e l = rw (sym e) l

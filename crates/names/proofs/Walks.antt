@@ -3,22 +3,22 @@ use Prim.Native.Nat.{ℕ, zero, suc, _+_, _-_, _*_, _^_, _≤_, _<_}
 use mathlib.Core.Path.{_≡_, refl, sym, ap, _∙_}
 use mathlib.Core.Bool.{Bool}
 use mathlib.Core.List.{List, [], _∷_, _++_}
-use mathlib.Core.Option.{Option, none, some}
+use mathlib.Core.Option.{Option, none}
 use native.Mathlib.Omega.{arith}
 use native.Mathlib.Numerals.{add-one}
 use lib.ListN.{length, getD}
 use Rattle.events.specs.Event.{Event, function, parameter, thing, opens, closes, declares, uses, calls, ends}
 use Rattle.events.specs.Stored as E
-use Rattle.events.specs.Stored.{stored}
+use Rattle.events.specs.Stored.{eventMore, eventToken, eventWords, eventAt, stored}
 use Rattle.text_rules.specs.Scan as C
 use Rattle.text_rules.specs.Scan.{scan}
 use Rattle.text_rules.specs.Rules.{Head, functionOf, heads}
 use Rattle.text_rules.specs.Names as N
 use Rattle.text_rules.specs.Names.{entered, nowhere, named, ifFound, repeated}
-use Rattle.text_rules.specs.Answers.{leastWith, headsFrom, storedHeads}
-use Rattle.text_rules.proofs.Scans.{ahead, ahead-start, ahead-turn, ahead-end, eventAt, rest, rest-more, rest-none, rest-all, with-append, with-none}
-use Rattle.text_rules.proofs.Functions.{headAt, left, left-more, left-none, left-all, length-heads}
-use Rattle.scopes.specs.Memory.{blocksOf, Ordered, Room, Moved, scopeOf, tokenOf}
+use Rattle.text_rules.specs.Answers.{headWords, headAt, leastWith, headsFrom, storedHeads}
+use Rattle.text_rules.proofs.Scans.{ahead, ahead-start, ahead-turn, ahead-end, rest, rest-more, rest-none, rest-all, with-append, with-none}
+use Rattle.text_rules.proofs.Functions.{left, left-more, left-none, left-all, length-heads}
+use Rattle.scopes.specs.Memory.{scopeWords, blocksOf, Ordered, Room, Moved, scopeOf, tokenOf}
 use Rattle.scopes.specs.Memory as M
 use Rattle.names.specs.Steps.{wrong, noted, Seen}
 use Rattle.scopes.specs.declared.scope.Scope.{Scope}
@@ -102,8 +102,8 @@ module _ (same : ℕ → ℕ → Bool) (hs : List Head) (events : List ℕ) (n :
 
   -- there is room for the next event
   pub walk-room :
-      {words : ℕ} {slots₀ scope slots : List ℕ} {best : Option ℕ} {s : Scope} {k : ℕ} → Walk words slots₀ scope slots best s k → k < n → 3 * n ≤ words → n < 2 ^ 32
-      → (Room scope s) × (3 * s .blocks + 3 ≤ length scope)
+      {words : ℕ} {slots₀ scope slots : List ℕ} {best : Option ℕ} {s : Scope} {k : ℕ} → Walk words slots₀ scope slots best s k → k < n → scopeWords * n ≤ words → n < 2 ^ 32
+      → (Room scope s) × (scopeWords * s .blocks + scopeWords ≤ length scope)
   walk-room w h fits small = (
     record {
       ordered = w .ordered;
@@ -115,8 +115,8 @@ module _ (same : ℕ → ℕ → Bool) (hs : List Head) (events : List ℕ) (n :
     omega (arith, w .blocks, w .room),
   )
 
-pub token-small : (l : List ℕ) (k : ℕ) (e : Event) → e ≡ eventAt l k → getD l (3 * k + 1) 0 < 2 ^ 32 → tokenOf e < 2 ^ 32
-token-small l k e x h = rw x (omega (arith, token-stored (getD l (3 * k) 0) (getD l (3 * k + 1) 0) (getD l (3 * k + 2) 0)))
+pub token-small : (l : List ℕ) (k : ℕ) (e : Event) → e ≡ eventAt l k → getD l (eventWords * k + eventToken) 0 < 2 ^ 32 → tokenOf e < 2 ^ 32
+token-small l k e x h = rw x (omega (arith, token-stored (getD l (eventWords * k) 0) (getD l (eventWords * k + eventToken) 0) (getD l (eventWords * k + eventMore) 0)))
 
 -- ---- functions
 
@@ -139,8 +139,8 @@ module _ (same : ℕ → ℕ → Bool) (l : List ℕ) (h : ℕ) where
   repeats-start p = ap (λ (hs : List Head). leastWith (repeated same [] hs) p) (left-all l h)
 
   pub repeats-turn :
-      (k : ℕ) (p : Option ℕ) {q : Option ℕ} {i : ℕ} → k < h → i ≡ getD l (2 * k) 0
-      → q ≡ leastWith (ifFound same (functionOf same (storedHeads l k) i) i) p
+      (k : ℕ) (p : Option ℕ) {q : Option ℕ} {i : ℕ} → k < h → i ≡ getD l (headWords * k) 0
+      → q ≡ leastWith (ifFound (functionOf same (storedHeads l k) i) i) p
       → repeatsAhead (k + 1) q ≡ repeatsAhead k p
   unfolding repeatsAhead repeated
   repeats-turn k p lt x z =
@@ -149,8 +149,8 @@ module _ (same : ℕ → ℕ → Bool) (l : List ℕ) (h : ℕ) where
       rw (z, x)
       (sym
       (ap (λ (hs : List Head). leastWith (repeated same (storedHeads l k) hs) p) (left-more l h k lt)
-      ∙ with-append (ifFound same (functionOf same (storedHeads l k) (getD l (2 * k) 0)) (getD l (2 * k) 0)) (repeated same (storedHeads l k ++ headAt l k ∷ []) (left l h (k + 1))) p
-      ∙ ap (λ (hs : List Head). leastWith (repeated same hs (left l h (k + 1))) (leastWith (ifFound same (functionOf same (storedHeads l k) (getD l (2 * k) 0)) (getD l (2 * k) 0)) p)) snoc))
+      ∙ with-append (ifFound (functionOf same (storedHeads l k) (getD l (headWords * k) 0)) (getD l (headWords * k) 0)) (repeated same (storedHeads l k ++ headAt l k ∷ []) (left l h (k + 1))) p
+      ∙ ap (λ (hs : List Head). leastWith (repeated same hs (left l h (k + 1))) (leastWith (ifFound (functionOf same (storedHeads l k) (getD l (headWords * k) 0)) (getD l (headWords * k) 0)) p)) snoc))
 
   pub repeats-end : (k : ℕ) (p : Option ℕ) → h ≤ k → repeatsAhead k p ≡ p
   unfolding repeatsAhead repeated leastWith

@@ -44,13 +44,13 @@ pub record Seen (tokens : List ℕ) (meanings : List Meaning) (best : Option ℕ
 
 -- a name is declared, as number n; a variable is read or assigned; a function is called
 abbrev pub SeenDeclaration : (ℕ → ℕ → Bool) → List (List Declared) → ℕ → ℕ → Option ℕ → List ℕ → Option ℕ → List ℕ → Type 0
-SeenDeclaration same bs n i p l p′ l′ = Seen (ifFound same (sought same bs i) i) (meaning i n ∷ []) p l p′ l′
+SeenDeclaration same bs n i p l p′ l′ = Seen (ifFound (sought same bs i) i) (meaning i n ∷ []) p l p′ l′
 
 abbrev pub SeenVariable : (ℕ → ℕ → Bool) → List (List Declared) → ℕ → Option ℕ → List ℕ → Option ℕ → List ℕ → Type 0
-SeenVariable same bs i p l p′ l′ = Seen (unlessFound same (sought same bs i) i) (asFound (sought same bs i) i) p l p′ l′
+SeenVariable same bs i p l p′ l′ = Seen (unlessFound (sought same bs i) i) (asFound (sought same bs i) i) p l p′ l′
 
 abbrev pub SeenCall : (ℕ → ℕ → Bool) → List Head → ℕ → Option ℕ → List ℕ → Option ℕ → List ℕ → Type 0
-SeenCall same hs i p l p′ l′ = Seen (unlessFound same (functionOf same hs i) i) (asFound (functionOf same hs i) i) p l p′ l′
+SeenCall same hs i p l p′ l′ = Seen (unlessFound (functionOf same hs i) i) (asFound (functionOf same hs i) i) p l p′ l′
 
 -- an event in a scope; all events
 abbrev pub SeenEvent : (ℕ → ℕ → Bool) → List Head → Scope → Event → Option ℕ → List ℕ → Option ℕ → List ℕ → Type 0

@@ -4,26 +4,29 @@ ghost use mathlib.Core.List.{[]};
 ghost use Prim.Native.Nat.{_+_, _*_, _^_, _≤_, _<_};
 ghost use lib.ListN.{length, set};
 ghost use Rattle.text_rules.specs.Spelling.{sameName};
-ghost use Rattle.events.specs.Stored.{stored};
+ghost use Rattle.events.specs.Stored.{eventWords, stored};
 ghost use Rattle.text_rules.specs.Rules as R;
 ghost use Rattle.text_rules.specs.Rules.{functionOf};
 ghost use Rattle.text_rules.specs.Names.{ifFound, repeated};
-ghost use Rattle.text_rules.specs.Answers.{event, place, leastWith, storedHeads};
-ghost use Rattle.scopes.specs.Memory.{Held, blocksOf, scopeOf};
+ghost use Rattle.events.specs.Read.{asEvent};
+ghost use Rattle.text_rules.specs.Answers.{headWords, place, leastWith, storedHeads};
+ghost use Rattle.scopes.specs.Memory.{scopeWords, Held, blocksOf, scopeOf};
 ghost use Rattle.names.specs.Steps.{SeenDeclaration, SeenVariable, SeenCall, SeenEvent, SeenEvents, Named};
-use text_rules::broken::Broken;
-use text_rules::broken::lesser;
-use text_rules::heads::Found;
-use text_rules::heads::function_of;
-use text_rules::item::Item;
-use text_rules::item::item_at;
-use text_rules::spelling::word;
+use code::Address;
+use events::event::Event;
+use events::event::event_at;
 use scopes::lookup::Sought;
 use scopes::lookup::seek;
 use scopes::scope::Scope;
 use scopes::scope::enter;
+use text_rules::broken::Broken;
+use text_rules::broken::lesser;
+use text_rules::heads::Found;
+use text_rules::heads::HEAD_WORDS;
+use text_rules::heads::function_of;
+use text_rules::spelling::word;
 
-// What token i means; a token past the end is passed over.
+// What token i means, as a number; a token past the end is passed over.
 fn write(slots: &mut [u32], i: usize, means: usize)
     requires { ⌜ means < 2 ^ 32 ⌝ }
     ensures { λ r. ⌜ now (slots .exit) ≡ set (now (slots .entry)) i means ⌝ }
@@ -33,7 +36,15 @@ fn write(slots: &mut [u32], i: usize, means: usize)
     }
 }
 
-// Token i declares a variable, with the number `next`.
+// Token i names a variable.
+fn write_address(slots: &mut [u32], i: usize, address: Address)
+    requires { ⌜ address .0 < 2 ^ 32 ⌝ }
+    ensures { λ r. ⌜ now (slots .exit) ≡ set (now (slots .entry)) i (address .0) ⌝ }
+{
+    write(slots, i, address.0);
+}
+
+// Token i declares a variable.
 fn see_declaration(
     text: &[u8],
     places: &[u32],
@@ -41,15 +52,15 @@ fn see_declaration(
     scope: &[u32],
     blocks: usize,
     seen: usize,
-    next: usize,
+    address: Address,
     slots: &mut [u32],
     i: usize,
     best: Broken,
 ) -> Broken
-    requires { ⌜ (Held (now scope) blocks seen) × (next < 2 ^ 32) ⌝ }
-    ensures { λ r. ⌜ SeenDeclaration (sameName (now (text .entry)) (now (places .entry)) (now (values .entry))) (blocksOf (now (scope .entry)) blocks seen) next i (place best) (now (slots .entry)) (place r) (now (slots .exit)) ⌝ }
+    requires { ⌜ (Held (now scope) blocks seen) × (address .0 < 2 ^ 32) ⌝ }
+    ensures { λ r. ⌜ SeenDeclaration (sameName (now (text .entry)) (now (places .entry)) (now (values .entry))) (blocksOf (now (scope .entry)) blocks seen) (address .0) i (place best) (now (slots .entry)) (place r) (now (slots .exit)) ⌝ }
 {
-    write(slots, i, next);
+    write_address(slots, i, address);
     match seek(text, places, values, scope, blocks, seen, i) {
         Sought::Nothing => best,
         Sought::At(_) => lesser(i, best),
@@ -74,7 +85,7 @@ fn see_variable(
     match seek(text, places, values, scope, blocks, seen, i) {
         Sought::Nothing => lesser(i, best),
         Sought::At(address) => {
-            write(slots, i, address.0);
+            write_address(slots, i, address);
             best
         }
     }
@@ -91,7 +102,7 @@ fn see_call(
     i: usize,
     best: Broken,
 ) -> Broken
-    requires { ⌜ (2 * h ≤ length (now heads)) × (h < 2 ^ 32) ⌝ }
+    requires { ⌜ (headWords * h ≤ length (now heads)) × (h < 2 ^ 32) ⌝ }
     ensures { λ r. ⌜ SeenCall (sameName (now (text .entry)) (now (places .entry)) (now (values .entry))) (storedHeads (now (heads .entry)) h) i (place best) (now (slots .entry)) (place r) (now (slots .exit)) ⌝ }
 {
     match function_of(text, places, values, heads, h, i) {
@@ -113,41 +124,41 @@ fn see(
     scope: &[u32],
     s: Scope,
     slots: &mut [u32],
-    item: Item,
+    event: Event,
     best: Broken,
 ) -> Broken
-    requires { ⌜ (2 * h ≤ length (now heads)) × (h < 2 ^ 32) × (Held (now scope) (s .blocks) (s .seen)) × (s .next < 2 ^ 32) ⌝ }
-    ensures { λ r. ⌜ SeenEvent (sameName (now (text .entry)) (now (places .entry)) (now (values .entry))) (storedHeads (now (heads .entry)) h) (scopeOf (now (scope .entry)) s) (event item) (place best) (now (slots .entry)) (place r) (now (slots .exit)) ⌝ }
+    requires { ⌜ (headWords * h ≤ length (now heads)) × (h < 2 ^ 32) × (Held (now scope) (s .blocks) (s .seen)) × (s .next < 2 ^ 32) ⌝ }
+    ensures { λ r. ⌜ SeenEvent (sameName (now (text .entry)) (now (places .entry)) (now (values .entry))) (storedHeads (now (heads .entry)) h) (scopeOf (now (scope .entry)) s) (asEvent event) (place best) (now (slots .entry)) (place r) (now (slots .exit)) ⌝ }
 {
     let blocks = s.blocks;
     let seen = s.seen;
-    match item {
-        Item::Parameter(i) => see_declaration(
+    match event {
+        Event::Parameter(i) => see_declaration(
             text,
             places,
             values,
             scope,
             blocks,
             seen,
-            s.next,
+            Address(s.next),
             slots,
             i,
             best,
         ),
-        Item::Declares(i) => see_declaration(
+        Event::Declares(i) => see_declaration(
             text,
             places,
             values,
             scope,
             blocks,
             seen,
-            s.next,
+            Address(s.next),
             slots,
             i,
             best,
         ),
-        Item::Uses(i) => see_variable(text, places, values, scope, blocks, seen, slots, i, best),
-        Item::Calls { token, count: _ } => see_call(
+        Event::Uses(i) => see_variable(text, places, values, scope, blocks, seen, slots, i, best),
+        Event::Calls { token, count: _ } => see_call(
             text,
             places,
             values,
@@ -173,7 +184,7 @@ fn see_all(
     scope: &mut [u32],
     slots: &mut [u32],
 ) -> Broken
-    requires { ⌜ (3 * n ≤ length (now events)) × (n < 2 ^ 32) × (2 * h ≤ length (now heads)) × (h < 2 ^ 32) × (3 * n ≤ length (now scope)) ⌝ }
+    requires { ⌜ (eventWords * n ≤ length (now events)) × (n < 2 ^ 32) × (headWords * h ≤ length (now heads)) × (h < 2 ^ 32) × (scopeWords * n ≤ length (now scope)) ⌝ }
     ensures { λ r. ⌜ SeenEvents (sameName (now (text .entry)) (now (places .entry)) (now (values .entry))) (storedHeads (now (heads .entry)) h) (stored (now (events .entry)) n) (now (slots .entry)) (place r) (now (slots .exit)) ⌝ }
 {
     let mut best = Broken::Nowhere;
@@ -184,9 +195,9 @@ fn see_all(
     };
     let mut k = 0;
     while k < n {
-        let item = item_at(events, k);
-        best = see(text, places, values, heads, h, scope, s, slots, item, best);
-        s = enter(scope, s, item);
+        let event = event_at(events, k);
+        best = see(text, places, values, heads, h, scope, s, slots, event, best);
+        s = enter(scope, s, event);
         k += 1;
     }
     best
@@ -202,8 +213,8 @@ fn repeat(
     i: usize,
     best: Broken,
 ) -> Broken
-    requires { ⌜ 2 * k ≤ length (now heads) ⌝ }
-    ensures { λ r. ⌜ place r ≡ leastWith (ifFound (sameName (now (text .entry)) (now (places .entry)) (now (values .entry))) (functionOf (sameName (now (text .entry)) (now (places .entry)) (now (values .entry))) (storedHeads (now (heads .entry)) k) i) i) (place best) ⌝ }
+    requires { ⌜ headWords * k ≤ length (now heads) ⌝ }
+    ensures { λ r. ⌜ place r ≡ leastWith (ifFound (functionOf (sameName (now (text .entry)) (now (places .entry)) (now (values .entry))) (storedHeads (now (heads .entry)) k) i) i) (place best) ⌝ }
 {
     match function_of(text, places, values, heads, k, i) {
         Found::Nothing => best,
@@ -220,13 +231,14 @@ fn repeats(
     h: usize,
     before: Broken,
 ) -> Broken
-    requires { ⌜ 2 * h ≤ length (now heads) ⌝ }
+    requires { ⌜ headWords * h ≤ length (now heads) ⌝ }
     ensures { λ r. ⌜ place r ≡ leastWith (repeated (sameName (now (text .entry)) (now (places .entry)) (now (values .entry))) [] (storedHeads (now (heads .entry)) h)) (place before) ⌝ }
 {
     let mut best = before;
     let mut k = 0;
     while k < h {
-        best = repeat(text, places, values, heads, k, word(heads, 2 * k), best);
+        let name = word(heads, HEAD_WORDS * k);
+        best = repeat(text, places, values, heads, k, name, best);
         k += 1;
     }
     best
@@ -244,7 +256,7 @@ pub fn resolve(
     scope: &mut [u32],
     slots: &mut [u32],
 ) -> Broken
-    requires { ⌜ (3 * n ≤ length (now events)) × (n < 2 ^ 32) × (2 * h ≤ length (now heads)) × (storedHeads (now heads) h ≡ R.heads (stored (now events) n)) × (3 * n ≤ length (now scope)) ⌝ }
+    requires { ⌜ (eventWords * n ≤ length (now events)) × (n < 2 ^ 32) × (headWords * h ≤ length (now heads)) × (storedHeads (now heads) h ≡ R.heads (stored (now events) n)) × (scopeWords * n ≤ length (now scope)) ⌝ }
     ensures { λ r. ⌜ Named (sameName (now (text .entry)) (now (places .entry)) (now (values .entry))) (stored (now (events .entry)) n) (now (slots .entry)) (place r) (now (slots .exit)) ⌝ }
 {
     let best = see_all(text, places, values, events, n, heads, h, scope, slots);

@@ -47,7 +47,7 @@ fn narrow_at(ws: [[i32; 2]; 8], i: usize, c: u32, k: i32) -> [[i32; 2]; 8]
 }
 
 // The range of a side, in these windows.
-pub fn range_of(ws: [[i32; 2]; 8], s: Side) -> Window
+fn range_of(ws: [[i32; 2]; 8], s: Side) -> Window
     requires { ⌜ AmongEight s ⌝ }
     ensures { λ r. ⌜ ofWindow r ≡ rangeOf (ofPairs ws) s ⌝ }
 {

@@ -3,7 +3,7 @@ use mathlib.Core.Path.{_≡_, refl, sym, ap, ap₂, _∙_, subst}
 use mathlib.Core.Bool.{Bool, true, false, not}
 use mathlib.Core.List.{List, [], _∷_, _++_}
 use mathlib.Core.Logic.{_≢_}
-use Prim.Native.Nat.{ℕ, zero, suc, _+_, _-_, _*_, _/_, _%_, _≤_, _<_}
+use Prim.Native.Nat.{ℕ, zero, suc, _+_, _-_, _*_, _%_, _≤_, _<_}
 use native.Mathlib.Numerals.{add-one}
 use native.Mathlib.Omega.{arith}
 use lib.Dec.{eqb}
@@ -17,7 +17,6 @@ use Rattle.semantics.specs.Int.{Cmp}
 use Rattle.semantics.specs.Run.{Window}
 use Rattle.semantics.specs.Search as search
 use Rattle.semantics.specs.Search.{known, open′, to, range, clipped}
-use Rattle.simulation.specs.Path.{outcome}
 use Rattle.simulation.specs.Nodes.{Known, Open, Node, unknown, operation, node, values, meaning, rangeIn, Within}
 use Rattle.simulation.proofs.Nodes.{range-ok, adding-ok}
 use Rattle.ints.specs.Numbers as numbers
@@ -28,6 +27,8 @@ use Rattle.narrowing.specs.declared.Side.the-variants.{Free, Other}
 use Rattle.intervals.specs.Meaning.{ofWindow, ofPairs}
 use Rattle.narrowing.specs.Meaning.{variableOf, Stands}
 use Rattle.window_memory.specs.Memory.{pairsAt}
+use Rattle.machine.specs.Kinds.{nodeOp, testKind, testCompare, testSides, testLeftOpen, testRightOpen}
+use Rattle.machine.specs.Layout.{windowsPlace, nodeLeft, testPlace, testLeft, testRight, outcomePlace}
 use Rattle.machine.specs.Memory.{cellAs, nodeBy, nodeAt, nodesIn, windowsIn, rangesIn, testAs, outcomeAs, outcomesIn}
 use Rattle.machine.specs.Contracts.{cellOf, meant, Room}
 use Rattle.machine.specs.declared.Value as code
@@ -52,7 +53,7 @@ meaning-at m n j l =
 
 pub windows-length : (m : List ℕ) (k : ℕ) → k ≤ 8 → length (windowsIn m k) ≡ k
 unfolding pairsAt
-windows-length m k l = length-take-le k (ofPairs (pairsAt m 1120 8)) l
+windows-length m k l = length-take-le k (ofPairs (pairsAt m windowsPlace 8)) l
 
 pub side-known : (ws : List Window) (ns : List Node) (r : win.Window) (z : ℤ) → ofWindow r ≡ to z z → Stands ws (Other r) (meaning ns (Known z))
 unfolding meaning range
@@ -62,24 +63,25 @@ pub stands-at : (m : List ℕ) (k n : ℕ) (v u : code.Value) (s : Side) → v �
 stands-at m k n v u s e h = subst (λ (v : code.Value). Stands (windowsIn m k) s (meant m n v)) (sym e) h
 
 module _ (m : List ℕ) (k n j : ℕ) where
-  pub side-free : Tables m k n → j < n → kind m k j % 4 ≡ 0 → Stands (windowsIn m k) (Free (getD m (1203 + 12 * j) 0)) (meaning (nodesIn m n) (Open j))
+  pub side-free : Tables m k n → j < n → nodeOp (kind m j) ≡ 0 → Stands (windowsIn m k) (Free (getD m (nodeLeft j) 0)) (meaning (nodesIn m n) (Open j))
   side-free t l e =
-      let x = getD m (1203 + 12 * j) 0 in
-      let q : nodeAt m j ≡ unknown x = ap (λ (i : ℕ). nodeBy i x (left m k j) (right m k j)) e in
+      let x = getD m (nodeLeft j) 0 in
+      let q : nodeAt m j ≡ unknown x = ap (λ (i : ℕ). nodeBy i x (left m j) (right m j)) e in
       let g : x < k = subst (Named k) q (t .named j l) in
-      subst (Stands (windowsIn m k) (Free x)) (sym (meaning-at m n j l ∙ ap (node known search.unknown open′ (Rattle.simulation.specs.Nodes.values (nodesIn m j))) q)) (Stands.free (omega (arith, windows-length m k (t .count))))
+      subst (Stands (windowsIn m k) (Free x)) (sym (meaning-at m n j l ∙ ap (node known search.unknown open′ (Rattle.simulation.specs.Nodes.values (nodesIn m j))) q))
+      (Stands.free (omega (arith, windows-length m k (t .count))))
 
-  pub side-op : (r : win.Window) → Tables m k n → j < n → (kind m k j % 4 ≡ 0 → ⊥) → ofWindow r ≡ rangeIn (rangesIn m n) (Open j) → Stands (windowsIn m k) (Other r) (meaning (nodesIn m n) (Open j))
-  side-op r t l f e = by (kind m k j % 4) refl
+  pub side-op : (r : win.Window) → Tables m k n → j < n → (nodeOp (kind m j) ≡ 0 → ⊥) → ofWindow r ≡ rangeIn (rangesIn m n) (Open j) → Stands (windowsIn m k) (Other r) (meaning (nodesIn m n) (Open j))
+  side-op r t l f e = by (nodeOp (kind m j)) refl
     where
       is : ofWindow r ≡ range (windowsIn m k) (meaning (nodesIn m n) (Open j))
       is = e ∙ ap (λ (rs : List Window). rangeIn rs (Open j)) (t .is) ∙ range-ok (windowsIn m k) (nodesIn m n) (Open j)
 
-      by : (i : ℕ) → kind m k j % 4 ≡ i → Stands (windowsIn m k) (Other r) (meaning (nodesIn m n) (Open j))
+      by : (i : ℕ) → nodeOp (kind m j) ≡ i → Stands (windowsIn m k) (Other r) (meaning (nodesIn m n) (Open j))
       by zero q = absurd (f q)
       by (suc i) q =
           let o = numbers.operation i in
-          let g : nodeAt m j ≡ operation o (left m k j) (right m k j) = ap (λ (i : ℕ). nodeBy i (getD m (1203 + 12 * j) 0) (left m k j) (right m k j)) q in
+          let g : nodeAt m j ≡ operation o (left m j) (right m j) = ap (λ (i : ℕ). nodeBy i (getD m (nodeLeft j) 0) (left m j) (right m j)) q in
           let v = meaning-at m n j l ∙ ap (node known search.unknown open′ (Rattle.simulation.specs.Nodes.values (nodesIn m j))) g in
           subst (Stands (windowsIn m k) (Other r)) (sym v) (Stands.operation (is ∙ ap (range (windowsIn m k)) v))
 
@@ -91,53 +93,55 @@ bit-two (values.Open j) = omega arith
 
 module _ (m : List ℕ) (t c a b x y : ℕ) (v w : code.Value) (r : Room m (t + 1)) where
   abbrev m₁ : List ℕ
-  m₁ = set m (1208 + 12 * t) (c + 8 * a + 16 * b)
+  m₁ = set m (testPlace t) (testKind c a b)
 
   abbrev m₂ : List ℕ
-  m₂ = set m₁ (1209 + 12 * t) x
+  m₂ = set m₁ (testLeft t) x
 
   abbrev m₃ : List ℕ
-  m₃ = set m₂ (1210 + 12 * t) y
+  m₃ = set m₂ (testRight t) y
 
-  apart : (i : ℕ) → i ≢ 1208 + 12 * t → i ≢ 1209 + 12 * t → i ≢ 1210 + 12 * t → getD m₃ i 0 ≡ getD m i 0
-  apart i f g h = getD-set-other m₂ (1210 + 12 * t) i y 0 h ∙ getD-set-other m₁ (1209 + 12 * t) i x 0 g ∙ getD-set-other m (1208 + 12 * t) i (c + 8 * a + 16 * b) 0 f
+  apart : (i : ℕ) → i ≢ testPlace t → i ≢ testLeft t → i ≢ testRight t → getD m₃ i 0 ≡ getD m i 0
+  apart i f g h = getD-set-other m₂ (testRight t) i y 0 h ∙ getD-set-other m₁ (testLeft t) i x 0 g ∙ getD-set-other m (testPlace t) i (testKind c a b) 0 f
 
-  first : getD m₃ (1208 + 12 * t) 0 ≡ c + 8 * a + 16 * b
-  first = getD-set-other m₂ (1210 + 12 * t) (1208 + 12 * t) y 0 (omega arith) ∙ getD-set-other m₁ (1209 + 12 * t) (1208 + 12 * t) x 0 (omega arith) ∙ getD-set-same m (1208 + 12 * t) (c + 8 * a + 16 * b) 0 (omega (arith, r .words))
+  first : getD m₃ (testPlace t) 0 ≡ testKind c a b
+  first = getD-set-other m₂ (testRight t) (testPlace t) y 0 (omega arith) ∙ getD-set-other m₁ (testLeft t) (testPlace t) x 0 (omega arith)
+      ∙ getD-set-same m (testPlace t) (testKind c a b) 0 (omega (arith, r .words))
 
-  second : getD m₃ (1209 + 12 * t) 0 ≡ x
-  second = getD-set-other m₂ (1210 + 12 * t) (1209 + 12 * t) y 0 (omega arith) ∙ getD-set-same m₁ (1209 + 12 * t) x 0 (simp length-set (omega (arith, r .words)))
+  second : getD m₃ (testLeft t) 0 ≡ x
+  second = getD-set-other m₂ (testRight t) (testLeft t) y 0 (omega arith) ∙ getD-set-same m₁ (testLeft t) x 0 (simp length-set (omega (arith, r .words)))
 
-  third : getD m₃ (1210 + 12 * t) 0 ≡ y
-  third = getD-set-same m₂ (1210 + 12 * t) y 0 (simp length-set (omega (arith, r .words)))
+  third : getD m₃ (testRight t) 0 ≡ y
+  third = getD-set-same m₂ (testRight t) y 0 (simp length-set (omega (arith, r .words)))
 
-  decode : c < 6 → a < 2 → b < 2 → testAs (c + 8 * a + 16 * b) x y ≡ record { compare = numbers.comparison c; left = cellAs a x; right = cellAs b y }
+  decode : c < 6 → a < 2 → b < 2 → testAs (testKind c a b) x y ≡ record { compare = numbers.comparison c; left = cellAs a x; right = cellAs b y }
   decode l p q =
-      let e : (c + 8 * a + 16 * b) % 8 ≡ c = omega arith in
-      let h : (c + 8 * a + 16 * b) / 8 ≡ a + 2 * b = omega arith in
-      let f : (c + 8 * a + 16 * b) / 8 % 2 ≡ a = ap (λ (z : ℕ). z % 2) h ∙ omega arith in
-      let g : (c + 8 * a + 16 * b) / 16 ≡ b = omega arith in
+      let e : testCompare (testKind c a b) ≡ c = omega arith in
+      let h : testSides (testKind c a b) ≡ a + 2 * b = omega arith in
+      let f : testLeftOpen (testKind c a b) ≡ a = ap (λ (z : ℕ). z % 2) h ∙ omega arith in
+      let g : testRightOpen (testKind c a b) ≡ b = omega arith in
       λ i. record { compare = numbers.comparison (e i); left = cellAs (f i) x; right = cellAs (g i) y }
 
   pub noting : c < 6 → a ≡ bit v → b ≡ bit w → cellAs (bit v) x ≡ cellOf v → cellAs (bit w) y ≡ cellOf w → Noting m m₃ t (testBy (numbers.comparison c) v w)
   noting l p q e f = record {
     other = record { outside = λ i h. apart i (λ u. h (omega arith) (omega arith)) (λ u. h (omega arith) (omega arith)) (λ u. h (omega arith) (omega arith)) };
-    is = rw (first, second, third) (decode l (omega (arith, p, bit-two v)) (omega (arith, q, bit-two w)) ∙ (λ i. record { compare = numbers.comparison c; left = (ap (λ (z : ℕ). cellAs z x) p ∙ e) i; right = (ap (λ (z : ℕ). cellAs z y) q ∙ f) i }));
+    is = rw (first, second, third) (decode l (omega (arith, p, bit-two v)) (omega (arith, q, bit-two w))
+        ∙ (λ i. record { compare = numbers.comparison c; left = (ap (λ (z : ℕ). cellAs z x) p ∙ e) i; right = (ap (λ (z : ℕ). cellAs z y) q ∙ f) i }));
   }
 
 -- ---- an outcome
 
-pub outcomes-same : (m m′ : List ℕ) (t f : ℕ) → ((j : ℕ) → t ≤ j → j < t + f → getD m′ (1211 + 12 * j) 0 ≡ getD m (1211 + 12 * j) 0) → outcomesIn m′ t f ≡ outcomesIn m t f
+pub outcomes-same : (m m′ : List ℕ) (t f : ℕ) → ((j : ℕ) → t ≤ j → j < t + f → getD m′ (outcomePlace j) 0 ≡ getD m (outcomePlace j) 0) → outcomesIn m′ t f ≡ outcomesIn m t f
 unfolding outcomesIn
 outcomes-same m m′ t zero h = refl
 outcomes-same m m′ t (suc f) h = ap₂ (λ (o : Bool) (l : List Bool). o ∷ l) (ap outcomeAs (h t (omega arith) (omega arith))) (outcomes-same m m′ (suc t) f (λ j a b. h j (omega arith) (omega arith)))
 
-pub taken-new : (m : List ℕ) (t f : ℕ) → f ≡ 0 → Room m (t + 1) → Taken m (set m (1211 + 12 * t) 1) t f true
+pub taken-new : (m : List ℕ) (t f : ℕ) → f ≡ 0 → Room m (t + 1) → Taken m (set m (outcomePlace t) 1) t f true
 unfolding outcomesIn
 taken-new m t (suc f) z r = absurd (omega arith)
 taken-new m t zero z r = record {
-  other = record { outside = λ i h. getD-set-other m (1211 + 12 * t) i 1 0 (λ e. h (omega arith) (omega arith)) };
-  is = ap outcomeAs (getD-set-same m (1211 + 12 * t) 1 0 (omega (arith, r .words)));
+  other = record { outside = λ i h. getD-set-other m (outcomePlace t) i 1 0 (λ e. h (omega arith) (omega arith)) };
+  is = ap outcomeAs (getD-set-same m (outcomePlace t) 1 0 (omega (arith, r .words)));
   next = refl;
   rest = refl;
 }
@@ -146,13 +150,13 @@ bool-of : (n : ℕ) → outcomeAs n ≡ not (eqb n 0)
 bool-of zero = refl
 bool-of (suc n) = ap not (sym (ne-eqb (suc n) 0 (λ e. omega arith)))
 
-pub taken-forced : (m : List ℕ) (t f : ℕ) → (f ≡ 0 → ⊥) → Taken m m t f (not (eqb (getD m (1211 + 12 * t) 0) 0))
+pub taken-forced : (m : List ℕ) (t f : ℕ) → (f ≡ 0 → ⊥) → Taken m m t f (not (eqb (getD m (outcomePlace t) 0) 0))
 unfolding outcomesIn
 taken-forced m t zero h = absurd (h refl)
 taken-forced m t (suc f) h = record {
   other = record { outside = λ i h. refl };
-  is = bool-of (getD m (1211 + 12 * t) 0);
-  next = sym (bool-of (getD m (1211 + 12 * t) 0));
+  is = bool-of (getD m (outcomePlace t) 0);
+  next = sym (bool-of (getD m (outcomePlace t) 0));
   rest = ap (λ (i : ℕ). outcomesIn m i (suc f - 1)) (add-one t) ∙ ap (outcomesIn m (suc t)) {x = suc f - 1} {y = f} (omega arith);
 }
 
@@ -162,10 +166,12 @@ not-true : (b : Bool) → not b ≡ true → b ≡ false
 not-true true e = absurd (subst (λ o. elim o as (λ o. Type 0) [ true ↦ ⊥ | false ↦ Unit {0} ]) e tt)
 not-true false e = refl
 
-pub idle-at : (s u : Side) (r : win.Window) → s ≡ u → ((c : Cmp) (ws : List Window) → clipped c (variableOf u) (ofWindow r) ws ≡ ws) → (c : Cmp) (ws : List Window) → clipped c (variableOf s) (ofWindow r) ws ≡ ws
+pub idle-at : (s u : Side) (r : win.Window) → s ≡ u → ((c : Cmp) (ws : List Window) → clipped c (variableOf u) (ofWindow r) ws ≡ ws) → (c : Cmp) (ws : List Window)
+    → clipped c (variableOf s) (ofWindow r) ws ≡ ws
 idle-at s u r e h c ws = subst (λ (s : Side). clipped c (variableOf s) (ofWindow r) ws ≡ ws) (sym e) (h c ws)
 
-pub idle-free : (i : ℕ) (r : win.Window) → SFits w32 (r .low) → SFits w32 (r .high) → not (eqb (ofZ w32 (r .low)) (ofZ w32 (r .high))) ≡ true → (c : Cmp) (ws : List Window) → clipped c (variableOf (Free i)) (ofWindow r) ws ≡ ws
+pub idle-free : (i : ℕ) (r : win.Window) → SFits w32 (r .low) → SFits w32 (r .high) → not (eqb (ofZ w32 (r .low)) (ofZ w32 (r .high))) ≡ true → (c : Cmp) (ws : List Window)
+    → clipped c (variableOf (Free i)) (ofWindow r) ws ≡ ws
 unfolding clipped
 idle-free i r l h e c ws = rw (sym (eq-bits (r .low) (r .high) l h) ∙ not-true (eqb (ofZ w32 (r .low)) (ofZ w32 (r .high))) e) refl
 

@@ -4,16 +4,17 @@ use mathlib.Core.Bool.{Bool, true, false}
 use mathlib.Core.Option.{none}
 use mathlib.Core.List.{List, [], _∷_, _++_, map}
 use mathlib.Core.Logic.{⊎-elim}
-use Prim.Native.Nat.{ℕ, zero, suc, _+_, _-_, _*_, _≤_, _<_}
+use Prim.Native.Nat.{ℕ, zero, suc, _+_, _-_, _≤_, _<_}
 use native.Mathlib.Nat.{eq-or-lt-of-le}
 use native.Mathlib.Numerals.{add-one}
 use native.Mathlib.Omega.{arith}
 use lib.ListN.{length, getD}
 use Rattle.semantics.specs.Int.{Cmp}
 use Rattle.semantics.specs.Search.{Value, asTest, narrowed, decided}
-use Rattle.simulation.specs.Path.{state, outcome, later, holding}
+use Rattle.simulation.specs.Path.{state, later, holding}
 use Rattle.simulation.specs.Nodes.{Node, Noted, meaning, ranges, rangeIn, testOf}
 use Rattle.intervals.proofs.Undecided.{undecided-negated}
+use Rattle.machine.specs.Layout.{windowsPlace, windowsEnd, rangeLow, rangeHigh, rangeEnd, testPlace, testLeft, testRight, testEnd, outcomePlace, indexEnd}
 use Rattle.machine.specs.Memory.{nodeAt, nodesIn, windowsIn, rangesIn, testsIn, outcomeAs, outcomesIn, testAt}
 use Rattle.machine.specs.Contracts.{cellOf, meant, Other}
 use Rattle.machine.specs.declared.Value as code
@@ -27,23 +28,23 @@ use Rattle.paths.proofs.Choice.{outcomes-same}
 
 -- ---- tests and outcomes
 
-pub test-same : (m m′ : List ℕ) (j : ℕ) → ((i : ℕ) → 1208 + 12 * j ≤ i → i < 1211 + 12 * j → getD m′ i 0 ≡ getD m i 0) → testAt m′ j ≡ testAt m j
-test-same m m′ j h = rw (h (1208 + 12 * j) (omega arith) (omega arith), h (1209 + 12 * j) (omega arith) (omega arith), h (1210 + 12 * j) (omega arith) (omega arith))
+pub test-same : (m m′ : List ℕ) (j : ℕ) → ((i : ℕ) → testPlace j ≤ i → i < testEnd j → getD m′ i 0 ≡ getD m i 0) → testAt m′ j ≡ testAt m j
+test-same m m′ j h = rw (h (testPlace j) (omega arith) (omega arith), h (testLeft j) (omega arith) (omega arith), h (testRight j) (omega arith) (omega arith))
 
 pub tests-same : (m m′ : List ℕ) (t : ℕ) → ((j : ℕ) → j < t → testAt m′ j ≡ testAt m j) → testsIn m′ t ≡ testsIn m t
 unfolding testsIn
 tests-same m m′ zero h = refl
 tests-same m m′ (suc t) h = ap₂ (λ (x : Noted) (l : List Noted). x ∷ l) (h t (omega arith)) (tests-same m m′ t (λ j g. h j (omega arith)))
 
-outcomes-more : (m : List ℕ) (i n : ℕ) → outcomesIn m i (suc n) ≡ outcomesIn m i n ++ outcomeAs (getD m (1211 + 12 * (i + n)) 0) ∷ []
+outcomes-more : (m : List ℕ) (i n : ℕ) → outcomesIn m i (suc n) ≡ outcomesIn m i n ++ outcomeAs (getD m (outcomePlace (i + n)) 0) ∷ []
 unfolding outcomesIn
-outcomes-more m i zero = ap (λ (j : ℕ). outcomeAs (getD m (1211 + 12 * j) 0) ∷ []) {x = i} {y = i + 0} (omega arith)
-outcomes-more m i (suc n) = ap (λ (l : List Bool). outcomeAs (getD m (1211 + 12 * i) 0) ∷ l)
-    (outcomes-more m (suc i) n ∙ ap (λ (j : ℕ). outcomesIn m (suc i) n ++ outcomeAs (getD m (1211 + 12 * j) 0) ∷ []) {x = suc i + n} {y = i + suc n} (omega arith))
+outcomes-more m i zero = ap (λ (j : ℕ). outcomeAs (getD m (outcomePlace j) 0) ∷ []) {x = i} {y = i + 0} (omega arith)
+outcomes-more m i (suc n) = ap (λ (l : List Bool). outcomeAs (getD m (outcomePlace i) 0) ∷ l)
+    (outcomes-more m (suc i) n ∙ ap (λ (j : ℕ). outcomesIn m (suc i) n ++ outcomeAs (getD m (outcomePlace j) 0) ∷ []) {x = suc i + n} {y = i + suc n} (omega arith))
 
 -- ---- the test and the outcome of choice t are written
 
-module _ {m m′ : List ℕ} (t : ℕ) (o : Other m m′ (1208 + 12 * t) (1212 + 12 * t)) where
+module _ {m m′ : List ℕ} (t : ℕ) (o : Other m m′ (testPlace t) (indexEnd t)) where
   noted-windows : (k : ℕ) → windowsIn m′ k ≡ windowsIn m k
   noted-windows k = windows-same m m′ k (λ i a b. o .outside i (λ u v. omega arith))
 
@@ -54,7 +55,7 @@ module _ {m m′ : List ℕ} (t : ℕ) (o : Other m m′ (1208 + 12 * t) (1212 +
   noted-nodes n = nodes-same m m′ n (λ j l. noted-node j)
 
   noted-ranges : (n : ℕ) → rangesIn m′ n ≡ rangesIn m n
-  noted-ranges n = ranges-same m m′ n (λ j l. rw (o .outside (1205 + 12 * j) (λ u v. omega arith), o .outside (1206 + 12 * j) (λ u v. omega arith)) refl)
+  noted-ranges n = ranges-same m m′ n (λ j l. rw (o .outside (rangeLow j) (λ u v. omega arith), o .outside (rangeHigh j) (λ u v. omega arith)) refl)
 
   pub noted-tables : (k n : ℕ) → length m′ ≡ length m → Tables m k n → Tables m′ k n
   noted-tables k n l h = record {
@@ -66,18 +67,25 @@ module _ {m m′ : List ℕ} (t : ℕ) (o : Other m m′ (1208 + 12 * t) (1212 +
   }
 
   pub noted-undecided : (n : ℕ) (c : Cmp) (b : Bool) (v w : code.Value) → Undecided m n c v w → Undecided m′ n (holding b c) v w
-  noted-undecided n c b v w h = record { left-sized = h .left-sized; left = h .left; right-sized = h .right-sized; right = h .right; is = ap (λ rs. decided (holding b c) (rangeIn rs (cellOf v)) (rangeIn rs (cellOf w))) (noted-ranges n) ∙ by b }
+  noted-undecided n c b v w h = record {
+    left-sized = h .left-sized;
+    left = h .left;
+    right-sized = h .right-sized;
+    right = h .right;
+    is = ap (λ rs. decided (holding b c) (rangeIn rs (cellOf v)) (rangeIn rs (cellOf w))) (noted-ranges n) ∙ by b;
+  }
     where
       by : (b : Bool) → decided (holding b c) (rangeIn (rangesIn m n) (cellOf v)) (rangeIn (rangesIn m n) (cellOf w)) ≡ none
       by true = h .is
       by false = undecided-negated c (rangeIn (rangesIn m n) (cellOf v)) (rangeIn (rangesIn m n) (cellOf w)) (h .is)
 
-pub other-both : {m m₁ m₂ : List ℕ} {t f : ℕ} {o : Bool} {x : Noted} → Taken m m₁ t f o → Noting m₁ m₂ t x → Other m m₂ (1208 + 12 * t) (1212 + 12 * t)
+pub other-both : {m m₁ m₂ : List ℕ} {t f : ℕ} {o : Bool} {x : Noted} → Taken m m₁ t f o → Noting m₁ m₂ t x → Other m m₂ (testPlace t) (indexEnd t)
 other-both a b = record { outside = λ i h. b .other .outside i (λ u v. h u (omega arith)) ∙ a .other .outside i (λ u v. h (omega arith) v) }
 
 -- ---- the choice
 
-module _ (m m₁ m₂ m₃ : List ℕ) (p : Point) (c d : Cmp) (v w : code.Value) (o : Bool) (a : Taken m m₁ (p .choices) (p .forced) o) (b : Noting m₁ m₂ (p .choices) (testBy d v w)) (s : Narrowed m₂ m₃ (p .windows) (p .run .nodes) d v w)
+module _ (m m₁ m₂ m₃ : List ℕ) (p : Point) (c d : Cmp) (v w : code.Value) (o : Bool) (a : Taken m m₁ (p .choices) (p .forced) o) (b : Noting m₁ m₂ (p .choices) (testBy d v w))
+    (s : Narrowed m₂ m₃ (p .windows) (p .run .nodes) d v w)
     (e : d ≡ holding o c) (before : Standing m p) (u : Undecided m (p .run .nodes) c v w) where
   abbrev t : ℕ
   t = p .choices
@@ -85,10 +93,10 @@ module _ (m m₁ m₂ m₃ : List ℕ) (p : Point) (c d : Cmp) (v w : code.Value
   abbrev n : ℕ
   n = p .run .nodes
 
-  both : Other m m₂ (1208 + 12 * t) (1212 + 12 * t)
+  both : Other m m₂ (testPlace t) (indexEnd t)
   both = other-both a b
 
-  away : (i : ℕ) → (1208 + 12 * t ≤ i → i < 1212 + 12 * t → ⊥) → (1120 ≤ i → i < 1136 → ⊥) → ((j : ℕ) → j < n → 1205 + 12 * j ≤ i → i < 1207 + 12 * j → ⊥) → getD m₃ i 0 ≡ getD m i 0
+  away : (i : ℕ) → (testPlace t ≤ i → i < indexEnd t → ⊥) → (windowsPlace ≤ i → i < windowsEnd → ⊥) → ((j : ℕ) → j < n → rangeLow j ≤ i → i < rangeEnd j → ⊥) → getD m₃ i 0 ≡ getD m i 0
   away i f g h = s .beside .other i g h ∙ both .outside i f
 
   nodes-are : nodesIn m₃ n ≡ nodesIn m n
@@ -105,14 +113,16 @@ module _ (m m₁ m₂ m₃ : List ℕ) (p : Point) (c d : Cmp) (v w : code.Value
   tests-are = ap (testsIn m₃) (add-one t) ∙ ap₂ (λ (x : Noted) (l : List Noted). x ∷ l) newest (tests-same m m₃ t older)
 
   forced-are : outcomesIn m₃ (t + 1) (p .forced - 1) ≡ later (outcomesIn m t (p .forced))
-  forced-are = outcomes-same m₁ m₃ (t + 1) (p .forced - 1) (λ j f g. s .beside .other (1211 + 12 * j) (λ x y. omega arith) (λ k l x y. omega arith) ∙ b .other .outside (1211 + 12 * j) (λ x y. omega arith)) ∙ a .rest
+  forced-are = outcomes-same m₁ m₃ (t + 1) (p .forced - 1) (λ j f g. s .beside .other (outcomePlace j) (λ x y. omega arith) (λ k l x y. omega arith)
+      ∙ b .other .outside (outcomePlace j) (λ x y. omega arith)) ∙ a .rest
 
   chosen-are : outcomesIn m₃ 0 (t + 1) ≡ outcomesIn m 0 t ++ o ∷ []
   chosen-are =
       ap (outcomesIn m₃ 0) (add-one t) ∙ outcomes-more m₃ 0 t
       ∙ ap₂ (λ (l : List Bool) (x : Bool). l ++ x ∷ [])
-      (outcomes-same m m₃ 0 t (λ j f g. away (1211 + 12 * j) (λ x y. omega arith) (λ x y. omega arith) (λ k l x y. omega arith)))
-      (ap (λ (j : ℕ). outcomeAs (getD m₃ (1211 + 12 * j) 0)) {x = 0 + t} {y = t} (omega arith) ∙ ap outcomeAs (s .beside .other (1211 + 12 * t) (λ x y. omega arith) (λ k l x y. omega arith) ∙ b .other .outside (1211 + 12 * t) (λ x y. omega arith)) ∙ a .is)
+      (outcomes-same m m₃ 0 t (λ j f g. away (outcomePlace j) (λ x y. omega arith) (λ x y. omega arith) (λ k l x y. omega arith)))
+      (ap (λ (j : ℕ). outcomeAs (getD m₃ (outcomePlace j) 0)) {x = 0 + t} {y = t} (omega arith)
+      ∙ ap outcomeAs (s .beside .other (outcomePlace t) (λ x y. omega arith) (λ k l x y. omega arith) ∙ b .other .outside (outcomePlace t) (λ x y. omega arith)) ∙ a .is)
 
   windows-are : windowsIn m₃ (p .windows) ≡ narrowed (holding o c) (meant m n v) (meant m n w) (windowsIn m (p .windows))
   windows-are = s .windows ∙ (λ i. narrowed (e i) (meaning (noted-nodes t both n i) (cellOf v)) (meaning (noted-nodes t both n i) (cellOf w)) (noted-windows t both (p .windows) i))
@@ -124,7 +134,8 @@ module _ (m m₁ m₂ m₃ : List ℕ) (p : Point) (c d : Cmp) (v w : code.Value
       tables = λ k j x y. away k (λ f g. omega arith) (λ f g. omega arith) (λ q l f g. omega arith);
     };
     next = a .next;
-    is = λ i. state (p .steps) (8 - p .windows) (windows-are i) ((ap₂ (λ (ns : List Node) (ts : List Noted). map (testOf ns) ts) nodes-are tests-are ∙ ap (λ (x : Cmp). asTest x (meant m n v) (meant m n w) ∷ map (testOf (nodesIn m n)) (testsIn m t)) e) i) (forced-are i) (chosen-are i);
+    is = λ i. state (p .steps) (8 - p .windows) (windows-are i) ((ap₂ (λ (ns : List Node) (ts : List Noted). map (testOf ns) ts) nodes-are tests-are
+        ∙ ap (λ (x : Cmp). asTest x (meant m n v) (meant m n w) ∷ map (testOf (nodesIn m n)) (testsIn m t)) e) i) (forced-are i) (chosen-are i);
     standing = record {
       tables = s .tables;
       tested = λ j l. ⊎-elim

@@ -8,7 +8,7 @@ use native.Mathlib.Omega.{arith}
 use lib.ListN.{length}
 use Rattle.semantics.specs.Int.{Cmp}
 use Rattle.semantics.specs.Run.{Window}
-use Rattle.semantics.specs.Search.{Value, range, decided, narrowed, byRanges}
+use Rattle.semantics.specs.Search.{Value, range, decided, narrowed, inUse}
 use Rattle.simulation.specs.Machine.{Machine}
 use Rattle.simulation.specs.Path.{State, Went, on, outcome, holding, chose, choosing, comparing}
 use Rattle.simulation.specs.Nodes.{rangeIn}
@@ -30,22 +30,24 @@ pub said : (c : Cmp) (d u : Decided) (a b : win.Window) (v w : Window) → d ≡
 said c d u a b v w e f g h = ap ofDecided (sym e) ∙ f ∙ ap₂ (decided c) g h
 
 -- what is compared, once the ranges have said what they can
-compared-some : (job : Window) (c : Cmp) (x y : Value) (k : Bool → Machine Value) (s : State) (o : Bool) → decided c (range (s .windows) x) (range (s .windows) y) ≡ some o → comparing byRanges job c x y k s ≡ on (k o) s
+compared-some : (job : Window) (c : Cmp) (x y : Value) (k : Bool → Machine Value) (s : State) (o : Bool) → decided c (range (s .windows) x) (range (s .windows) y) ≡ some o
+    → comparing inUse job c x y k s ≡ on (k o) s
 unfolding comparing
-compared-some job c x y k s o e = ap (λ (z : Option Bool). elim z as (λ z. Went) [ some o ↦ on (k o) s | none ↦ choosing byRanges job c x y k s (outcome (s .forced)) ]) e
+compared-some job c x y k s o e = ap (λ (z : Option Bool). elim z as (λ z. Went) [ some o ↦ on (k o) s | none ↦ choosing inUse job c x y k s (outcome (s .forced)) ]) e
 
 compared-none : (job : Window) (c : Cmp) (x y : Value) (k : Bool → Machine Value) (s : State) (o : Bool) → decided c (range (s .windows) x) (range (s .windows) y) ≡ none → o ≡ outcome (s .forced)
-    → comparing byRanges job c x y k s ≡ on (k o) (chose c x y o (narrowed (holding o c) x y (s .windows)) s)
+    → comparing inUse job c x y k s ≡ on (k o) (chose c x y o (narrowed (holding o c) x y (s .windows)) s)
 unfolding comparing choosing
 compared-none job c x y k s o e q =
-    ap (λ (z : Option Bool). elim z as (λ z. Went) [ some o ↦ on (k o) s | none ↦ choosing byRanges job c x y k s (outcome (s .forced)) ]) e
+    ap (λ (z : Option Bool). elim z as (λ z. Went) [ some o ↦ on (k o) s | none ↦ choosing inUse job c x y k s (outcome (s .forced)) ]) e
     ∙ ap (λ (o : Bool). on (k o) (chose c x y o (narrowed (holding o c) x y (s .windows)) s)) (sym q)
 
 module _ (m : List ℕ) (p : Point) (c : Cmp) (v w : code.Value) (h : Standing m p) (r : Ready m (p .run)) where
   abbrev n : ℕ
   n = p .run .nodes
 
-  by-ranges : (z : Option Bool) → z ≡ decided c (rangeIn (rangesIn m n) (cellOf v)) (rangeIn (rangesIn m n) (cellOf w)) → decided c (range (windowsIn m (p .windows)) (meant m n v)) (range (windowsIn m (p .windows)) (meant m n w)) ≡ z
+  by-ranges : (z : Option Bool) → z ≡ decided c (rangeIn (rangesIn m n) (cellOf v)) (rangeIn (rangesIn m n) (cellOf w))
+      → decided c (range (windowsIn m (p .windows)) (meant m n v)) (range (windowsIn m (p .windows)) (meant m n w)) ≡ z
   by-ranges z e = sym (e ∙ ap₂ (decided c) (range-is m (p .windows) n (h .tables) v) (range-is m (p .windows) n (h .tables) w))
 
   pub compared-so : (o : Bool) (q : Point) → some o ≡ decided c (rangeIn (rangesIn m n) (cellOf v)) (rangeIn (rangesIn m n) (cellOf w)) → q ≡ flagging p o → Compared m m p c v w q
@@ -56,7 +58,8 @@ module _ (m : List ℕ) (p : Point) (c : Cmp) (v w : code.Value) (h : Standing m
     follows = record { run = refl; machine = refl; ready = ready-flagged o r; is = refl; standing = record { tables = h .tables; tested = h .tested }; steps = omega arith; fewer = omega arith };
   })
 
-  pub chosen-so : (m′ : List ℕ) (o : Bool) (q : Point) → length m′ ≡ length m → none ≡ decided c (rangeIn (rangesIn m n) (cellOf v)) (rangeIn (rangesIn m n) (cellOf w)) → Chose m m′ p c v w o → q ≡ flagging (chosen p) o → Compared m m′ p c v w q
+  pub chosen-so : (m′ : List ℕ) (o : Bool) (q : Point) → length m′ ≡ length m → none ≡ decided c (rangeIn (rangesIn m n) (cellOf v)) (rangeIn (rangesIn m n) (cellOf w)) → Chose m m′ p c v w o → q
+      ≡ flagging (chosen p) o → Compared m m′ p c v w q
   chosen-so m′ o q l e s f = subst (Compared m m′ p c v w) (sym f) (record {
     outcome = o;
     after = chose c (meant m n v) (meant m n w) o (narrowed (holding o c) (meant m n v) (meant m n w) (windowsIn m (p .windows))) (stateAt m p);

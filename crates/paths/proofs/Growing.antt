@@ -2,7 +2,7 @@
 use mathlib.Core.Path.{_≡_, refl, sym, ap, ap₂, _∙_, subst}
 use mathlib.Core.List.{List, [], _∷_, _++_, map}
 use mathlib.Core.Logic.{⊎-elim}
-use Prim.Native.Nat.{ℕ, zero, suc, _+_, _-_, _*_, _≤_, _<_}
+use Prim.Native.Nat.{ℕ, zero, suc, _+_, _≤_, _<_}
 use native.Mathlib.Nat.{eq-or-lt-of-le}
 use native.Mathlib.Numerals.{add-one}
 use native.Mathlib.Omega.{arith}
@@ -14,6 +14,7 @@ use Rattle.simulation.specs.Nodes.{Node, unknown, operation, node, Noted, testO
 use Rattle.simulation.proofs.Nodes.{Each, ranges-last, ranges-window}
 use Rattle.intervals.specs.Meaning.{Filled}
 use Rattle.ranges.proofs.Ranges.{filled}
+use Rattle.machine.specs.Layout.{windowsPlace, windowsEnd, rangeLow, rangeHigh, rangeEnd, outcomePlace}
 use Rattle.machine.specs.Memory.{nodeAt, nodesIn, windowsIn, rangesIn, testsIn, outcomesIn, testAt}
 use Rattle.machine.specs.Contracts.{Room, Other, Formed}
 use Rattle.machine.proofs.Tables.{room-same, within-more, meaning-kept}
@@ -28,7 +29,7 @@ use Rattle.paths.proofs.Choosing.{test-same, tests-same}
 
 -- ---- what stays where a range is written
 
-module _ {m m′ : List ℕ} (n : ℕ) (o : Other m m′ (1205 + 12 * n) (1207 + 12 * n)) where
+module _ {m m′ : List ℕ} (n : ℕ) (o : Other m m′ (rangeLow n) (rangeEnd n)) where
   pub range-machinery : Machinery m m′
   range-machinery = record { low = λ k l. o .outside k (λ u v. omega arith); tables = λ k j x y. o .outside k (λ u v. omega arith) }
 
@@ -48,11 +49,11 @@ module _ {m m′ : List ℕ} (n : ℕ) (o : Other m m′ (1205 + 12 * n) (1207 +
   range-tests t = tests-same m m′ t (λ j l. range-test j)
 
   pub range-outcomes : (i f : ℕ) → outcomesIn m′ i f ≡ outcomesIn m i f
-  range-outcomes i f = outcomes-same m m′ i f (λ j a b. o .outside (1211 + 12 * j) (λ u v. omega arith))
+  range-outcomes i f = outcomes-same m m′ i f (λ j a b. o .outside (outcomePlace j) (λ u v. omega arith))
 
 -- ---- what stays where windows are written
 
-module _ {m m′ : List ℕ} (o : Other m m′ 1120 1136) where
+module _ {m m′ : List ℕ} (o : Other m m′ windowsPlace windowsEnd) where
   pub window-machinery : Machinery m m′
   window-machinery = record { low = λ k l. o .outside k (λ u v. omega arith); tables = λ k j x y. o .outside k (λ u v. omega arith) }
 
@@ -63,7 +64,7 @@ module _ {m m′ : List ℕ} (o : Other m m′ 1120 1136) where
   window-nodes i = nodes-same m m′ i (λ j l. window-node j)
 
   pub window-ranges : (n : ℕ) → rangesIn m′ n ≡ rangesIn m n
-  window-ranges n = ranges-same m m′ n (λ j l. rw (o .outside (1205 + 12 * j) (λ u v. omega arith), o .outside (1206 + 12 * j) (λ u v. omega arith)) refl)
+  window-ranges n = ranges-same m m′ n (λ j l. rw (o .outside (rangeLow j) (λ u v. omega arith), o .outside (rangeHigh j) (λ u v. omega arith)) refl)
 
   pub window-test : (j : ℕ) → testAt m′ j ≡ testAt m j
   window-test j = test-same m m′ j (λ i a b. o .outside i (λ u v. omega arith))
@@ -72,7 +73,7 @@ module _ {m m′ : List ℕ} (o : Other m m′ 1120 1136) where
   window-tests t = tests-same m m′ t (λ j l. window-test j)
 
   pub window-outcomes : (i f : ℕ) → outcomesIn m′ i f ≡ outcomesIn m i f
-  window-outcomes i f = outcomes-same m m′ i f (λ j a b. o .outside (1211 + 12 * j) (λ u v. omega arith))
+  window-outcomes i f = outcomes-same m m′ i f (λ j a b. o .outside (outcomePlace j) (λ u v. omega arith))
 
 -- ---- tests with more nodes
 
@@ -85,12 +86,17 @@ tests-grow m n n′ l zero h = refl
 tests-grow m n n′ l (suc t) h =
     let x = h t (omega arith) in
     ap₂ (λ (y : Test) (ys : List Test). y ∷ ys)
-    (λ i. record { compare = testAt m t .compare; left = meaning-kept {m = m} {m′ = m} {n = n} kept-none n′ l (testAt m t .left) (x .left) i; right = meaning-kept {m = m} {m′ = m} {n = n} kept-none n′ l (testAt m t .right) (x .right) i })
+    (λ i. record {
+      compare = testAt m t .compare;
+      left = meaning-kept {m = m} {m′ = m} {n = n} kept-none n′ l (testAt m t .left) (x .left) i;
+      right = meaning-kept {m = m} {m′ = m} {n = n} kept-none n′ l (testAt m t .right) (x .right) i;
+    })
     (tests-grow m n n′ l t (λ j g. h j (omega arith)))
 
 -- ---- one node more
 
-pub tables-more : (m m′ : List ℕ) (k n : ℕ) → k ≤ 8 → Room m (n + 1) → length m′ ≡ length m → Windows (windowsIn m k) → ((j : ℕ) → j < n → Named k (nodeAt m j)) → Named k (nodeAt m n) → rangesIn m n ≡ ranges (windowsIn m k) (nodesIn m n) → Ranged m m′ k n
+pub tables-more : (m m′ : List ℕ) (k n : ℕ) → k ≤ 8 → Room m (n + 1) → length m′ ≡ length m → Windows (windowsIn m k) → ((j : ℕ) → j < n → Named k (nodeAt m j)) → Named k (nodeAt m n)
+    → rangesIn m n ≡ ranges (windowsIn m k) (nodesIn m n) → Ranged m m′ k n
     → Tables m′ k (n + 1)
 unfolding nodesIn
 tables-more m m′ k n c r len some old new is h = record {

@@ -2,11 +2,11 @@
 use mathlib.Core.Path.{_≡_, refl, sym, ap, ap₂, _∙_, subst}
 use mathlib.Core.Bool.{Bool, false}
 use mathlib.Core.List.{List, map}
-use Prim.Native.Nat.{ℕ, zero, suc, _+_, _-_, _*_, _≤_, _<_}
+use Prim.Native.Nat.{ℕ, zero, suc, _+_, _-_, _≤_, _<_}
 use native.Mathlib.Omega.{arith}
 use lib.ListN.{length}
 use Rattle.semantics.specs.Run.{Window}
-use Rattle.semantics.specs.Search.{Value, known, work, byRanges}
+use Rattle.semantics.specs.Search.{Value, known, work, inUse}
 use Rattle.simulation.specs.Code.{Code}
 use Rattle.simulation.specs.Machine.{Machine, Doing, advance}
 use Rattle.simulation.specs.Path.{State, state, Turn, returned, failed, cut, on, ended, still, turning, turn}
@@ -14,6 +14,7 @@ use Rattle.simulation.specs.Nodes.{Cell, testOf, meaning, ranges}
 use Rattle.simulation.proofs.Bounds.{Framed, Sound}
 use Rattle.simulation.proofs.Drive as drive
 use Rattle.simulation.proofs.Drive.{turns-left, Nears, Nearer, turn-nears}
+use Rattle.machine.specs.Layout.{frameCells, framePlace}
 use Rattle.machine.specs.Memory.{nodesIn, cells, callers, machineAt, windowsIn, testsIn, outcomesIn, testAt}
 use Rattle.ints.specs.Numbers.{comparison}
 use Rattle.machine.specs.Contracts.{meant, Room, Kept, Ready, Goes, Gave, Tested, flagged, Done}
@@ -39,7 +40,8 @@ use Rattle.paths.proofs.Choosing.{test-same}
 
 module _ {m m′ : List ℕ} (p : Point) (s : Kept m m′ (p .run .nodes)) where
   pub state-kept : stateAt m′ p ≡ stateAt m p
-  state-kept = λ i. state (p .steps) (8 - p .windows) (windows-kept s (p .windows) i) (map (testOf (nodes-kept s (p .run .nodes) (omega arith) i)) (tests-kept s (p .choices) i)) (outcomes-kept s (p .choices) (p .forced) i) (outcomes-kept s 0 (p .choices) i)
+  state-kept = λ i. state (p .steps) (8 - p .windows) (windows-kept s (p .windows) i) (map (testOf (nodes-kept s (p .run .nodes) (omega arith) i)) (tests-kept s (p .choices) i))
+      (outcomes-kept s (p .choices) (p .forced) i) (outcomes-kept s 0 (p .choices) i)
 
   pub standing-kept : length m′ ≡ length m → Standing m p → Standing m′ p
   standing-kept len h = record {
@@ -59,29 +61,29 @@ growing-kept g = record { more = g .more; one = g .grows; formed = g .formed }
 -- ---- a turn is what the entry did
 
 module _ (job : Window) (c : Code) (x : Machine Value) (s : State) where
-  pub turn-is : (d : Doing Value) (s′ : State) → advance known work c x ≡ d → s′ ≡ s → turning byRanges job d s′ ≡ turn byRanges job c x s
+  pub turn-is : (d : Doing Value) (s′ : State) → advance known work c x ≡ d → s′ ≡ s → turning inUse job d s′ ≡ turn inUse job c x s
   unfolding turn
-  turn-is d s′ e f = ap₂ (turning byRanges job) (sym e) f
+  turn-is d s′ e f = ap₂ (turning inUse job) (sym e) f
 
-silent-is : (job : Window) (x : Machine Value) (s : State) → turning byRanges job (Doing.silent x) s ≡ still (on x s)
+silent-is : (job : Window) (x : Machine Value) (s : State) → turning inUse job (Doing.silent x) s ≡ still (on x s)
 unfolding turning
 silent-is job x s = refl
 
-returned-is : (job : Window) (v : Value) (s : State) → turning byRanges job (Doing.returned v) s ≡ still (ended (returned v) s)
+returned-is : (job : Window) (v : Value) (s : State) → turning inUse job (Doing.returned v) s ≡ still (ended (returned v) s)
 unfolding turning
 returned-is job v s = refl
 
-failed-is : (job : Window) (s : State) → turning byRanges job Doing.failed s ≡ still (ended failed s)
+failed-is : (job : Window) (s : State) → turning inUse job Doing.failed s ≡ still (ended failed s)
 unfolding turning
 failed-is job s = refl
 
-cut-is : (job : Window) (s : State) → turning byRanges job Doing.cut s ≡ still (ended cut s)
+cut-is : (job : Window) (s : State) → turning inUse job Doing.cut s ≡ still (ended cut s)
 unfolding turning
 cut-is job s = refl
 
 module _ (m : List ℕ) (p : Point) (job : Window) (c : Code) (h : Standing m p) where
   abbrev here : Turn
-  here = turn byRanges job c (machineAt m (p .run)) (stateAt m p)
+  here = turn inUse job c (machineAt m (p .run)) (stateAt m p)
 
   abbrev did : Doing Value
   did = advance known work c (machineAt m (p .run))
@@ -93,7 +95,8 @@ module _ (m : List ℕ) (p : Point) (job : Window) (c : Code) (h : Standing m p)
       subst (Onward here m′ p false) (sym e) (record {
         is = sym (turn-is job c (machineAt m (p .run)) (stateAt m p) (Doing.silent (machineAt m′ r)) (stateAt m′ p) (g .is) (state-kept p (g .kept)))
             ∙ silent-is job (machineAt m′ r) (stateAt m′ p)
-            ∙ (λ i. still (on (machineAt m′ r) (state (p .steps) (8 - p .windows) (windowsIn m′ (p .windows)) (map (testOf (nodesIn m′ (n i))) (testsIn m′ (p .choices))) (outcomesIn m′ (p .choices) (p .forced)) (outcomesIn m′ 0 (p .choices)))));
+            ∙ (λ i. still (on (machineAt m′ r) (state (p .steps) (8 - p .windows) (windowsIn m′ (p .windows)) (map (testOf (nodesIn m′ (n i))) (testsIn m′ (p .choices)))
+            (outcomesIn m′ (p .choices) (p .forced)) (outcomesIn m′ 0 (p .choices)))));
         ready = g .ready;
         standing = record { tables = subst (Tables m′ (p .windows)) n (k .tables); tested = λ j l. subst (λ (x : ℕ). point.Tested x (testAt m′ j)) n (k .tested j l) };
         lighter = omega arith;
@@ -102,15 +105,21 @@ module _ (m : List ℕ) (p : Point) (job : Window) (c : Code) (h : Standing m p)
 
   pub returned-stops : (m′ : List ℕ) (v : code.Value) → Gave did m (p .run .nodes) m′ v → Gives here m′ p v
   returned-stops m′ v g = subst (λ (l : List ℕ). Gives here l p v) (sym (g .same)) (record {
-    stops = record { is = sym (turn-is job c (machineAt m (p .run)) (stateAt m p) (Doing.returned (meant m (p .run .nodes) v)) (stateAt m p) (g .is) refl) ∙ returned-is job (meant m (p .run .nodes) v) (stateAt m p); standing = h };
+    stops = record {
+      is = sym (turn-is job c (machineAt m (p .run)) (stateAt m p) (Doing.returned (meant m (p .run .nodes) v)) (stateAt m p) (g .is) refl)
+          ∙ returned-is job (meant m (p .run .nodes) v) (stateAt m p);
+      standing = h;
+    };
     usable = record { sized = g .sized; within = g .within };
   })
 
   pub failed-stops : (m′ : List ℕ) → did ≡ Doing.failed → m′ ≡ m → Stops here m′ p failed
-  failed-stops m′ e f = subst (λ (l : List ℕ). Stops here l p failed) (sym f) (record { is = sym (turn-is job c (machineAt m (p .run)) (stateAt m p) Doing.failed (stateAt m p) e refl) ∙ failed-is job (stateAt m p); standing = h })
+  failed-stops m′ e f = subst (λ (l : List ℕ). Stops here l p failed) (sym f)
+      (record { is = sym (turn-is job c (machineAt m (p .run)) (stateAt m p) Doing.failed (stateAt m p) e refl) ∙ failed-is job (stateAt m p); standing = h })
 
   pub cut-stops : (m′ : List ℕ) → did ≡ Doing.cut → m′ ≡ m → Stops here m′ p cut
-  cut-stops m′ e f = subst (λ (l : List ℕ). Stops here l p cut) (sym f) (record { is = sym (turn-is job c (machineAt m (p .run)) (stateAt m p) Doing.cut (stateAt m p) e refl) ∙ cut-is job (stateAt m p); standing = h })
+  cut-stops m′ e f = subst (λ (l : List ℕ). Stops here l p cut) (sym f)
+      (record { is = sym (turn-is job c (machineAt m (p .run)) (stateAt m p) Doing.cut (stateAt m p) e refl) ∙ cut-is job (stateAt m p); standing = h })
 
 -- ---- how much the machine holds
 
@@ -128,13 +137,13 @@ module _ {X : Type 0} (f : Cell → X) (m : List ℕ) where
   callers-framed : (d top : ℕ) → Framed (callers f m d top)
   unfolding callers
   callers-framed zero top = tt
-  callers-framed (suc d) top = (cells-length (32 * d) 16, callers-framed d _)
+  callers-framed (suc d) top = (cells-length (framePlace d) frameCells, callers-framed d _)
 
 pub sound-of : (m : List ℕ) (r : Run) → Ready m r → Sound (r .top + r .depth) (machineAt m r)
 sound-of m r h = record {
   few = omega (arith, held-is m r h);
   nested = omega (arith, callers-length (meaning (nodesIn m (r .nodes))) m (r .depth) (r .base), h .deep);
-  framed = cells-length (meaning (nodesIn m (r .nodes))) m (32 * r .depth) 16;
+  framed = cells-length (meaning (nodesIn m (r .nodes))) m (framePlace (r .depth)) frameCells;
   frames = callers-framed (meaning (nodesIn m (r .nodes))) m (r .depth) (r .base);
 }
 
@@ -142,13 +151,15 @@ pub kept-of : (c : Code) (m : List ℕ) (p : Point) → Ready m (p .run) → dri
 kept-of c m p h = record { made = p .run .top + p .run .depth; limit = refl; sound = sound-of m (p .run) h }
 
 -- after a turn the end is nearer
-pub nearer-of : (job : Window) (c : Code) (m m′ : List ℕ) (p q : Point) (o : Bool) → Ready m (p .run) → turn byRanges job c (machineAt m (p .run)) (stateAt m p) ≡ record { move = o; went = on (machineAt m′ (q .run)) (stateAt m′ q) }
+pub nearer-of : (job : Window) (c : Code) (m m′ : List ℕ) (p q : Point) (o : Bool) → Ready m (p .run) → turn inUse job c (machineAt m (p .run)) (stateAt m p)
+    ≡ record { move = o; went = on (machineAt m′ (q .run)) (stateAt m′ q) }
     → Nearer c (p .run .top + p .run .depth + p .steps) (turns-left c (machineAt m (p .run)) (stateAt m p)) (machineAt m′ (q .run)) (stateAt m′ q)
 nearer-of job c m m′ p q o h e =
     subst (Nears c (p .run .top + p .run .depth + p .steps) (turns-left c (machineAt m (p .run)) (stateAt m p))) (ap (λ (t : Turn). t .went) e)
-    (turn-nears c byRanges job (p .run .top + p .run .depth + p .steps) (machineAt m (p .run)) (stateAt m p) (kept-of c m p h))
+    (turn-nears c inUse job (p .run .top + p .run .depth + p .steps) (machineAt m (p .run)) (stateAt m p) (kept-of c m p h))
 
-pub onwards : (job : Window) (c : Code) (m m′ : List ℕ) (p : Point) (r : Turned) → Going m p → length m′ ≡ length m → Turning (turn byRanges job c (machineAt m (p .run)) (stateAt m p)) m′ p r → Onwards m′ r
+pub onwards : (job : Window) (c : Code) (m m′ : List ℕ) (p : Point) (r : Turned) → Going m p → length m′ ≡ length m
+    → Turning (turn inUse job c (machineAt m (p .run)) (stateAt m p)) m′ p r → Onwards m′ r
 onwards job c m m′ p (On o q) g len h =
     let k = nearer-of job c m m′ p q o (g .ready) (h .is) .kept in
     let t : q .run .top + q .run .depth ≤ k .made = tops-le m′ (q .run) (k .made) (h .ready) (k .sound) in
@@ -170,10 +181,12 @@ pub done-as : (d : Doing Value) (m : List ℕ) (n : ℕ) (m′ : List ℕ) (k : 
 done-as d m n m′ k x y e h = subst (λ (z : Did). Done d m n m′ k z) e h
 
 module _ (m : List ℕ) (p : Point) (job : Window) (c : Code) (g : Going m p) where
-  pub turned : (m₁ m₂ : List ℕ) (r : Turned) (d : Doing Value) → Kept m m₁ (p .run .nodes) → length m₂ ≡ length m → advance known work c (machineAt m (p .run)) ≡ d → Turning (turning byRanges job d (stateAt m₁ p)) m₂ p r
-      → Turning (turn byRanges job c (machineAt m (p .run)) (stateAt m p)) m₂ p r × Onwards m₂ r
+  pub turned : (m₁ m₂ : List ℕ) (r : Turned) (d : Doing Value) → Kept m m₁ (p .run .nodes) → length m₂ ≡ length m → advance known work c (machineAt m (p .run)) ≡ d
+      → Turning (turning inUse job d (stateAt m₁ p)) m₂ p r
+      → Turning (turn inUse job c (machineAt m (p .run)) (stateAt m p)) m₂ p r × Onwards m₂ r
   turned m₁ m₂ r d k len e h =
-      let t : Turning (turn byRanges job c (machineAt m (p .run)) (stateAt m p)) m₂ p r = subst (λ (t : Turn). Turning t m₂ p r) (turn-is job c (machineAt m (p .run)) (stateAt m p) d (stateAt m₁ p) e (state-kept p k)) h in
+      let t : Turning (turn inUse job c (machineAt m (p .run)) (stateAt m p)) m₂ p r = subst (λ (t : Turn). Turning t m₂ p r)
+      (turn-is job c (machineAt m (p .run)) (stateAt m p) d (stateAt m₁ p) e (state-kept p k)) h in
       (t, onwards job c m m₂ p r g len t)
 
   pub test-asked : (m₁ : List ℕ) (o : ℕ) (v w : code.Value) (r : Run) → Tested (advance known work c (machineAt m (p .run))) m (p .run .nodes) m₁ o v w r
@@ -189,8 +202,9 @@ module _ (m : List ℕ) (p : Point) (job : Window) (c : Code) (g : Going m p) wh
   )
 
   pub test-turned : (m₁ m₂ : List ℕ) (r : Turned) (o : ℕ) (v w : code.Value) (run : Run) → length m₂ ≡ length m → Tested (advance known work c (machineAt m (p .run))) m (p .run .nodes) m₁ o v w run
-      → Turning (turning byRanges job (Doing.test (comparison o) (meant m₁ (p .run .nodes) v) (meant m₁ (p .run .nodes) w) (λ b. machineAt m₁ (flagged run b))) (stateAt m₁ p)) m₂ p r
-      → Turning (turn byRanges job c (machineAt m (p .run)) (stateAt m p)) m₂ p r × Onwards m₂ r
+      → Turning (turning inUse job (Doing.test (comparison o) (meant m₁ (p .run .nodes) v) (meant m₁ (p .run .nodes) w) (λ b. machineAt m₁ (flagged run b))) (stateAt m₁ p)) m₂ p r
+      → Turning (turn inUse job c (machineAt m (p .run)) (stateAt m p)) m₂ p r × Onwards m₂ r
   test-turned m₁ m₂ r o v w run len t h =
       turned m m₂ r (Doing.test (comparison o) (meant m (p .run .nodes) v) (meant m (p .run .nodes) w) (λ b. machineAt m (flagged run b))) kept-none len (t .is)
-      (subst (λ (l : List ℕ). Turning (turning byRanges job (Doing.test (comparison o) (meant l (p .run .nodes) v) (meant l (p .run .nodes) w) (λ b. machineAt l (flagged run b))) (stateAt l p)) m₂ p r) (t .same) h)
+      (subst (λ (l : List ℕ). Turning (turning inUse job (Doing.test (comparison o) (meant l (p .run .nodes) v) (meant l (p .run .nodes) w) (λ b. machineAt l (flagged run b)))
+      (stateAt l p)) m₂ p r) (t .same) h)

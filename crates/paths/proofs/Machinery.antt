@@ -7,6 +7,7 @@ use native.Mathlib.Omega.{arith}
 use lib.ListN.{length, getD}
 use Rattle.simulation.specs.Machine.{machine}
 use Rattle.simulation.specs.Nodes.{Cell, Within, meaning}
+use Rattle.machine.specs.Layout.{frameCells, framePlace, callerPlace, callerBase, windowsPlace, tempPlace}
 use Rattle.machine.specs.Memory.{cellAs, cellAt, nodesIn, cells, temps, callers, machineIn, machineAt}
 use Rattle.machine.specs.Contracts.{Stacked, Ready, flagged}
 use Rattle.machine.specs.declared.Run.{Run}
@@ -18,21 +19,21 @@ pub machinery-then : {m m₁ m₂ : List ℕ} → Machinery m m₁ → Machinery
 machinery-then a b = record { low = λ k l. b .low k l ∙ a .low k l; tables = λ k j x y. b .tables k j x y ∙ a .tables k j x y }
 
 module _ {m m′ : List ℕ} (s : Machinery m m′) where
-  low-cell : (i : ℕ) → i + 1 < 1120 → cellAt m′ i ≡ cellAt m i
+  low-cell : (i : ℕ) → i + 1 < windowsPlace → cellAt m′ i ≡ cellAt m i
   low-cell i l = ap₂ cellAs (s .low i (omega arith)) (s .low (i + 1) l)
 
-  held-cell : (j : ℕ) → cellAt m′ (1200 + 12 * j) ≡ cellAt m (1200 + 12 * j)
-  held-cell j = ap₂ cellAs (s .tables (1200 + 12 * j) j (omega arith) (omega arith)) (s .tables (1200 + 12 * j + 1) j (omega arith) (omega arith))
+  held-cell : (j : ℕ) → cellAt m′ (tempPlace j) ≡ cellAt m (tempPlace j)
+  held-cell j = ap₂ cellAs (s .tables (tempPlace j) j (omega arith) (omega arith)) (s .tables (tempPlace j + 1) j (omega arith) (omega arith))
 
   pub nodes-stay : (n : ℕ) → nodesIn m′ n ≡ nodesIn m n
   nodes-stay n = nodes-same m m′ n (λ j l. node-same m m′ j (λ i x y. s .tables i j (omega arith) (omega arith)))
 
   stacked-stays : (d b : ℕ) → d ≤ 32 → Stacked m d b → Stacked m′ d b
   stacked-stays zero b l h = h
-  stacked-stays (suc d) b l h = rw (s .low (1057 + 2 * d) (omega arith)) (h .0, stacked-stays d (getD m (1057 + 2 * d) 0) (omega arith) (h .1))
+  stacked-stays (suc d) b l h = rw (s .low (callerBase d) (omega arith)) (h .0, stacked-stays d (getD m (callerBase d) 0) (omega arith) (h .1))
 
   module _ {X : Type 0} (f : Cell → X) where
-    cells-stay : (i k : ℕ) → i + 2 * k ≤ 1120 → cells f m′ i k ≡ cells f m i k
+    cells-stay : (i k : ℕ) → i + 2 * k ≤ windowsPlace → cells f m′ i k ≡ cells f m i k
     unfolding cells
     cells-stay i zero l = refl
     cells-stay i (suc k) l = ap₂ (λ (x : X) (xs : List X). x ∷ xs) (ap f (low-cell i (omega arith))) (cells-stay (i + 2) k (omega arith))
@@ -46,12 +47,13 @@ module _ {m m′ : List ℕ} (s : Machinery m m′) where
     unfolding callers
     callers-stay zero top l = refl
     callers-stay (suc d) top l =
-        let b = getD m (1057 + 2 * d) 0 in
-        rw (s .low (1056 + 2 * d) (omega arith), s .low (1057 + 2 * d) (omega arith))
-        (λ i. record { pc = getD m (1056 + 2 * d) 0; temps = temps-stay b (top - b) i; frame = cells-stay (32 * d) 16 (omega arith) i } ∷ callers-stay d b (omega arith) i)
+        let b = getD m (callerBase d) 0 in
+        rw (s .low (callerPlace d) (omega arith), s .low (callerBase d) (omega arith))
+        (λ i. record { pc = getD m (callerPlace d) 0; temps = temps-stay b (top - b) i; frame = cells-stay (framePlace d) frameCells (omega arith) i } ∷ callers-stay d b (omega arith) i)
 
     machine-in : (r : Run) → r .depth ≤ 32 → machineIn f m′ r ≡ machineIn f m r
-    machine-in r l = λ i. machine (r .pc) (r .flag) (temps-stay (r .base) (r .top - r .base) i) (cells-stay (32 * r .depth) 16 (omega arith) i) (callers-stay (r .depth) (r .base) l i) (32 - r .depth)
+    machine-in r l = λ i. machine (r .pc) (r .flag) (temps-stay (r .base) (r .top - r .base) i) (cells-stay (framePlace (r .depth)) frameCells (omega arith) i)
+        (callers-stay (r .depth) (r .base) l i) (32 - r .depth)
 
   pub machine-stays : (r : Run) → r .depth ≤ 32 → machineAt m′ r ≡ machineAt m r
   machine-stays r l = ap (λ ns. machineIn (meaning ns) m′ r) (nodes-stay (r .nodes)) ∙ machine-in (meaning (nodesIn m (r .nodes))) r l

@@ -29,6 +29,7 @@ use Rattle.ranges.proofs.Ranges.{filled, ordered}
 use Rattle.narrowing.proofs.Pairs.{pairs-more}
 use Rattle.narrowing.proofs.Sides.{stands-range, narrowed-by}
 use Rattle.window_memory.proofs.Stored.{Ends, put-below, put-above, put-load}
+use Rattle.machine.specs.Layout.{windowsPlace, windowsEnd, tablesPlace}
 use Rattle.machine.specs.Memory.{nodeAt, nodesIn, windowsIn, rangesIn}
 use Rattle.machine.specs.Contracts.{cellOf, meant, Other}
 use Rattle.machine.specs.declared.Value as code
@@ -58,25 +59,26 @@ ends ws us p = record { low = λ i. pairs-fit ws us i 0 p; high = λ i. pairs-fi
 -- ---- windows put back
 
 module _ (m : List ℕ) (ws : List (List ℤ)) (eight : length ws ≡ 8) where
-  stored-other : Other m (putPairs m 1120 ws) 1120 1136
-  stored-other = record { outside = λ i h. by i h (decLt i 1120) (decLt i 1136) }
+  stored-other : Other m (putPairs m windowsPlace ws) windowsPlace windowsEnd
+  stored-other = record { outside = λ i h. by i h (decLt i windowsPlace) (decLt i windowsEnd) }
     where
-      by : (i : ℕ) → (1120 ≤ i → i < 1136 → ⊥) → Dec (i < 1120) → Dec (i < 1136) → getD (putPairs m 1120 ws) i 0 ≡ getD m i 0
-      by i h (yes a) b = put-below m 1120 i ws a
+      by : (i : ℕ) → (windowsPlace ≤ i → i < windowsEnd → ⊥) → Dec (i < windowsPlace) → Dec (i < windowsEnd) → getD (putPairs m windowsPlace ws) i 0 ≡ getD m i 0
+      by i h (yes a) b = put-below m windowsPlace i ws a
       by i h (no a) (yes b) = absurd (h (omega arith) b)
-      by i h (no a) (no b) = put-above m 1120 i ws (omega arith)
+      by i h (no a) (no b) = put-above m windowsPlace i ws (omega arith)
 
-  stored-windows : (k : ℕ) → 1200 ≤ length m → Ends ws → windowsIn (putPairs m 1120 ws) k ≡ take k (ofPairs ws)
-  stored-windows k l e = ap (take k) (ap (λ (n : ℕ). ofPairs (pairsAt (putPairs m 1120 ws) 1120 n)) (sym eight) ∙ put-load m 1120 ws (omega arith) e)
+  stored-windows : (k : ℕ) → tablesPlace ≤ length m → Ends ws → windowsIn (putPairs m windowsPlace ws) k ≡ take k (ofPairs ws)
+  stored-windows k l e = ap (take k) (ap (λ (n : ℕ). ofPairs (pairsAt (putPairs m windowsPlace ws) windowsPlace n)) (sym eight) ∙ put-load m windowsPlace ws (omega arith) e)
 
 -- one more
-pub reached : (m m′ : List ℕ) (ws : List (List ℤ)) (k : ℕ) (p : List ℤ) (job : Window) → k < 8 → 1200 ≤ length m → m′ ≡ putPairs m 1120 ws → ws ≡ set (pairsAt m 1120 8) k p → ofPair p ≡ job → length ws ≡ 8 → Ends ws → Reached m m′ job k
+pub reached : (m m′ : List ℕ) (ws : List (List ℤ)) (k : ℕ) (p : List ℤ) (job : Window) → k < 8 → tablesPlace ≤ length m → m′ ≡ putPairs m windowsPlace ws → ws ≡ set (pairsAt m windowsPlace 8) k p
+    → ofPair p ≡ job → length ws ≡ 8 → Ends ws → Reached m m′ job k
 unfolding pairsAt
 reached m m′ ws k p job l h q r e n f = subst (λ (m′ : List ℕ). Reached m m′ job k) (sym q) (record {
   other = stored-other m ws n;
   is = stored-windows m ws n (k + 1) h f
       ∙ ap₂ (λ (j : ℕ) (us : List (List ℤ)). take j (ofPairs us)) (add-one k) r
-      ∙ pairs-more (pairsAt m 1120 8) k p l
+      ∙ pairs-more (pairsAt m windowsPlace 8) k p l
       ∙ ap (λ (w : Window). windowsIn m k ++ w ∷ []) e;
 })
 
@@ -84,7 +86,7 @@ reached m m′ ws k p job l h q r e n f = subst (λ (m′ : List ℕ). Reached m
 
 module _ (m : List ℕ) (k n : ℕ) (t : Tables m k n) where
   abbrev ps : List Window
-  ps = ofPairs (pairsAt m 1120 8)
+  ps = ofPairs (pairsAt m windowsPlace 8)
 
   pub range-is : (v : code.Value) → rangeIn (rangesIn m n) (cellOf v) ≡ range (windowsIn m k) (meant m n v)
   range-is v = ap (λ (rs : List Window). rangeIn rs (cellOf v)) (t .is) ∙ range-ok (windowsIn m k) (nodesIn m n) (cellOf v)
@@ -110,24 +112,28 @@ module _ (m : List ℕ) (k n : ℕ) (t : Tables m k n) where
     some-left : Windows (narrowed c (meant m n v) (meant m n w) (windowsIn m k))
     some-left = record {
       some = λ i. filled (getD (narrowed c (meant m n v) (meant m n w) (windowsIn m k)) i all32)
-          (never-empty c (meant m n v) (meant m n w) (windowsIn m k) (λ j. ordered (getD (windowsIn m k) j all32) (t .some .some j)) (ap₂ (decided c) (sym (range-is v)) (sym (range-is w)) ∙ u .is) .0 i);
+          (never-empty c (meant m n v) (meant m n w) (windowsIn m k) (λ j. ordered (getD (windowsIn m k) j all32) (t .some .some j))
+          (ap₂ (decided c) (sym (range-is v)) (sym (range-is w)) ∙ u .is) .0 i);
     }
 
     -- neither side narrows a window
-    pub narrowed-none : (r q : win.Window) → ofWindow r ≡ rangeIn (rangesIn m n) (cellOf w) → ofWindow q ≡ rangeIn (rangesIn m n) (cellOf v) → ((c : Cmp) (ws : List Window) → clipped c (variableOf a) (ofWindow r) ws ≡ ws)
+    pub narrowed-none : (r q : win.Window) → ofWindow r ≡ rangeIn (rangesIn m n) (cellOf w) → ofWindow q ≡ rangeIn (rangesIn m n) (cellOf v)
+        → ((c : Cmp) (ws : List Window) → clipped c (variableOf a) (ofWindow r) ws ≡ ws)
         → ((c : Cmp) (ws : List Window) → clipped c (variableOf b) (ofWindow q) ws ≡ ws) → Narrowed m m k n c v w
     narrowed-none r q e f h g = record {
       beside = record { other = λ i x y. refl };
-      windows = ap (take k) (sym (ap₂ (λ (z : Window) (ws : List Window). clipped (mirrored c) (variableOf b) z ws) (side-range a v sa ∙ sym f) (ap (λ (z : Window). clipped c (variableOf a) z ps) (side-range b w sb ∙ sym e) ∙ h c ps) ∙ g (mirrored c) ps)) ∙ by-values;
+      windows = ap (take k) (sym (ap₂ (λ (z : Window) (ws : List Window). clipped (mirrored c) (variableOf b) z ws) (side-range a v sa ∙ sym f)
+          (ap (λ (z : Window). clipped c (variableOf a) z ps) (side-range b w sb ∙ sym e) ∙ h c ps) ∙ g (mirrored c) ps)) ∙ by-values;
       tables = t;
     }
 
-    module _ (m₁ : List ℕ) (ls us : List (List ℤ)) (long : 1200 ≤ length m) (put : m₁ ≡ putPairs m 1120 us) (loaded : ls ≡ pairsAt m 1120 8) (is : ofPairs us ≡ narrowedBy c a b (ofPairs ls)) (eight : length us ≡ 8) (e : Ends us) where
+    module _ (m₁ : List ℕ) (ls us : List (List ℤ)) (long : tablesPlace ≤ length m) (put : m₁ ≡ putPairs m windowsPlace us) (loaded : ls ≡ pairsAt m windowsPlace 8)
+        (is : ofPairs us ≡ narrowedBy c a b (ofPairs ls)) (eight : length us ≡ 8) (e : Ends us) where
       put-windows : windowsIn m₁ k ≡ narrowed c (meant m n v) (meant m n w) (windowsIn m k)
       put-windows = ap (λ (l : List ℕ). windowsIn l k) put ∙ stored-windows m us eight k long e ∙ ap (take k) (is ∙ ap (λ (l : List (List ℤ)). narrowedBy c a b (ofPairs l)) loaded) ∙ by-values
 
-      put-other : Other m m₁ 1120 1136
-      put-other = subst (λ (l : List ℕ). Other m l 1120 1136) (sym put) (stored-other m us eight)
+      put-other : Other m m₁ windowsPlace windowsEnd
+      put-other = subst (λ (l : List ℕ). Other m l windowsPlace windowsEnd) (sym put) (stored-other m us eight)
 
       pub put-some : Windows (windowsIn m₁ k)
       put-some = subst Windows (sym put-windows) some-left

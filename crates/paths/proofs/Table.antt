@@ -2,7 +2,7 @@
 use mathlib.Core.Path.{_≡_, refl, sym, ap, ap₂, _∙_, subst}
 use mathlib.Core.List.{List, [], _∷_, _++_}
 use mathlib.Core.Logic.{⊎-elim, _≢_}
-use Prim.Native.Nat.{ℕ, zero, suc, _+_, _*_, _/_, _%_, _≤_, _<_}
+use Prim.Native.Nat.{ℕ, zero, suc, _+_, _*_, _≤_, _<_}
 use native.Mathlib.Nat.{eq-or-lt-of-le}
 use native.Mathlib.Numerals.{add-one}
 use native.Mathlib.Omega.{arith}
@@ -20,6 +20,8 @@ use Rattle.ints.specs.Numbers as numbers
 use Rattle.intervals.specs.Meaning.{ofPair, Filled, ofPairs}
 use Rattle.window_memory.specs.Memory.{pairAt, pairsAt}
 use Rattle.ranges.proofs.Ranges.{filled, ordered}
+use Rattle.machine.specs.Kinds.{nodeOp, leftOpen, rightOpen}
+use Rattle.machine.specs.Layout.{windowsPlace, windowLow, windowHigh, windowsEnd, nodePlace, nodeLeft, nodeRight, nodeEnd, rangeLow, rangeHigh}
 use Rattle.machine.specs.Memory.{cellAs, nodeBy, nodeAt, nodesIn, windowsIn, rangesIn}
 use Rattle.machine.specs.Contracts.{Room}
 use Rattle.paths.specs.Table.{rangeAt, Ranging, Ranged, Windows, Anew}
@@ -32,15 +34,15 @@ pairs-get m k zero i h = absurd (omega arith)
 pairs-get m k (suc n) zero h = ap (λ (j : ℕ). ofPair (pairAt m j)) {x = k} {y = k + 2 * 0} (omega arith)
 pairs-get m k (suc n) (suc i) h = pairs-get m (k + 2) n i (omega arith) ∙ ap (λ (j : ℕ). ofPair (pairAt m j)) {x = k + 2 + 2 * i} {y = k + 2 * suc i} (omega arith)
 
-pub windows-get : (m : List ℕ) (k i : ℕ) → k ≤ 8 → i < k → getD (windowsIn m k) i all32 ≡ to (toZ w32 (getD m (1120 + 2 * i) 0)) (toZ w32 (getD m (1121 + 2 * i) 0))
+pub windows-get : (m : List ℕ) (k i : ℕ) → k ≤ 8 → i < k → getD (windowsIn m k) i all32 ≡ to (toZ w32 (getD m (windowLow i) 0)) (toZ w32 (getD m (windowHigh i) 0))
 windows-get m k i l h =
-    getD-take k (ofPairs (pairsAt m 1120 8)) i all32 h
-    ∙ pairs-get m 1120 8 i (omega arith)
-    ∙ ap (λ (j : ℕ). to (toZ w32 (getD m (1120 + 2 * i) 0)) (toZ w32 (getD m j 0))) {x = 1120 + 2 * i + 1} {y = 1121 + 2 * i} (omega arith)
+    getD-take k (ofPairs (pairsAt m windowsPlace 8)) i all32 h
+    ∙ pairs-get m windowsPlace 8 i (omega arith)
+    ∙ ap (λ (j : ℕ). to (toZ w32 (getD m (windowLow i) 0)) (toZ w32 (getD m j 0))) {x = windowLow i + 1} {y = windowHigh i} (omega arith)
 
 pub windows-none : (m : List ℕ) (k i : ℕ) → k ≤ i → getD (windowsIn m k) i all32 ≡ to (negsuc 2147483647) (pos 2147483647)
 unfolding all32
-windows-none m k i h = List·getD-eq-default (windowsIn m k) all32 {n = i} (omega (arith, length-take k (ofPairs (pairsAt m 1120 8))))
+windows-none m k i h = List·getD-eq-default (windowsIn m k) all32 {n = i} (omega (arith, length-take k (ofPairs (pairsAt m windowsPlace 8))))
 
 pairs-same : (m m′ : List ℕ) (k n : ℕ) → ((i : ℕ) → k ≤ i → i < k + 2 * n → getD m′ i 0 ≡ getD m i 0) → pairsAt m′ k n ≡ pairsAt m k n
 unfolding pairsAt
@@ -49,13 +51,13 @@ pairs-same m m′ k (suc n) h =
     ap₂ (λ (p : List ℤ) (l : List (List ℤ)). p ∷ l) (ap₂ (λ (a b : ℕ). toZ w32 a ∷ toZ w32 b ∷ []) (h k (omega arith) (omega arith)) (h (k + 1) (omega arith) (omega arith)))
     (pairs-same m m′ (k + 2) n (λ i a b. h i (omega arith) (omega arith)))
 
-pub windows-same : (m m′ : List ℕ) (k : ℕ) → ((i : ℕ) → 1120 ≤ i → i < 1136 → getD m′ i 0 ≡ getD m i 0) → windowsIn m′ k ≡ windowsIn m k
-windows-same m m′ k h = ap (λ (l : List (List ℤ)). take k (ofPairs l)) (pairs-same m m′ 1120 8 (λ i a b. h i a (omega arith)))
+pub windows-same : (m m′ : List ℕ) (k : ℕ) → ((i : ℕ) → windowsPlace ≤ i → i < windowsEnd → getD m′ i 0 ≡ getD m i 0) → windowsIn m′ k ≡ windowsIn m k
+windows-same m m′ k h = ap (λ (l : List (List ℤ)). take k (ofPairs l)) (pairs-same m m′ windowsPlace 8 (λ i a b. h i a (omega arith)))
 
 -- ---- nodes
 
-pub node-same : (m m′ : List ℕ) (j : ℕ) → ((i : ℕ) → 1202 + 12 * j ≤ i → i < 1205 + 12 * j → getD m′ i 0 ≡ getD m i 0) → nodeAt m′ j ≡ nodeAt m j
-node-same m m′ j h = rw (h (1202 + 12 * j) (omega arith) (omega arith), h (1203 + 12 * j) (omega arith) (omega arith), h (1204 + 12 * j) (omega arith) (omega arith))
+pub node-same : (m m′ : List ℕ) (j : ℕ) → ((i : ℕ) → nodePlace j ≤ i → i < nodeEnd j → getD m′ i 0 ≡ getD m i 0) → nodeAt m′ j ≡ nodeAt m j
+node-same m m′ j h = rw (h (nodePlace j) (omega arith) (omega arith), h (nodeLeft j) (omega arith) (omega arith), h (nodeRight j) (omega arith) (omega arith))
 
 pub nodes-same : (m m′ : List ℕ) (n : ℕ) → ((j : ℕ) → j < n → nodeAt m′ j ≡ nodeAt m j) → nodesIn m′ n ≡ nodesIn m n
 unfolding nodesIn
@@ -65,7 +67,7 @@ nodes-same m m′ (suc n) h = ap₂ (λ (l : List Node) (x : Node). l ++ x ∷ [
 -- ---- ranges
 
 abbrev pub rangeWords : List ℕ → ℕ → Window
-rangeWords m i = to (toZ w32 (getD m (1205 + 12 * i) 0)) (toZ w32 (getD m (1206 + 12 * i) 0))
+rangeWords m i = to (toZ w32 (getD m (rangeLow i) 0)) (toZ w32 (getD m (rangeHigh i) 0))
 
 ranges-length : (m : List ℕ) (n : ℕ) → length (rangesIn m n) ≡ n
 unfolding rangesIn
@@ -94,23 +96,25 @@ cell-is : (rs : List Window) (free : ℕ → Window) (v : Cell) → cell (λ z. 
 cell-is rs free (Known z) = refl
 cell-is rs free (Open j) = refl
 
+-- the kind of node j, and its two cells
+abbrev pub kind : List ℕ → ℕ → ℕ
+kind m j = getD m (nodePlace j) 0
+
+abbrev pub left : List ℕ → ℕ → Cell
+left m j = cellAs (leftOpen (kind m j)) (getD m (nodeLeft j) 0)
+
+abbrev pub right : List ℕ → ℕ → Cell
+right m j = cellAs (rightOpen (kind m j)) (getD m (nodeRight j) 0)
+
 module _ (m : List ℕ) (k j : ℕ) where
-  abbrev pub kind : ℕ
-  kind = getD m (1202 + 12 * j) 0
+  pub range-free : nodeOp (kind m j) ≡ 0 → getD (windowsIn m k) (getD m (nodeLeft j) 0) all32 ≡ rangeAt m k j
+  range-free e = ap (λ (t : ℕ). node (λ z. to z z) (λ i. getD (windowsIn m k) i all32) (λ o v w. fitted (span o v w)) (rangesIn m j) (nodeBy t (getD m (nodeLeft j) 0) (left m j) (right m j))) (sym e)
 
-  abbrev pub left : Cell
-  left = cellAs (kind / 4 % 2) (getD m (1203 + 12 * j) 0)
-
-  abbrev pub right : Cell
-  right = cellAs (kind / 8) (getD m (1204 + 12 * j) 0)
-
-  pub range-free : kind % 4 ≡ 0 → getD (windowsIn m k) (getD m (1203 + 12 * j) 0) all32 ≡ rangeAt m k j
-  range-free e = ap (λ (t : ℕ). node (λ z. to z z) (λ i. getD (windowsIn m k) i all32) (λ o v w. fitted (span o v w)) (rangesIn m j) (nodeBy t (getD m (1203 + 12 * j) 0) left right)) (sym e)
-
-  pub range-op : (o : ℕ) → kind % 4 ≡ suc o → fitted (span (numbers.operation o) (rangeIn (rangesIn m j) left) (rangeIn (rangesIn m j) right)) ≡ rangeAt m k j
+  pub range-op : (o : ℕ) → nodeOp (kind m j) ≡ suc o → fitted (span (numbers.operation o) (rangeIn (rangesIn m j) (left m j)) (rangeIn (rangesIn m j) (right m j))) ≡ rangeAt m k j
   range-op o e =
-      ap₂ (λ (v w : Window). fitted (span (numbers.operation o) v w)) (sym (cell-is (rangesIn m j) (λ i. getD (windowsIn m k) i all32) left)) (sym (cell-is (rangesIn m j) (λ i. getD (windowsIn m k) i all32) right))
-      ∙ ap (λ (t : ℕ). node (λ z. to z z) (λ i. getD (windowsIn m k) i all32) (λ o v w. fitted (span o v w)) (rangesIn m j) (nodeBy t (getD m (1203 + 12 * j) 0) left right)) (sym e)
+      ap₂ (λ (v w : Window). fitted (span (numbers.operation o) v w)) (sym (cell-is (rangesIn m j) (λ i. getD (windowsIn m k) i all32) (left m j)))
+      (sym (cell-is (rangesIn m j) (λ i. getD (windowsIn m k) i all32) (right m j)))
+      ∙ ap (λ (t : ℕ). node (λ z. to z z) (λ i. getD (windowsIn m k) i all32) (λ o v w. fitted (span o v w)) (rangesIn m j) (nodeBy t (getD m (nodeLeft j) 0) (left m j) (right m j))) (sym e)
 
 -- the range of a cell has a number where the ranges have
 pub cell-filled : (rs : List Window) (v : Cell) → Ranging rs → Filled (rangeIn rs v)
@@ -121,13 +125,13 @@ cell-filled rs (Open j) h = h .some j
 
 module _ (m : List ℕ) (k j a b : ℕ) (r : Room m (j + 1)) where
   abbrev m₁ : List ℕ
-  m₁ = set m (1205 + 12 * j) a
+  m₁ = set m (rangeLow j) a
 
   abbrev m₂ : List ℕ
-  m₂ = set m₁ (1206 + 12 * j) b
+  m₂ = set m₁ (rangeHigh j) b
 
-  elsewhere : (i : ℕ) → i ≢ 1205 + 12 * j → i ≢ 1206 + 12 * j → getD m₂ i 0 ≡ getD m i 0
-  elsewhere i p q = getD-set-other m₁ (1206 + 12 * j) i b 0 q ∙ getD-set-other m (1205 + 12 * j) i a 0 p
+  elsewhere : (i : ℕ) → i ≢ rangeLow j → i ≢ rangeHigh j → getD m₂ i 0 ≡ getD m i 0
+  elsewhere i p q = getD-set-other m₁ (rangeHigh j) i b 0 q ∙ getD-set-other m (rangeLow j) i a 0 p
 
   pub ranged : to (toZ w32 a) (toZ w32 b) ≡ rangeAt m k j → Ranged m m₂ k j
   unfolding rangesIn
@@ -135,17 +139,21 @@ module _ (m : List ℕ) (k j a b : ℕ) (r : Room m (j + 1)) where
     other = record { outside = λ i h. elsewhere i (λ q. h (omega arith) (omega arith)) (λ q. h (omega arith) (omega arith)) };
     is = ap (rangesIn m₂) (add-one j)
         ∙ ap₂ (λ (l : List Window) (x : Window). l ++ x ∷ [])
-        (ranges-same m m₂ j (λ i g. ap₂ (λ (x y : ℕ). to (toZ w32 x) (toZ w32 y)) (elsewhere (1205 + 12 * i) (λ q. omega arith) (λ q. omega arith)) (elsewhere (1206 + 12 * i) (λ q. omega arith) (λ q. omega arith))))
+        (ranges-same m m₂ j (λ i g. ap₂ (λ (x y : ℕ). to (toZ w32 x) (toZ w32 y)) (elsewhere (rangeLow i) (λ q. omega arith) (λ q. omega arith))
+        (elsewhere (rangeHigh i) (λ q. omega arith) (λ q. omega arith))))
         (ap₂ (λ (x y : ℕ). to (toZ w32 x) (toZ w32 y))
-        (getD-set-other m₁ (1206 + 12 * j) (1205 + 12 * j) b 0 (λ q. omega arith) ∙ getD-set-same m (1205 + 12 * j) a 0 (omega (arith, r .words)))
-        (getD-set-same m₁ (1206 + 12 * j) b 0 (simp length-set (omega (arith, r .words))))
+        (getD-set-other m₁ (rangeHigh j) (rangeLow j) b 0 (λ q. omega arith) ∙ getD-set-same m (rangeLow j) a 0 (omega (arith, r .words)))
+        (getD-set-same m₁ (rangeHigh j) b 0 (simp length-set (omega (arith, r .words))))
         ∙ e);
   }
 
 -- ---- a pass over the nodes
 
 pub ranging : (ws : List Window) (ns : List Node) → Windows ws → Ranging (ranges ws ns)
-ranging ws ns h = record { some = λ i. subst Filled (sym (range-ok ws ns (Open i))) (filled (range ws (meaning ns (Open i))) (range-filled ws (λ j. ordered (getD ws j all32) (h .some j)) (meaning ns (Open i)))) }
+ranging ws ns h = record {
+  some = λ i. subst Filled (sym (range-ok ws ns (Open i)))
+      (filled (range ws (meaning ns (Open i))) (range-filled ws (λ j. ordered (getD ws j all32) (h .some j)) (meaning ns (Open i))));
+}
 
 pub anew-none : (m : List ℕ) (k : ℕ) → Anew m m k 0
 unfolding rangesIn nodesIn ranges Rattle.simulation.specs.Nodes.pass

@@ -9,7 +9,7 @@ use borrow.Author.Tests.{ne-eqb}
 use lib.ListN.{length}
 use Rattle.semantics.specs.Int.{Cmp}
 use Rattle.semantics.specs.Run.{Window}
-use Rattle.semantics.specs.Search.{Value, Test, unknown, byRanges}
+use Rattle.semantics.specs.Search.{Value, Test, unknown, inUse}
 use Rattle.simulation.specs.Machine.{Machine, Doing}
 use Rattle.simulation.specs.Path.{State, state, Turn, cut, on, ended, still, fresh, comparing, turning}
 use Rattle.simulation.specs.Nodes as nodes
@@ -40,33 +40,35 @@ one-more : (n : ℕ) → 1 ≤ n → n ≡ suc (n - 1)
 one-more n h = omega arith
 
 module _ (job : Window) (f : ℕ) (ws : List Window) (ts : List Test) (p h : List Bool) where
-  step-none : (x : Machine Value) → turning byRanges job (Doing.step x) (state 0 f ws ts p h) ≡ still (ended cut (state 0 f ws ts p h))
+  step-none : (x : Machine Value) → turning inUse job (Doing.step x) (state 0 f ws ts p h) ≡ still (ended cut (state 0 f ws ts p h))
   unfolding turning
   step-none x = refl
 
-  step-one : (x : Machine Value) (l : ℕ) → turning byRanges job (Doing.step x) (state (suc l) f ws ts p h) ≡ record { move = fresh p; went = on x (state l f ws ts p h) }
+  step-one : (x : Machine Value) (l : ℕ) → turning inUse job (Doing.step x) (state (suc l) f ws ts p h) ≡ record { move = fresh p; went = on x (state l f ws ts p h) }
   unfolding turning
   step-one x l = refl
 
-  test-none : (c : Cmp) (a b : Value) (k : Bool → Machine Value) → turning byRanges job (Doing.test c a b k) (state 0 f ws ts p h) ≡ still (ended cut (state 0 f ws ts p h))
+  test-none : (c : Cmp) (a b : Value) (k : Bool → Machine Value) → turning inUse job (Doing.test c a b k) (state 0 f ws ts p h) ≡ still (ended cut (state 0 f ws ts p h))
   unfolding turning
   test-none c a b k = refl
 
-  test-one : (c : Cmp) (a b : Value) (k : Bool → Machine Value) (l : ℕ) → turning byRanges job (Doing.test c a b k) (state (suc l) f ws ts p h) ≡ record { move = fresh p; went = comparing byRanges job c a b k (state l f ws ts p h) }
+  test-one : (c : Cmp) (a b : Value) (k : Bool → Machine Value) (l : ℕ) → turning inUse job (Doing.test c a b k) (state (suc l) f ws ts p h)
+      ≡ record { move = fresh p; went = comparing inUse job c a b k (state l f ws ts p h) }
   unfolding turning
   test-one c a b k l = refl
 
-  free-none : (k : Value → Machine Value) → turning byRanges job (Doing.free k) (state 0 f ws ts p h) ≡ still (ended cut (state 0 f ws ts p h))
+  free-none : (k : Value → Machine Value) → turning inUse job (Doing.free k) (state 0 f ws ts p h) ≡ still (ended cut (state 0 f ws ts p h))
   unfolding turning
   free-none k = refl
 
-free-full : (job : Window) (ws : List Window) (ts : List Test) (p h : List Bool) (k : Value → Machine Value) (l : ℕ) → turning byRanges job (Doing.free k) (state l 0 ws ts p h) ≡ still (ended cut (state l 0 ws ts p h))
+free-full : (job : Window) (ws : List Window) (ts : List Test) (p h : List Bool) (k : Value → Machine Value) (l : ℕ) → turning inUse job (Doing.free k) (state l 0 ws ts p h)
+    ≡ still (ended cut (state l 0 ws ts p h))
 unfolding turning
 free-full job ws ts p h k zero = refl
 free-full job ws ts p h k (suc l) = refl
 
 free-one : (job : Window) (ws : List Window) (ts : List Test) (p h : List Bool) (k : Value → Machine Value) (l f : ℕ)
-    → turning byRanges job (Doing.free k) (state (suc l) (suc f) ws ts p h) ≡ record { move = fresh p; went = on (k (unknown (length ws))) (state l f (ws ++ job ∷ []) ts p h) }
+    → turning inUse job (Doing.free k) (state (suc l) (suc f) ws ts p h) ≡ record { move = fresh p; went = on (k (unknown (length ws))) (state l f (ws ++ job ∷ []) ts p h) }
 unfolding turning
 free-one job ws ts p h k l f = refl
 
@@ -96,46 +98,52 @@ module _ (m : List ℕ) (p : Point) where
 
   -- ---- the limits
 
-  pub step-cut : (job : Window) (x : Machine Value) → p .steps ≡ 0 → Standing m p → Stops (turning byRanges job (Doing.step x) (stateAt m p)) m p cut
+  pub step-cut : (job : Window) (x : Machine Value) → p .steps ≡ 0 → Standing m p → Stops (turning inUse job (Doing.step x) (stateAt m p)) m p cut
   step-cut job x e h = record {
-    is = ap (λ (l : ℕ). turning byRanges job (Doing.step x) (state l (8 - p .windows) (windowsIn m (p .windows)) tests left made)) e ∙ step-none job (8 - p .windows) (windowsIn m (p .windows)) tests left made x
+    is = ap (λ (l : ℕ). turning inUse job (Doing.step x) (state l (8 - p .windows) (windowsIn m (p .windows)) tests left made)) e
+        ∙ step-none job (8 - p .windows) (windowsIn m (p .windows)) tests left made x
         ∙ ap (λ (l : ℕ). still (ended cut (state l (8 - p .windows) (windowsIn m (p .windows)) tests left made))) (sym e);
     standing = h;
   }
 
-  pub test-cut : (job : Window) (c : Cmp) (a b : Value) (k : Bool → Machine Value) → p .steps ≡ 0 → Standing m p → Stops (turning byRanges job (Doing.test c a b k) (stateAt m p)) m p cut
+  pub test-cut : (job : Window) (c : Cmp) (a b : Value) (k : Bool → Machine Value) → p .steps ≡ 0 → Standing m p → Stops (turning inUse job (Doing.test c a b k) (stateAt m p)) m p cut
   test-cut job c a b k e h = record {
-    is = ap (λ (l : ℕ). turning byRanges job (Doing.test c a b k) (state l (8 - p .windows) (windowsIn m (p .windows)) tests left made)) e ∙ test-none job (8 - p .windows) (windowsIn m (p .windows)) tests left made c a b k
+    is = ap (λ (l : ℕ). turning inUse job (Doing.test c a b k) (state l (8 - p .windows) (windowsIn m (p .windows)) tests left made)) e
+        ∙ test-none job (8 - p .windows) (windowsIn m (p .windows)) tests left made c a b k
         ∙ ap (λ (l : ℕ). still (ended cut (state l (8 - p .windows) (windowsIn m (p .windows)) tests left made))) (sym e);
     standing = h;
   }
 
-  pub free-cut : (job : Window) (k : Value → Machine Value) → p .steps ≡ 0 → Standing m p → Stops (turning byRanges job (Doing.free k) (stateAt m p)) m p cut
+  pub free-cut : (job : Window) (k : Value → Machine Value) → p .steps ≡ 0 → Standing m p → Stops (turning inUse job (Doing.free k) (stateAt m p)) m p cut
   free-cut job k e h = record {
-    is = ap (λ (l : ℕ). turning byRanges job (Doing.free k) (state l (8 - p .windows) (windowsIn m (p .windows)) tests left made)) e ∙ free-none job (8 - p .windows) (windowsIn m (p .windows)) tests left made k
+    is = ap (λ (l : ℕ). turning inUse job (Doing.free k) (state l (8 - p .windows) (windowsIn m (p .windows)) tests left made)) e
+        ∙ free-none job (8 - p .windows) (windowsIn m (p .windows)) tests left made k
         ∙ ap (λ (l : ℕ). still (ended cut (state l (8 - p .windows) (windowsIn m (p .windows)) tests left made))) (sym e);
     standing = h;
   }
 
   -- a ninth free declaration
-  pub ninth-cut : (job : Window) (k : Value → Machine Value) → p .windows ≡ 8 → Standing m p → Stops (turning byRanges job (Doing.free k) (stateAt m p)) m p cut
+  pub ninth-cut : (job : Window) (k : Value → Machine Value) → p .windows ≡ 8 → Standing m p → Stops (turning inUse job (Doing.free k) (stateAt m p)) m p cut
   ninth-cut job k e h =
       let z : 8 - p .windows ≡ 0 = omega arith in
       record {
-        is = ap (λ (f : ℕ). turning byRanges job (Doing.free k) (state (p .steps) f (windowsIn m (p .windows)) tests left made)) z ∙ free-full job (windowsIn m (p .windows)) tests left made k (p .steps)
+        is = ap (λ (f : ℕ). turning inUse job (Doing.free k) (state (p .steps) f (windowsIn m (p .windows)) tests left made)) z
+            ∙ free-full job (windowsIn m (p .windows)) tests left made k (p .steps)
             ∙ ap (λ (f : ℕ). still (ended cut (state (p .steps) f (windowsIn m (p .windows)) tests left made))) (sym z);
         standing = h;
       }
 
   -- ---- a step
 
-  pub step-on : (m′ : List ℕ) (run : Run) (q : Point) → Standing m p → Ready m run → Growing m n (run .nodes) → 1 ≤ p .steps → length m′ ≡ length m → Grown m m′ (p .windows) n (run .nodes) → q ≡ spending p run
-      → (job : Window) → Onward (turning byRanges job (Doing.step (machineAt m run)) (stateAt m p)) m′ p (eqb (p .forced) 0) q
-  step-on m′ run q h r g l len w e job = subst (Onward (turning byRanges job (Doing.step (machineAt m run)) (stateAt m p)) m′ p (eqb (p .forced) 0)) (sym e) (record {
-    is = ap (λ (l : ℕ). turning byRanges job (Doing.step (machineAt m run)) (state l (8 - p .windows) (windowsIn m (p .windows)) tests left made)) (one-more (p .steps) l)
+  pub step-on : (m′ : List ℕ) (run : Run) (q : Point) → Standing m p → Ready m run → Growing m n (run .nodes) → 1 ≤ p .steps → length m′ ≡ length m
+      → Grown m m′ (p .windows) n (run .nodes) → q ≡ spending p run
+      → (job : Window) → Onward (turning inUse job (Doing.step (machineAt m run)) (stateAt m p)) m′ p (eqb (p .forced) 0) q
+  step-on m′ run q h r g l len w e job = subst (Onward (turning inUse job (Doing.step (machineAt m run)) (stateAt m p)) m′ p (eqb (p .forced) 0)) (sym e) (record {
+    is = ap (λ (l : ℕ). turning inUse job (Doing.step (machineAt m run)) (state l (8 - p .windows) (windowsIn m (p .windows)) tests left made)) (one-more (p .steps) l)
         ∙ step-one job (8 - p .windows) (windowsIn m (p .windows)) tests left made (machineAt m run) (p .steps - 1)
         ∙ onward _ _ _ _ _ _ (fresh-is m t (p .forced)) (sym (machine-stays (range-machinery n (w .other)) run (r .deep)))
-        (λ i. state (p .steps - 1) (8 - p .windows) (sym (range-windows n (w .other) (p .windows)) i) (sym tests-are i) (sym (range-outcomes n (w .other) t (p .forced)) i) (sym (range-outcomes n (w .other) 0 t) i));
+        (λ i. state (p .steps - 1) (8 - p .windows) (sym (range-windows n (w .other) (p .windows)) i) (sym tests-are i) (sym (range-outcomes n (w .other) t (p .forced)) i)
+        (sym (range-outcomes n (w .other) 0 t) i));
     ready = ready-stays (range-machinery n (w .other)) run len r;
     standing = record { tables = w .tables; tested = λ j i. subst (Tested (run .nodes)) (sym (range-test n (w .other) j)) (tested-more n (run .nodes) (g .more) (testAt m j) (h .tested j i)) };
     lighter = omega (arith, g .one);
@@ -143,15 +151,17 @@ module _ (m : List ℕ) (p : Point) where
   })
     where
       tests-are : map (testOf (nodesIn m′ (run .nodes))) (testsIn m′ t) ≡ tests
-      tests-are = ap₂ (λ (ns : List nodes.Node) (ts : List Noted). map (testOf ns) ts) (range-nodes n (w .other) (run .nodes)) (range-tests n (w .other) t) ∙ tests-grow m n (run .nodes) (g .more) t (h .tested)
+      tests-are = ap₂ (λ (ns : List nodes.Node) (ts : List Noted). map (testOf ns) ts) (range-nodes n (w .other) (run .nodes)) (range-tests n (w .other) t)
+          ∙ tests-grow m n (run .nodes) (g .more) t (h .tested)
 
   -- ---- a free declaration
 
-  pub free-on : (m₁ m₂ : List ℕ) (run : Run) (job : Window) (q : Point) → Standing m p → Ready m run → run .nodes ≡ n + 1 → nodeAt m n ≡ nodes.unknown (p .windows) → Filled job → 1 ≤ p .steps → p .windows < 8 → length m₁ ≡ length m → length m₂ ≡ length m₁
+  pub free-on : (m₁ m₂ : List ℕ) (run : Run) (job : Window) (q : Point) → Standing m p → Ready m run → run .nodes ≡ n + 1 → nodeAt m n ≡ nodes.unknown (p .windows) → Filled job → 1 ≤ p .steps
+      → p .windows < 8 → length m₁ ≡ length m → length m₂ ≡ length m₁
       → Reached m m₁ job (p .windows) → Ranged m₁ m₂ (p .windows + 1) n → q ≡ declaring p run → (next : Value → Machine Value) → next (unknown (p .windows)) ≡ machineAt m run
-      → Onward (turning byRanges job (Doing.free next) (stateAt m p)) m₂ p (eqb (p .forced) 0) q
-  free-on m₁ m₂ run job q h r one new f l k len len₂ a b e next is = subst (Onward (turning byRanges job (Doing.free next) (stateAt m p)) m₂ p (eqb (p .forced) 0)) (sym e) (record {
-    is = ap₂ (λ (l f : ℕ). turning byRanges job (Doing.free next) (state l f (windowsIn m (p .windows)) tests left made)) (one-more (p .steps) l) fewer-left
+      → Onward (turning inUse job (Doing.free next) (stateAt m p)) m₂ p (eqb (p .forced) 0) q
+  free-on m₁ m₂ run job q h r one new f l k len len₂ a b e next is = subst (Onward (turning inUse job (Doing.free next) (stateAt m p)) m₂ p (eqb (p .forced) 0)) (sym e) (record {
+    is = ap₂ (λ (l f : ℕ). turning inUse job (Doing.free next) (state l f (windowsIn m (p .windows)) tests left made)) (one-more (p .steps) l) fewer-left
         ∙ free-one job (windowsIn m (p .windows)) tests left made next (p .steps - 1) (8 - (p .windows + 1))
         ∙ onward _ _ _ _ _ _ (fresh-is m t (p .forced)) (ap (λ (i : ℕ). next (unknown i)) (windows-length m (p .windows) (h .tables .count)) ∙ is ∙ sym (machine-stays moved run (r .deep)))
         (λ i. state (p .steps - 1) (8 - (p .windows + 1)) (sym windows-are i) (sym tests-are i) (sym (outcomes-are t (p .forced)) i) (sym (outcomes-are 0 t) i));
@@ -177,21 +187,26 @@ module _ (m : List ℕ) (p : Point) where
       outcomes-are i f = range-outcomes n (b .other) i f ∙ window-outcomes (a .other) i f
 
       tests-are : map (testOf (nodesIn m₂ (run .nodes))) (testsIn m₂ t) ≡ tests
-      tests-are = ap₂ (λ (ns : List nodes.Node) (ts : List Noted). map (testOf ns) ts) (range-nodes n (b .other) (run .nodes) ∙ window-nodes (a .other) (run .nodes)) (range-tests n (b .other) t ∙ window-tests (a .other) t)
+      tests-are = ap₂ (λ (ns : List nodes.Node) (ts : List Noted). map (testOf ns) ts) (range-nodes n (b .other) (run .nodes) ∙ window-nodes (a .other) (run .nodes))
+          (range-tests n (b .other) t ∙ window-tests (a .other) t)
           ∙ tests-grow m n (run .nodes) (omega arith) t (h .tested)
 
   -- ---- a comparison
 
   pub spent-standing : (run : Run) (q : Point) → run .nodes ≡ n → Standing m p → q ≡ spending p run → Standing m q
-  spent-standing run q one h e = subst (Standing m) (sym e) (record { tables = subst (Tables m (p .windows)) (sym one) (h .tables); tested = λ j i. subst (λ (x : ℕ). Tested x (testAt m j)) (sym one) (h .tested j i) })
+  spent-standing run q one h e = subst (Standing m) (sym e) (record {
+    tables = subst (Tables m (p .windows)) (sym one) (h .tables);
+    tested = λ j i. subst (λ (x : ℕ). Tested x (testAt m j)) (sym one) (h .tested j i);
+  })
 
   pub test-on : (m′ : List ℕ) (run : Run) (c : Cmp) (v w : code.Value) (s q : Point) → run .nodes ≡ n → 1 ≤ p .steps → s ≡ spending p run → Compared m m′ s c v w q
-      → (job : Window) → Onward (turning byRanges job (Doing.test c (meant m n v) (meant m n w) (λ b. machineAt m (flagged run b))) (stateAt m p)) m′ p (eqb (p .forced) 0) q
+      → (job : Window) → Onward (turning inUse job (Doing.test c (meant m n v) (meant m n w) (λ b. machineAt m (flagged run b))) (stateAt m p)) m′ p (eqb (p .forced) 0) q
   test-on m′ run c v w s q one l e d job = so (subst (λ (s : Point). Compared m m′ s c v w q) e d)
     where
-      so : Compared m m′ (spending p run) c v w q → Onward (turning byRanges job (Doing.test c (meant m n v) (meant m n w) (λ b. machineAt m (flagged run b))) (stateAt m p)) m′ p (eqb (p .forced) 0) q
+      so : Compared m m′ (spending p run) c v w q → Onward (turning inUse job (Doing.test c (meant m n v) (meant m n w) (λ b. machineAt m (flagged run b))) (stateAt m p)) m′ p (eqb (p .forced) 0) q
       so d = record {
-        is = ap (λ (l : ℕ). turning byRanges job (Doing.test c (meant m n v) (meant m n w) (λ b. machineAt m (flagged run b))) (state l (8 - p .windows) (windowsIn m (p .windows)) tests left made)) (one-more (p .steps) l)
+        is = ap (λ (l : ℕ). turning inUse job (Doing.test c (meant m n v) (meant m n w) (λ b. machineAt m (flagged run b)))
+            (state l (8 - p .windows) (windowsIn m (p .windows)) tests left made)) (one-more (p .steps) l)
             ∙ test-one job (8 - p .windows) (windowsIn m (p .windows)) tests left made c (meant m n v) (meant m n w) (λ b. machineAt m (flagged run b)) (p .steps - 1)
             ∙ (λ i. record { move = fresh-is m t (p .forced) i; went = went i });
         ready = d .follows .ready;
@@ -200,8 +215,10 @@ module _ (m : List ℕ) (p : Point) where
         fewer = omega (arith, d .follows .fewer);
       }
         where
-          went : comparing byRanges job c (meant m n v) (meant m n w) (λ b. machineAt m (flagged run b)) (state (p .steps - 1) (8 - p .windows) (windowsIn m (p .windows)) tests left made) ≡ on (machineAt m′ (q .run)) (stateAt m′ q)
+          went : comparing inUse job c (meant m n v) (meant m n w) (λ b. machineAt m (flagged run b)) (state (p .steps - 1) (8 - p .windows) (windowsIn m (p .windows)) tests left made)
+              ≡ on (machineAt m′ (q .run)) (stateAt m′ q)
           went =
-              (λ i. comparing byRanges job c (meant m (sym one i) v) (meant m (sym one i) w) (λ b. machineAt m (flagged run b)) (state (p .steps - 1) (8 - p .windows) (windowsIn m (p .windows)) (map (testOf (nodesIn m (sym one i))) (testsIn m t)) left made))
+              (λ i. comparing inUse job c (meant m (sym one i) v) (meant m (sym one i) w) (λ b. machineAt m (flagged run b))
+              (state (p .steps - 1) (8 - p .windows) (windowsIn m (p .windows)) (map (testOf (nodesIn m (sym one i))) (testsIn m t)) left made))
               ∙ d .is job
               ∙ ap₂ (λ (x : Machine Value) (s : State). on x s) (sym (d .follows .machine)) (sym (d .follows .is))

@@ -3,14 +3,14 @@ use mathlib.Core.Path.{_≡_}
 use mathlib.Core.Bool.{Bool}
 use mathlib.Core.Option.{none}
 use mathlib.Core.List.{List, [], _∷_, _++_}
-use Prim.Native.Nat.{ℕ, _+_, _-_, _*_, _≤_, _<_}
+use Prim.Native.Nat.{ℕ, _+_, _-_, _≤_, _<_}
 use lib.ListN.{getD}
 use Rattle.semantics.specs.Int.{Cmp}
 use Rattle.semantics.specs.Run.{Window}
 use Rattle.semantics.specs.Search.{decided, narrowed}
 use Rattle.simulation.specs.Path.{outcome, later}
 use Rattle.simulation.specs.Nodes.{Node, unknown, operation, Within, Noted, ranges, rangeIn}
-use Rattle.ints.specs.Numbers.{comparison}
+use Rattle.machine.specs.Layout.{windowsPlace, windowsEnd, rangeLow, rangeEnd, testPlace, testEnd, outcomePlace, indexEnd}
 use Rattle.machine.specs.Memory.{nodeAt, nodesIn, windowsIn, rangesIn, testAt, outcomeAs, outcomesIn}
 use Rattle.machine.specs.Contracts.{cellOf, Sized, meant, Room, Other}
 use Rattle.machine.specs.declared.Value as code
@@ -34,7 +34,7 @@ pub record Tables (m : List ℕ) (k n : ℕ) : Type 0 where
 
 -- a free declaration was reached after k others, and no other word changed: "each free declaration starts with the job's pair"
 pub record Reached (m m′ : List ℕ) (job : Window) (k : ℕ) : Type 0 where
-  pub other : Other m m′ 1120 1136
+  pub other : Other m m′ windowsPlace windowsEnd
   pub is : windowsIn m′ (k + 1) ≡ windowsIn m k ++ job ∷ []
 
 -- ---- tests
@@ -49,15 +49,15 @@ testBy c v w = record { compare = c; left = cellOf v; right = cellOf w }
 
 -- test t was noted, and no other word changed
 pub record Noting (m m′ : List ℕ) (t : ℕ) (x : Noted) : Type 0 where
-  pub other : Other m m′ (1208 + 12 * t) (1211 + 12 * t)
+  pub other : Other m m′ (testPlace t) (testEnd t)
   pub is : testAt m′ t ≡ x
 
 -- ---- outcomes
 
 -- choice t took the next of f forced outcomes, or true where none was left, and no word but its outcome's changed
 pub record Taken (m m′ : List ℕ) (t f : ℕ) (o : Bool) : Type 0 where
-  pub other : Other m m′ (1211 + 12 * t) (1212 + 12 * t)
-  pub is : outcomeAs (getD m′ (1211 + 12 * t) 0) ≡ o
+  pub other : Other m m′ (outcomePlace t) (indexEnd t)
+  pub is : outcomeAs (getD m′ (outcomePlace t) 0) ≡ o
   pub next : o ≡ outcome (outcomesIn m t f)
   pub rest : outcomesIn m′ (t + 1) (f - 1) ≡ later (outcomesIn m t f)
 
@@ -73,7 +73,7 @@ pub record Undecided (m : List ℕ) (n : ℕ) (c : Cmp) (v w : code.Value) : Typ
 
 -- only windows and the ranges of n nodes may have changed
 pub record Beside (m m′ : List ℕ) (n : ℕ) : Type 0 where
-  pub other : (i : ℕ) → (1120 ≤ i → i < 1136 → ⊥) → ((j : ℕ) → j < n → 1205 + 12 * j ≤ i → i < 1207 + 12 * j → ⊥) → getD m′ i 0 ≡ getD m i 0
+  pub other : (i : ℕ) → (windowsPlace ≤ i → i < windowsEnd → ⊥) → ((j : ℕ) → j < n → rangeLow j ≤ i → i < rangeEnd j → ⊥) → getD m′ i 0 ≡ getD m i 0
 
 -- the k windows are narrowed by the comparison of two values, and the ranges are those in the new windows
 pub record Narrowed (m m′ : List ℕ) (k n : ℕ) (c : Cmp) (v w : code.Value) : Type 0 where

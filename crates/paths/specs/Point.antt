@@ -2,13 +2,14 @@
 use mathlib.Core.Path.{_≡_}
 use mathlib.Core.Bool.{Bool}
 use mathlib.Core.List.{List, map}
-use Prim.Native.Nat.{ℕ, _+_, _-_, _*_, _≤_, _<_}
+use Prim.Native.Nat.{ℕ, _+_, _-_, _≤_, _<_}
 use lib.ListN.{getD}
 use Rattle.semantics.specs.Int.{Cmp}
 use Rattle.semantics.specs.Run.{Window}
-use Rattle.semantics.specs.Search.{narrowed, byRanges}
+use Rattle.semantics.specs.Search.{narrowed, inUse}
 use Rattle.simulation.specs.Path.{State, state, outcome, holding, chose, on, comparing}
 use Rattle.simulation.specs.Nodes.{Within, Noted, testOf}
+use Rattle.machine.specs.Layout.{windowsPlace, tempPlace, nodeEnd}
 use Rattle.machine.specs.Memory.{nodesIn, machineAt, windowsIn, testsIn, outcomesIn, testAt}
 use Rattle.machine.specs.Contracts.{cellOf, Sized, meant, Room, Ready, flagged}
 use Rattle.machine.specs.declared.Value as code
@@ -18,7 +19,8 @@ use Rattle.paths.specs.Choice.{Tables}
 
 -- the state: a choice is noted with its test, so that there are as many tests as choices
 abbrev pub stateAt : List ℕ → Point → State
-stateAt m p = state (p .steps) (8 - p .windows) (windowsIn m (p .windows)) (map (testOf (nodesIn m (p .run .nodes))) (testsIn m (p .choices))) (outcomesIn m (p .choices) (p .forced)) (outcomesIn m 0 (p .choices))
+stateAt m p = state (p .steps) (8 - p .windows) (windowsIn m (p .windows)) (map (testOf (nodesIn m (p .run .nodes))) (testsIn m (p .choices)))
+    (outcomesIn m (p .choices) (p .forced)) (outcomesIn m 0 (p .choices))
 
 -- a test on the first n nodes
 pub record Tested (n : ℕ) (t : Noted) : Type 0 where
@@ -40,8 +42,8 @@ pub record Going (m : List ℕ) (p : Point) : Type 0 where
 
 -- the words on which the machine stands are as they were
 pub record Machinery (m m′ : List ℕ) : Type 0 where
-  pub low : (k : ℕ) → k < 1120 → getD m′ k 0 ≡ getD m k 0
-  pub tables : (k j : ℕ) → 1200 + 12 * j ≤ k → k < 1205 + 12 * j → getD m′ k 0 ≡ getD m k 0
+  pub low : (k : ℕ) → k < windowsPlace → getD m′ k 0 ≡ getD m k 0
+  pub tables : (k j : ℕ) → tempPlace j ≤ k → k < nodeEnd j → getD m′ k 0 ≡ getD m k 0
 
 -- a value on the first n nodes
 pub record Usable (n : ℕ) (v : code.Value) : Type 0 where
@@ -85,5 +87,6 @@ pub record Follows (m m′ : List ℕ) (p : Point) (r : Run) (s : State) (q : Po
 pub record Compared (m m′ : List ℕ) (p : Point) (c : Cmp) (v w : code.Value) (q : Point) : Type 0 where
   pub outcome : Bool
   pub after : State
-  pub is : (job : Window) → comparing byRanges job c (meant m (p .run .nodes) v) (meant m (p .run .nodes) w) (λ b. machineAt m (flagged (p .run) b)) (stateAt m p) ≡ on (machineAt m (flagged (p .run) outcome)) after
+  pub is : (job : Window) → comparing inUse job c (meant m (p .run .nodes) v) (meant m (p .run .nodes) w) (λ b. machineAt m (flagged (p .run) b)) (stateAt m p)
+      ≡ on (machineAt m (flagged (p .run) outcome)) after
   pub follows : Follows m m′ (chosen p) (flagged (p .run) outcome) after q

@@ -1,13 +1,14 @@
 -- Windows, nodes and ranges in the memory.
 use mathlib.Core.Path.{_≡_}
 use mathlib.Core.List.{List, [], _∷_, _++_}
-use Prim.Native.Nat.{ℕ, _+_, _*_, _≤_, _<_}
+use Prim.Native.Nat.{ℕ, _+_, _≤_, _<_}
 use lib.ListN.{getD}
 use lib.IntN.{pos}
 use Rattle.semantics.specs.Run.{Window}
 use Rattle.semantics.specs.Search.{to, all32, span, fitted}
 use Rattle.simulation.specs.Nodes.{node, ranges}
 use Rattle.intervals.specs.Meaning.{Filled}
+use Rattle.machine.specs.Layout.{rangeLow, rangeEnd}
 use Rattle.machine.specs.Memory.{nodeAt, nodesIn, windowsIn, rangesIn}
 use Rattle.machine.specs.Contracts.{Other}
 
@@ -23,7 +24,7 @@ pub record Ranging (rs : List Window) : Type 0 where
 
 -- node j got its range, and no other word changed
 pub record Ranged (m m′ : List ℕ) (k j : ℕ) : Type 0 where
-  pub other : Other m m′ (1205 + 12 * j) (1207 + 12 * j)
+  pub other : Other m m′ (rangeLow j) (rangeEnd j)
   pub is : rangesIn m′ (j + 1) ≡ rangesIn m j ++ rangeAt m k j ∷ []
 
 -- ---- all ranges
@@ -34,5 +35,5 @@ pub record Windows (ws : List Window) : Type 0 where
 
 -- the n nodes got their ranges in k windows, and no other word changed
 pub record Anew (m m′ : List ℕ) (k n : ℕ) : Type 0 where
-  pub other : (i : ℕ) → ((j : ℕ) → j < n → 1205 + 12 * j ≤ i → i < 1207 + 12 * j → ⊥) → getD m′ i 0 ≡ getD m i 0
+  pub other : (i : ℕ) → ((j : ℕ) → j < n → rangeLow j ≤ i → i < rangeEnd j → ⊥) → getD m′ i 0 ≡ getD m i 0
   pub is : rangesIn m′ n ≡ ranges (windowsIn m k) (nodesIn m n)

@@ -2,10 +2,16 @@
 use mathlib.Core.Path.{_≡_}
 use mathlib.Core.Bool.{Bool}
 use mathlib.Core.List.{List}
-use Prim.Native.Nat.{ℕ, _+_, _-_, _*_, _≤_, _<_}
-use Rattle.simulation.specs.Path.{Turn, End, returned, failed, cut, on, ended, still}
-use Rattle.machine.specs.Memory.{nodeAt, machineAt}
-use Rattle.machine.specs.Contracts.{meant, Ready, Other, Formed}
+use Prim.Native.Nat.{ℕ, _+_, _-_, _≤_, _<_}
+use Rattle.semantics.specs.Int.{Cmp}
+use Rattle.semantics.specs.Run.{Window}
+use Rattle.semantics.specs.Search.{unknown, inUse}
+use Rattle.simulation.specs.Code.{Code}
+use Rattle.simulation.specs.Machine.{Machine, Doing}
+use Rattle.simulation.specs.Path.{turning, turn, Turn, End, returned, failed, cut, on, ended, still}
+use Rattle.machine.specs.Layout.{rangeLow, rangeEnd}
+use Rattle.machine.specs.Memory.{Sym, nodeAt, machineAt}
+use Rattle.machine.specs.Contracts.{meant, Ready, Other, Formed, flagged}
 use Rattle.machine.specs.declared.Value as code
 use Rattle.machine.specs.declared.Run.{Run}
 use Rattle.paths.specs.declared.Point.{Point}
@@ -24,7 +30,7 @@ pub record Growing (m : List ℕ) (n nodes : ℕ) : Type 0 where
 
 -- the new node, if there is one, got its range, and no other word changed
 pub record Grown (m m′ : List ℕ) (k n nodes : ℕ) : Type 0 where
-  pub other : Other m m′ (1205 + 12 * n) (1207 + 12 * n)
+  pub other : Other m m′ (rangeLow n) (rangeEnd n)
   pub tables : Tables m′ k nodes
 
 -- ---- points
@@ -68,3 +74,19 @@ Onwards m′ (On o q) = Going m′ q
 Onwards m′ (Returned v) = Unit {0}
 Onwards m′ Failed = Unit {0}
 Onwards m′ Cut = Unit {0}
+
+-- ---- what was done after an entry was worked with this run, from the point p in the memory m: a step, a comparison, a free declaration
+
+abbrev pub AfterStep : List ℕ → List ℕ → Point → Run → Turned → Type 0
+AfterStep m m′ p run r = (job : Window) → Turning (turning inUse job (Doing.step (machineAt m run)) (stateAt m p)) m′ p r
+
+abbrev pub AfterTest : List ℕ → List ℕ → Point → Run → Cmp → code.Value → code.Value → Turned → Type 0
+AfterTest m m′ p run c v w r = (job : Window)
+    → Turning (turning inUse job (Doing.test c (meant m (p .run .nodes) v) (meant m (p .run .nodes) w) (λ b. machineAt m (flagged run b))) (stateAt m p)) m′ p r
+
+abbrev pub AfterFree : List ℕ → List ℕ → Point → Run → Window → Turned → Type 0
+AfterFree m m′ p run job r = (next : Sym → Machine Sym) → next (unknown (p .windows)) ≡ machineAt m run → Turning (turning inUse job (Doing.free next) (stateAt m p)) m′ p r
+
+-- a whole turn
+abbrev pub OneTurn : Code → Window → List ℕ → List ℕ → Point → Turned → Type 0
+OneTurn c job m m′ p r = Turning (turn inUse job c (machineAt m (p .run)) (stateAt m p)) m′ p r × Onwards m′ r

@@ -5,7 +5,7 @@ use mathlib.Core.List.{List}
 use Prim.Native.Nat.{ℕ, suc, _+_, _-_, _*_, _≤_}
 use lib.ListN.{length}
 use Rattle.semantics.specs.Run.{Window}
-use Rattle.semantics.specs.Search.{known, work, spent, byRanges}
+use Rattle.semantics.specs.Search.{known, work, spent, inUse}
 use Rattle.simulation.specs.Code.{Code}
 use Rattle.simulation.specs.Machine.{start}
 use Rattle.simulation.specs.Path.{begins, End, returned, failed, cut}
@@ -27,7 +27,7 @@ turnsOf c limit = suc limit * suc (32 * suc (length (c .entries)) + length (c .e
 
 -- the path with these forced outcomes, and what is done after it, is x of what was counted before
 pub record Walks (c : Code) (job : Window) (limit budget : ℕ) (forced : List Bool) (x : Tally → Next Start) : Type 0 where
-  pub is : (t : Tally) → t .budget ≡ budget → (n : ℕ) → turnsOf c limit ≤ n → path byRanges job c limit n (start known work c) (begins limit forced) t ≡ x t
+  pub is : (t : Tally) → t .budget ≡ budget → (n : ℕ) → turnsOf c limit ≤ n → path inUse job c limit n (start known work c) (begins limit forced) t ≡ x t
 
 -- the path has ended so at the point p, with so much of the budget left
 pub record Ends (c : Code) (job : Window) (limit budget : ℕ) (forced : List Bool) (m′ : List ℕ) (e : End) (p : Point) (left : ℕ) : Type 0 where

@@ -6,28 +6,30 @@ ghost use Prim.Native.Nat.{_+_, _-_, _*_, _<_, _≤_};
 ghost use lib.ListN.{length, getD};
 ghost use Rattle.semantics.specs.Int.{Cmp};
 ghost use Rattle.semantics.specs.Run.{Window as WindowS};
-ghost use Rattle.semantics.specs.Search.{all32, clipped, unknown, byRanges};
-ghost use Rattle.simulation.specs.Machine.{Machine, Doing};
-ghost use Rattle.simulation.specs.Path.{holding as holdingS, turning as turningS, turn as turnS};
+ghost use Rattle.semantics.specs.Search.{all32, clipped, unknown};
+ghost use Rattle.simulation.specs.Path.{holding as holdingS};
 ghost use Rattle.simulation.specs.Words.{codeIn};
 ghost use Rattle.simulation.specs.Nodes as nodes;
 ghost use Rattle.simulation.specs.Nodes.{rangeIn, Within};
 ghost use Rattle.ints.specs.Numbers.{comparison};
 ghost use Rattle.intervals.specs.Meaning.{Filled, ofWindow};
 ghost use Rattle.narrowing.specs.Meaning.{variableOf, Stands};
-ghost use Rattle.machine.specs.Memory.{Sym, cellAs, nodeAt, windowsIn, rangesIn, outcomesIn, machineAt};
-ghost use Rattle.machine.specs.Contracts.{cellOf, Sized, meant, Room, Ready, flagged};
+ghost use Rattle.machine.specs.Layout.{tablesPlace};
+ghost use Rattle.machine.specs.Memory.{cellAs, nodeAt, windowsIn, rangesIn, outcomesIn};
+ghost use Rattle.machine.specs.Contracts.{cellOf, Sized, meant, Room, Ready};
 ghost use Rattle.paths.specs.Table.{rangeAt, Ranging, Ranged, Windows, Anew};
 ghost use Rattle.paths.specs.Choice.{Tables, Reached, bit, testBy, Noting, Taken, Undecided, Narrowed};
-ghost use Rattle.paths.specs.Point.{stateAt, Standing, Chose, chosen, running, flagging, Usable, Compared, Going};
-ghost use Rattle.paths.specs.Turn.{Growing, Grown, spending, declaring, Turning, Onwards};
+ghost use Rattle.paths.specs.Point.{Standing, Chose, chosen, running, flagging, Usable, Compared, Going};
+ghost use Rattle.paths.specs.Turn.{Growing, Grown, spending, declaring, AfterStep, AfterTest, AfterFree, OneTurn};
 ghost use Rattle.paths.specs.Walk.{Walking};
 use intervals::Window;
 use machine::Did;
 use machine::Run;
 use machine::Value;
-use ranges::Decided;
+use machine::kinds;
+use machine::layout;
 use narrowing::Side;
+use ranges::Decided;
 
 // Where a path stands, beside the memory: the machine's run, the steps that may still be made, how many windows and choices there are, and how many forced outcomes are still to come.
 pub struct Point {
@@ -56,13 +58,13 @@ pub enum Walked {
 
 // The window of free variable i, of k; all of 32 bits, where there is none.
 fn window_of(mem: &[u32], k: usize, i: usize) -> Window
-    requires { ⌜ (k ≤ 8) × (1200 ≤ length (now mem)) ⌝ }
+    requires { ⌜ (k ≤ 8) × (tablesPlace ≤ length (now mem)) ⌝ }
     ensures { λ r. ⌜ ofWindow r ≡ getD (windowsIn (now (mem .entry)) k) i all32 ⌝ }
 {
     if i < k {
         return Window {
-            low: ints::signed(mem[1120 + 2 * i]),
-            high: ints::signed(mem[1121 + 2 * i]),
+            low: ints::signed(mem[layout::WINDOWS + layout::WINDOW * i]),
+            high: ints::signed(mem[layout::WINDOW_HIGHS + layout::WINDOW * i]),
         };
     }
     Window {
@@ -78,8 +80,8 @@ fn node_range(mem: &[u32], n: usize, i: usize) -> Window
 {
     if i < n {
         return Window {
-            low: ints::signed(mem[1205 + 12 * i]),
-            high: ints::signed(mem[1206 + 12 * i]),
+            low: ints::signed(mem[layout::RANGE_LOWS + layout::STRIDE * i]),
+            high: ints::signed(mem[layout::RANGE_HIGHS + layout::STRIDE * i]),
         };
     }
     Window { low: 0, high: 0 }
@@ -113,16 +115,16 @@ fn range_at(mem: &[u32], k: usize, j: usize) -> Window
     requires { ⌜ (k ≤ 8) × Room (now mem) (j + 1) × Ranging (rangesIn (now mem) j) ⌝ }
     ensures { λ r. ⌜ ofWindow r ≡ rangeAt (now (mem .entry)) k j ⌝ }
 {
-    let kind = mem[1202 + 12 * j];
-    let x = mem[1203 + 12 * j];
-    let y = mem[1204 + 12 * j];
-    let op = kind % 4;
-    if op == 0 {
+    let kind = mem[layout::NODES + layout::STRIDE * j];
+    let x = mem[layout::NODE_LEFTS + layout::STRIDE * j];
+    let y = mem[layout::NODE_RIGHTS + layout::STRIDE * j];
+    let op = kind % kinds::NODE_LEFT;
+    if op == kinds::FREE {
         return window_of(mem, k, x as usize);
     }
-    let v = cell_range(mem, j, kind / 4 % 2, x);
-    let w = cell_range(mem, j, kind / 8, y);
-    ranges::range(op - 1, v, w)
+    let v = cell_range(mem, j, kind / kinds::NODE_LEFT % 2, x);
+    let w = cell_range(mem, j, kind / kinds::NODE_RIGHT, y);
+    ranges::range(op - kinds::OPERATION, v, w)
 }
 
 // Node j gets its range.
@@ -131,8 +133,8 @@ fn write_range(mem: &mut [u32], k: usize, j: usize)
     ensures { λ _. ⌜ Ranged (now (mem .entry)) (now (mem .exit)) k j ⌝ }
 {
     let w = range_at(mem, k, j);
-    mem[1205 + 12 * j] = ints::word(w.low);
-    mem[1206 + 12 * j] = ints::word(w.high);
+    mem[layout::RANGE_LOWS + layout::STRIDE * j] = ints::word(w.low);
+    mem[layout::RANGE_HIGHS + layout::STRIDE * j] = ints::word(w.high);
 }
 
 // All n nodes get their ranges, in their order, as after a window narrowed.
@@ -149,11 +151,15 @@ fn all_ranges(mem: &mut [u32], k: usize, n: usize)
 
 // A free declaration is reached: window k is the job's pair.
 fn reach(mem: &mut [u32], job: Window, k: usize)
-    requires { ⌜ (k < 8) × (1200 ≤ length (now mem)) ⌝ }
+    requires { ⌜ (k < 8) × (tablesPlace ≤ length (now mem)) ⌝ }
     ensures { λ _. ⌜ Reached (now (mem .entry)) (now (mem .exit)) (ofWindow job) k ⌝ }
 {
-    let ws = window_memory::load(mem, 1120);
-    window_memory::put(mem, 1120, narrowing::with_pair(ws, k, [job.low, job.high]));
+    let ws = window_memory::load(mem, layout::WINDOWS);
+    window_memory::put(
+        mem,
+        layout::WINDOWS,
+        narrowing::with_pair(ws, k, [job.low, job.high]),
+    );
 }
 
 // A side of a comparison, in k windows with n nodes.
@@ -164,8 +170,8 @@ fn side(mem: &[u32], k: usize, n: usize, v: Value) -> Side
     match v {
         Value::Known(z) => Side::Other(Window { low: z, high: z }),
         Value::Open(j) => {
-            if mem[1202 + 12 * j] % 4 == 0 {
-                return Side::Free(mem[1203 + 12 * j] as usize);
+            if mem[layout::NODES + layout::STRIDE * j] % kinds::NODE_LEFT == kinds::FREE {
+                return Side::Free(mem[layout::NODE_LEFTS + layout::STRIDE * j] as usize);
             }
             Side::Other(node_range(mem, n, j))
         }
@@ -197,9 +203,11 @@ fn note(mem: &mut [u32], t: usize, c: u32, v: Value, w: Value)
     requires { ⌜ Room (now mem) (t + 1) × (c < 6) × Sized v × Sized w ⌝ }
     ensures { λ _. ⌜ Noting (now (mem .entry)) (now (mem .exit)) t (testBy (comparison c) v w) ⌝ }
 {
-    mem[1208 + 12 * t] = c + 8 * open_bit(v) + 16 * open_bit(w);
-    mem[1209 + 12 * t] = word_of(v);
-    mem[1210 + 12 * t] = word_of(w);
+    mem[layout::TESTS + layout::STRIDE * t] = c
+        + kinds::TEST_LEFT * open_bit(v)
+        + kinds::TEST_RIGHT * open_bit(w);
+    mem[layout::TEST_LEFTS + layout::STRIDE * t] = word_of(v);
+    mem[layout::TEST_RIGHTS + layout::STRIDE * t] = word_of(w);
 }
 
 // The outcome of choice t: the next forced one, and where none is left, true.
@@ -208,10 +216,10 @@ fn take(mem: &mut [u32], t: usize, forced: usize) -> bool
     ensures { λ r. ⌜ Taken (now (mem .entry)) (now (mem .exit)) t forced r ⌝ }
 {
     if forced == 0 {
-        mem[1211 + 12 * t] = 1;
+        mem[layout::OUTCOMES + layout::STRIDE * t] = 1;
         return true;
     }
-    mem[1211 + 12 * t] != 0
+    mem[layout::OUTCOMES + layout::STRIDE * t] != 0
 }
 
 // Whether a side that is compared with a number of this range narrows no window.
@@ -236,8 +244,8 @@ fn narrow(mem: &mut [u32], k: usize, n: usize, c: u32, v: Value, w: Value)
             return;
         }
     }
-    let ws = window_memory::load(mem, 1120);
-    window_memory::put(mem, 1120, narrowing::narrowed(ws, c, a, b));
+    let ws = window_memory::load(mem, layout::WINDOWS);
+    window_memory::put(mem, layout::WINDOWS, narrowing::narrowed(ws, c, a, b));
     all_ranges(mem, k, n);
 }
 
@@ -283,13 +291,6 @@ fn flag(p: Point, o: bool) -> Point
     }
 }
 
-// n - 1, or 0.
-fn before(n: usize) -> usize
-    ensures { λ r. ⌜ r ≡ n - 1 ⌝ }
-{
-    if n == 0 { 0 } else { n - 1 }
-}
-
 // The point after one more choice.
 fn count(p: Point) -> Point
     requires { ⌜ p .choices < 4294967296 ⌝ }
@@ -301,7 +302,7 @@ fn count(p: Point) -> Point
         steps: p.steps,
         windows: p.windows,
         choices: p.choices + 1,
-        forced: before(p.forced),
+        forced: ints::monus(p.forced, 1),
     }
 }
 
@@ -364,7 +365,7 @@ fn declare(p: Point, run: Run) -> Point
 // A step.
 fn after_step(mem: &mut [u32], p: Point, run: Run) -> Turned
     requires { ⌜ Standing (now mem) p × Ready (now mem) run × Growing (now mem) (p .run .nodes) (run .nodes) ⌝ }
-    ensures { λ r. ⌜ ((job : WindowS) → Turning (turningS byRanges job (Doing.step (machineAt (now (mem .entry)) run)) (stateAt (now (mem .entry)) p)) (now (mem .exit)) p r) ⌝ }
+    ensures { λ r. ⌜ AfterStep (now (mem .entry)) (now (mem .exit)) p run r ⌝ }
 {
     if p.steps == 0 {
         return Turned::Cut;
@@ -377,7 +378,7 @@ fn after_step(mem: &mut [u32], p: Point, run: Run) -> Turned
 // A comparison, by its number.
 fn after_test(mem: &mut [u32], p: Point, run: Run, c: u32, v: Value, w: Value) -> Turned
     requires { ⌜ Standing (now mem) p × Ready (now mem) run × (run .nodes ≡ p .run .nodes) × Room (now mem) (p .choices + p .steps + 1) × (c < 6) × Usable (p .run .nodes) v × Usable (p .run .nodes) w ⌝ }
-    ensures { λ r. ⌜ ((job : WindowS) → Turning (turningS byRanges job (Doing.test (comparison c) (meant (now (mem .entry)) (p .run .nodes) v) (meant (now (mem .entry)) (p .run .nodes) w) (λ b. machineAt (now (mem .entry)) (flagged run b))) (stateAt (now (mem .entry)) p)) (now (mem .exit)) p r) ⌝ }
+    ensures { λ r. ⌜ AfterTest (now (mem .entry)) (now (mem .exit)) p run (comparison c) v w r ⌝ }
 {
     if p.steps == 0 {
         return Turned::Cut;
@@ -388,12 +389,12 @@ fn after_test(mem: &mut [u32], p: Point, run: Run, c: u32, v: Value, w: Value) -
 // A free declaration.
 fn after_free(mem: &mut [u32], p: Point, run: Run, job: Window) -> Turned
     requires { ⌜ Standing (now mem) p × Ready (now mem) run × (run .nodes ≡ p .run .nodes + 1) × (nodeAt (now mem) (p .run .nodes) ≡ nodes.unknown (p .windows)) × Filled (ofWindow job) ⌝ }
-    ensures { λ r. ⌜ ((next : Sym → Machine Sym) → next (unknown (p .windows)) ≡ machineAt (now (mem .entry)) run → Turning (turningS byRanges (ofWindow job) (Doing.free next) (stateAt (now (mem .entry)) p)) (now (mem .exit)) p r) ⌝ }
+    ensures { λ r. ⌜ AfterFree (now (mem .entry)) (now (mem .exit)) p run (ofWindow job) r ⌝ }
 {
     if p.steps == 0 {
         return Turned::Cut;
     }
-    if p.windows == 8 {
+    if p.windows == layout::UNKNOWNS {
         return Turned::Cut;
     }
     let old = p.run;
@@ -418,7 +419,7 @@ fn proceed(p: Point, run: Run) -> Point
 // One turn of the path: one entry of the code is worked, within the limits.
 fn turn(code: &[u32], size: usize, mem: &mut [u32], job: Window, p: Point) -> Turned
     requires { ⌜ (2 * size + 16 ≤ length (now code)) × (size < 65536) × Going (now mem) p × Filled (ofWindow job) ⌝ }
-    ensures { λ r. ⌜ Turning (turnS byRanges (ofWindow job) (codeIn (now (code .entry)) size) (machineAt (now (mem .entry)) (p .run)) (stateAt (now (mem .entry)) p)) (now (mem .exit)) p r × Onwards (now (mem .exit)) r ⌝ }
+    ensures { λ r. ⌜ OneTurn (codeIn (now (code .entry)) size) (ofWindow job) (now (mem .entry)) (now (mem .exit)) p r ⌝ }
 {
     let run = p.run;
     match machine::advance(code, size, mem, run, p.windows as u32) {

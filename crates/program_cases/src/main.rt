@@ -1,23 +1,8 @@
 // Reads inputs of the lister, which a byte 1 separates, and prints what the lister prints for each.
-ghost use Prim.Native.Nat.{_≤_, _<_};
+ghost use Prim.Native.Nat.{_≤_};
 ghost use lib.ListN.{length};
 use libc::STDIN_FILENO;
 use libc::STDOUT_FILENO;
-
-// The place of the next byte 1 from `at` on, or n.
-fn end_of(inputs: &[u8], at: usize, n: usize) -> usize
-    requires { ⌜ (at ≤ n) × (n ≤ length (now inputs)) ⌝ }
-    ensures { λ r. ⌜ (at ≤ r) × (r ≤ n) ⌝ }
-{
-    let mut end = at;
-    while end < n {
-        if inputs[end] == 1 {
-            return end;
-        }
-        end += 1;
-    }
-    end
-}
 
 fn print_output(input: &[u8]) {
     let mut out = [0u8; respond::OUTPUT];
@@ -31,7 +16,7 @@ fn print_all(inputs: &[u8], n: usize)
 {
     let mut at = 0;
     while at < n {
-        let end = end_of(inputs, at, n);
+        let end = at + lines::place(&inputs[at..n], 1);
         print_output(&inputs[at..end]);
         at = end + 1;
     }

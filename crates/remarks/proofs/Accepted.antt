@@ -9,58 +9,25 @@ use native.Mathlib.Nat.{add-zero, add-suc, suc-add}
 use native.Mathlib.Decide.{decLt}
 use lib.ListN.{length, getD, length-append, List·getD-append}
 use lib.Seq.{getD-append-seam}
-use lib.Dec.{leb}
-use borrow.Author.Tests.{leb-false}
 use Rattle.events.specs.Event.{Event, function, parameter, thing, opens, closes, declares, uses, calls, ends}
 use Rattle.events.proofs.Tokens.{Within, Each}
 use Rattle.events.proofs.Tokens as W
-use Rattle.text_rules.specs.Scan.{scan, when, on}
-use Rattle.text_rules.specs.Rules.{Head, heads, functionOf, mains, badMain, Tally, tally, counted, over, tooMany}
+use Rattle.text_rules.specs.Scan.{on}
+use Rattle.text_rules.specs.Rules.{Head, heads, functionOf, mains, badMain}
 use Rattle.text_rules.specs.Names.{ifFound, repeated, badVariables, badFunctions, badNames, uncalled}
 use Rattle.text_rules.specs.Resolve.{mainOf}
 use Rattle.text_rules.specs.Answers.{headsFrom, storedHeads}
+use Rattle.text_rules.proofs.Counts.{nil-left, nil-right}
 use Rattle.text_rules.proofs.Functions.{bad-none}
-
-nil-left : {A : Type 0} (a b : List A) → a ++ b ≡ [] → a ≡ []
-nil-left [] b e = refl
-nil-left (x ∷ a) b e = absurd (let z : _≡_ {A = ℕ} 0 1 = cc in omega arith)
-
-nil-right : {A : Type 0} (a b : List A) → a ++ b ≡ [] → b ≡ []
-nil-right [] b e = e
-nil-right (x ∷ a) b e = absurd (let z : _≡_ {A = ℕ} 0 1 = cc in omega arith)
 
 -- ---- no two functions have the same name, where rule 6 is kept
 
 pub unrepeated : (same : ℕ → ℕ → Bool) (es : List Event) → badNames same es ≡ [] → repeated same [] (heads es) ≡ []
 unrepeated same es e = nil-right (on (uncalled same (heads es)) es) (repeated same [] (heads es)) (nil-right (badVariables same es) (badFunctions same es) e)
 
--- ---- rule 10: at most 16 functions
-
-room : (b : Bool) (i : ℕ) → when b i ≡ [] → b ≡ false
-room true i e = absurd (let z : _≡_ {A = ℕ} 0 1 = cc in omega arith)
-room false i e = refl
-
-count : (es : List Event) (c : Tally) → c .functions ≤ 16 → scan counted over c es ≡ [] → c .functions + length (heads es) ≤ 16
-unfolding scan counted over heads
-count [] c h e = omega (arith, h)
-count (function i ∷ es) c h e =
-    let k = leb-false 16 (c .functions) (room (leb 16 (c .functions)) i (nil-left (when (leb 16 (c .functions)) i) _ e)) in
-    omega (arith, count es (tally (suc (c .functions)) 0 0) (omega (arith, k)) (nil-right (when (leb 16 (c .functions)) i) _ e))
-count (parameter i ∷ es) c h e = count es (counted c (parameter i)) h (nil-right (over c (parameter i)) _ e)
-count (thing d i ∷ es) c h e = count es c h e
-count (opens ∷ es) c h e = count es c h e
-count (closes ∷ es) c h e = count es c h e
-count (declares i ∷ es) c h e = count es (counted c (declares i)) h (nil-right (over c (declares i)) _ e)
-count (uses i ∷ es) c h e = count es c h e
-count (calls i n ∷ es) c h e = count es c h e
-count (ends i b ∷ es) c h e = count es c h e
-
-pub few-functions : (es : List Event) → tooMany es ≡ [] → length (heads es) ≤ 16
-few-functions es e = omega (arith, count es (tally 0 0 0) (omega arith) e)
-
 -- ---- rule 8: there is a main
 
-pub has-main : (isMain : ℕ → Bool) (end : ℕ) (l : List ℕ) (h : ℕ) → badMain isMain end (mains isMain (storedHeads l h)) ≡ [] → mainOf isMain (storedHeads l h) < h
+pub has-main : (isMain : ℕ → Bool) (end : ℕ) (l : List ℕ) (h : ℕ) → badMain end (mains isMain (storedHeads l h)) ≡ [] → mainOf isMain (storedHeads l h) < h
 has-main isMain end l h e = go (decLt (mainOf isMain (storedHeads l h)) h)
   where
     go : Dec (mainOf isMain (storedHeads l h) < h) → mainOf isMain (storedHeads l h) < h
@@ -101,14 +68,14 @@ module _ (same : ℕ → ℕ → Bool) where
       go false p none f q e (suc g) h = f q g (omega (arith, h))
       go false p (some n) f q e g h = absurd (let z : _≡_ {A = ℕ} 0 1 = cc in omega arith)
 
-  not-found : (o : Option ℕ) (i : ℕ) → ifFound same o i ≡ [] → o ≡ none
+  not-found : (o : Option ℕ) (i : ℕ) → ifFound o i ≡ [] → o ≡ none
   not-found none i e = refl
   not-found (some n) i e = absurd (let z : _≡_ {A = ℕ} 0 1 = cc in omega arith)
 
   others : (xs bs : List Head) → repeated same xs bs ≡ [] → (f g : ℕ) → f < g → length xs ≤ g → g < length (xs ++ bs) → same (nameAt (xs ++ bs) f) (nameAt (xs ++ bs) g) ≡ false
   unfolding repeated
   others xs [] e f g h k l = absurd (omega (arith, k, l, length-append {A = Head} xs []))
-  others xs (x ∷ bs) e f g h k l = go (decLt (length xs) g) (others (xs ++ x ∷ []) bs (nil-right (ifFound same (functionOf same xs (x .name)) (x .name)) (repeated same (xs ++ x ∷ []) bs) e) f g h)
+  others xs (x ∷ bs) e f g h k l = go (decLt (length xs) g) (others (xs ++ x ∷ []) bs (nil-right (ifFound (functionOf same xs (x .name)) (x .name)) (repeated same (xs ++ x ∷ []) bs) e) f g h)
     where
       joined : (xs ++ x ∷ []) ++ bs ≡ xs ++ x ∷ bs
       joined = append-assoc xs (x ∷ []) bs
@@ -123,7 +90,7 @@ module _ (same : ℕ → ℕ → Bool) where
           let z : g ≡ length xs = omega (arith, p, k) in
           ap (λ (i : ℕ). same i (nameAt (xs ++ x ∷ bs) g)) (name-before xs (x ∷ bs) f (omega (arith, h, z)))
           ∙ ap (same (nameAt xs f)) (ap (nameAt (xs ++ x ∷ bs)) z ∙ name-seam xs x bs)
-          ∙ none-named xs (x .name) (not-found (functionOf same xs (x .name)) (x .name) (nil-left (ifFound same (functionOf same xs (x .name)) (x .name)) (repeated same (xs ++ x ∷ []) bs) e)) f (omega (arith, h, z))
+          ∙ none-named xs (x .name) (not-found (functionOf same xs (x .name)) (x .name) (nil-left (ifFound (functionOf same xs (x .name)) (x .name)) (repeated same (xs ++ x ∷ []) bs) e)) f (omega (arith, h, z))
 
   pub other-name : (hs : List Head) → repeated same [] hs ≡ [] → (f g : ℕ) → f < g → g < length hs → same (nameAt hs f) (nameAt hs g) ≡ false
   other-name hs e f g h l = others [] hs e f g h (omega arith) l

@@ -11,11 +11,11 @@ use lib.ListN.{length, getD, set, length-set}
 use lib.Seq.{getD-set-same, getD-set-other}
 use lib.Dec.{eqb}
 use Rattle.events.specs.Event.{Event, function, parameter, thing, opens, closes, declares, uses, calls, ends}
-use Rattle.events.specs.Stored.{stored}
+use Rattle.events.specs.Stored.{eventAt, stored}
 use Rattle.text_rules.specs.Scan.{scan}
 use Rattle.text_rules.specs.Rules.{Head, functionOf}
 use Rattle.text_rules.specs.Answers.{storedHeads}
-use Rattle.text_rules.proofs.Scans.{eventAt, rest, rest-more, rest-none, rest-all}
+use Rattle.text_rules.proofs.Scans.{rest, rest-more, rest-none, rest-all}
 use Rattle.text_rules.proofs.Functions.{number-below}
 use Rattle.remarks.specs.Remarks.{Call, begun, callTo, calledBy, Leads, here, further}
 use Rattle.remarks.specs.Steps.{unmarked, fresh, callsIn, Marks}

@@ -11,7 +11,6 @@ use borrow.Author.Tests.{eq-eqb}
 use Rattle.syntax.specs.Tree.{Tree, prog, width}
 use Rattle.syntax.specs.Token.{kEnd}
 use Rattle.syntax.specs.Abstract.{ast}
-use Rattle.lexer.specs.Lex as L
 use Rattle.lexer.specs.Lex.{Token, same}
 use Rattle.lexer.specs.Parts.{stored}
 use Rattle.lexer.proofs.Theorems.{Ascending, no-more, above, ascending, inside, lexed-tokens, stored-length, stored-at}
@@ -25,12 +24,14 @@ use Rattle.text_rules.specs.Spelling.{spelled, sameName, isMain}
 use Rattle.text_rules.specs.Rules as R
 use Rattle.text_rules.specs.Rules.{Head}
 use Rattle.text_rules.proofs.Functions.{length-heads}
+use Rattle.checker.specs.Sizes.{EVENTS, HEADS}
+use Rattle.text_rules.proofs.Counts.{few-functions}
 use Rattle.checker.specs.Analysis.{Known}
 use Rattle.checker.proofs.Analysing.{Into, as-long, token-list, few-listed}
 use Rattle.remarks.specs.Steps.{offsetIn, Apart, Fair}
 use Rattle.remarks.proofs.Marking.{clash}
 use Rattle.checker.proofs.Exactly.{Unbroken, unbroken}
-use Rattle.remarks.proofs.Accepted.{unrepeated, few-functions, has-main, other-name, nameAt, names-below, name-stored}
+use Rattle.remarks.proofs.Accepted.{unrepeated, has-main, other-name, nameAt, names-below, name-stored}
 
 -- ---- places ascend
 
@@ -122,7 +123,7 @@ module _ {text ks ps vs nodes items heads before slots : List ℕ} {n root e h :
       go f g p q z (no a) (yes b) = absurd (one-place g f q p (sym z) b)
       go f g p q z (no a) (no b) = omega (arith, a, b)
 
-  pub fair : 12288 ≤ length items → 8192 ≤ length heads → Fair text (take n ps) (take n vs) items e heads h
+  pub fair : EVENTS ≤ length items → HEADS ≤ length heads → Fair text (take n ps) (take n vs) items e heads h
   fair i j =
       let w : h ≤ 16 = omega (arith, as-many-functions, few-functions (events (ast (k .tree))) (rules .counts)) in
       record {

@@ -14,6 +14,7 @@ use Rattle.text_rules.specs.Spelling.{sameName, isMain}
 use Rattle.text_rules.specs.Rules as R
 use Rattle.text_rules.specs.Resolve.{mainOf}
 use Rattle.checker.specs.Check.{Verdict, accepted, checked, values}
+use Rattle.checker.specs.Sizes.{TOKENS, EVENTS, HEADS}
 use Rattle.checker.specs.Analysis.{Known, Analyses}
 use Rattle.checker.specs.Analysis as N
 use Rattle.checker.specs.declared.Analysed.the-variants as A
@@ -67,13 +68,13 @@ module _ {text ks ps vs nodes items heads before slots : List ℕ} where
   refused-so e N.rejects = refuses e
 
   module _ {n root e h : ℕ} where
-    pub tokens-few : {v : Verdict} → Analyses text ks ps vs nodes items heads before slots (A.Fine n root e h) v → n ≤ 2049
+    pub tokens-few : {v : Verdict} → Analyses text ks ps vs nodes items heads before slots (A.Fine n root e h) v → n ≤ TOKENS
     tokens-few (N.has i k) = few-tokens (record { is = i })
 
-    pub fair-so : {v : Verdict} → Analyses text ks ps vs nodes items heads before slots (A.Fine n root e h) v → length ks ≡ 2049 → length items ≡ 12288 → 8192 ≤ length heads → Fair text (take n ps) (take n vs) items e heads h
+    pub fair-so : {v : Verdict} → Analyses text ks ps vs nodes items heads before slots (A.Fine n root e h) v → length ks ≡ TOKENS → length items ≡ EVENTS → HEADS ≤ length heads → Fair text (take n ps) (take n vs) items e heads h
     fair-so (N.has i k) p q r = let x : Into text ks ps vs n = record { is = i } in fair x (omega (arith, p, few-tokens x)) k (omega (arith, q)) r
 
-    pub counted-so : {v : Verdict} {b a : List ℕ} {c : ℕ} → Analyses text ks ps vs nodes items heads before slots (A.Fine n root e h) v → length ks ≡ 2049 → length ps ≡ 2049 → length vs ≡ 2049
+    pub counted-so : {v : Verdict} {b a : List ℕ} {c : ℕ} → Analyses text ks ps vs nodes items heads before slots (A.Fine n root e h) v → length ks ≡ TOKENS → length ps ≡ TOKENS → length vs ≡ TOKENS
         → Lists text (take n ps) (take n vs) items e heads h b a c → Answers text b a (Count c) v
     counted-so (N.has i k) p q r l =
         let x : Into text ks ps vs n = record { is = i } in

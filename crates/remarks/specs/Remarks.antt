@@ -24,7 +24,7 @@ pub record Call : Type 0 where
   pub caller : ℕ
   pub callee : ℕ
 
--- how many functions have begun
+-- how many functions have begun after an event, where n have before it
 unfoldable pub begun : ℕ → Event → ℕ
 begun n (function i) = suc n
 begun n (parameter i) = n
@@ -36,11 +36,13 @@ begun n (uses i) = n
 begun n (calls i m) = n
 begun n (ends i b) = n
 
+-- the call of the function that is found, by the last of n functions that have begun
 abbrev pub callTo : ℕ → Option ℕ → List Call
 callTo n none = []
 callTo n (some g) = record { caller = n - 1; callee = g } ∷ []
 
 module _ (same : ℕ → ℕ → Bool) where
+  -- the call that one event is, if it is one, where n of the functions hs have begun
   unfoldable pub calledBy : List Head → ℕ → Event → List Call
   calledBy hs n (function i) = []
   calledBy hs n (parameter i) = []
@@ -97,7 +99,8 @@ Remarkable text ts t g =
     (mainOf (isMain text (places ts) (values ts)) (heads (events (ast t))))
     g
 
--- "Else it writes the name offset of each function but main that no chain of calls in the text leads to from main, each once, in any order, into the first places, and answers the count. Other places keep their words."
+-- "Else it writes the name offset of each function but main that no chain of calls in the text leads to from main, each once, in any order, into the first places,
+-- and answers the count. Other places keep their words."
 -- A refusal writes nothing.
 pub data Answers (text before after : List ℕ) : Answer → Verdict → Type 0 where
   refuses : {n p : ℕ} → after ≡ before → Answers text before after (Refused n p) (refused n p)

@@ -2,20 +2,19 @@
 ghost use mathlib.Core.Path.{_≡_};
 ghost use Prim.Native.Nat.{ℕ, _-_, _*_, _≤_, _<_};
 ghost use lib.ListN.{length, getD, set};
-ghost use lib.Dec.{ltb};
-ghost use Rattle.events.specs.Stored.{stored};
-ghost use Rattle.text_rules.specs.Spelling.{sameName, isMain};
-ghost use Rattle.text_rules.specs.Resolve.{mainOf};
-ghost use Rattle.text_rules.specs.Answers.{event, found, storedHeads};
+ghost use Rattle.text_rules.specs.Spelling.{sameName};
+ghost use Rattle.events.specs.Read.{asEvent};
+ghost use Rattle.text_rules.specs.Answers.{found, storedHeads};
 ghost use Rattle.checker.specs.Check.{checked};
 ghost use Rattle.checker.specs.Analysis.{Slices};
 ghost use Rattle.remarks.specs.Remarks.{begun, callTo, calledBy, Remarked, Answers, verdict};
 ghost use Rattle.remarks.specs.Steps.{fresh, callsIn, Marks, Unmarked, offsetIn, Apart, Fair, Lists};
 use checker::Analysed;
+use checker::sizes;
+use events::event::Event;
+use events::event::event_at;
 use text_rules::heads::Found;
 use text_rules::heads::function_of;
-use text_rules::item::Item;
-use text_rules::item::item_at;
 use text_rules::mains::main_number;
 use text_rules::spelling::word;
 
@@ -29,19 +28,16 @@ pub enum Answer {
 fn present(f: usize) -> usize
     ensures { λ r. ⌜ r ≡ f - 1 ⌝ }
 {
-    if f == 0 {
-        return 0;
-    }
-    f - 1
+    ints::monus(f, 1)
 }
 
 // How many functions have begun after one event more.
-fn begin(f: usize, item: Item) -> usize
+fn begin(f: usize, event: Event) -> usize
     requires { ⌜ f < 9223372036854775808 ⌝ }
-    ensures { λ r. ⌜ r ≡ begun f (event item) ⌝ }
+    ensures { λ r. ⌜ r ≡ begun f (asEvent event) ⌝ }
 {
-    match item {
-        Item::Function(_) => f + 1,
+    match event {
+        Event::Function(_) => f + 1,
         _ => f,
     }
 }
@@ -73,13 +69,14 @@ fn newly_called(
     h: usize,
     reached: &[u32],
     f: usize,
-    item: Item,
+    event: Event,
 ) -> Found
     requires { ⌜ 2 * h ≤ length (now heads) ⌝ }
-    ensures { λ r. ⌜ found r ≡ fresh (now (reached .entry)) (calledBy (sameName (now (text .entry)) (now (places .entry)) (now (values .entry))) (storedHeads (now (heads .entry)) h) f (event item)) ⌝ }
+    ensures { λ r. ⌜ found r ≡ fresh (now (reached .entry))
+        (calledBy (sameName (now (text .entry)) (now (places .entry)) (now (values .entry))) (storedHeads (now (heads .entry)) h) f (asEvent event)) ⌝ }
 {
-    match item {
-        Item::Calls { token, count: _ } => {
+    match event {
+        Event::Calls { token, count: _ } => {
             let callee = function_of(text, places, values, heads, h, token);
             unless_reached(reached, f, callee)
         }
@@ -99,17 +96,18 @@ fn next_reached(
     reached: &[u32],
 ) -> Found
     requires { ⌜ (3 * n ≤ length (now events)) × (2 * h ≤ length (now heads)) ⌝ }
-    ensures { λ r. ⌜ found r ≡ fresh (now (reached .entry)) (callsIn (sameName (now (text .entry)) (now (places .entry)) (now (values .entry))) (now (events .entry)) n (now (heads .entry)) h) ⌝ }
+    ensures { λ r. ⌜ found r ≡ fresh (now (reached .entry))
+        (callsIn (sameName (now (text .entry)) (now (places .entry)) (now (values .entry))) (now (events .entry)) n (now (heads .entry)) h) ⌝ }
 {
     let mut f = 0;
     let mut i = 0;
     while i < n {
-        let item = item_at(events, i);
-        let callee = newly_called(text, places, values, heads, h, reached, f, item);
+        let event = event_at(events, i);
+        let callee = newly_called(text, places, values, heads, h, reached, f, event);
         if let Found::Number(g) = callee {
             return Found::Number(g);
         }
-        f = begin(f, item);
+        f = begin(f, event);
         i += 1;
     }
     Found::Nothing
@@ -127,7 +125,8 @@ fn reach(
     main: usize,
     reached: &mut [u32],
 )
-    requires { ⌜ (3 * n ≤ length (now events)) × (2 * h ≤ length (now heads)) × (h ≤ length (now reached)) × (main < length (now reached)) × ((g : ℕ) → getD (now reached) g 0 ≡ 0) ⌝ }
+    requires { ⌜ (3 * n ≤ length (now events)) × (2 * h ≤ length (now heads)) × (h ≤ length (now reached))
+        × (main < length (now reached)) × ((g : ℕ) → getD (now reached) g 0 ≡ 0) ⌝ }
     ensures { λ r. ⌜ Marks (callsIn (sameName (now (text .entry)) (now (places .entry)) (now (values .entry))) (now (events .entry)) n (now (heads .entry)) h) main (now (reached .exit)) ⌝ }
 {
     reached[main] = 1;
@@ -252,14 +251,14 @@ pub fn remarks(text: &[u8], offsets: &mut [u16]) -> Answer
     if offsets.len() < 16 {
         return Answer::Refused(15, 0);
     }
-    let mut kinds = [0u8; 2049];
-    let mut places = [0u32; 2049];
-    let mut values = [0u32; 2049];
-    let mut nodes = [0u32; 20490];
-    let mut items = [0u32; 12288];
-    let mut heads = [0u32; 8192];
-    let mut scope = [0u32; 12288];
-    let mut slots = [0u32; 2049];
+    let mut kinds = [0u8; sizes::TOKENS];
+    let mut places = [0u32; sizes::TOKENS];
+    let mut values = [0u32; sizes::TOKENS];
+    let mut nodes = [0u32; sizes::NODES];
+    let mut items = [0u32; sizes::EVENTS];
+    let mut heads = [0u32; sizes::HEADS];
+    let mut scope = [0u32; sizes::SCOPE];
+    let mut slots = [0u32; sizes::TOKENS];
     remark(
         text,
         &mut kinds,

@@ -14,6 +14,7 @@ use Rattle.lexer.specs.Lex as L
 use Rattle.lexer.specs.Lex.{lexed}
 use Rattle.checker.specs.Check as C
 use Rattle.checker.specs.Check.{checked}
+use Rattle.semantics.specs.Search.{Answer}
 use Rattle.list.specs.List.{ground, list, answering}
 use Rattle.lines.specs.declared.Job.{Job}
 use Rattle.lines.specs.declared.JobLine.{JobLine}
@@ -35,18 +36,18 @@ unfolding checked
 long-text text h = rw (long-lexed text h, checked)
 
 -- of a text that check refuses, list uses no more than that
-module _ (t u : List ℕ) (low high : ℤ) (steps skip budget : ℕ) (rows : List ℤ) (scratch : List ℕ) (n p : ℕ) where
-  same-refusal : (g : Option ℕ) → answering t low high steps skip budget rows scratch g (C.refused n p) ≡ answering u low high steps skip budget rows scratch g (C.refused n p)
-  same-refusal (some k) = refl
-  same-refusal none = refl
+same-refusal : (rows : List ℤ) (scratch : List ℕ) (a b : Answer) (n p : ℕ) (g : Option ℕ) → answering rows scratch a g (C.refused n p) ≡ answering rows scratch b g (C.refused n p)
+same-refusal rows scratch a b n p (some k) = refl
+same-refusal rows scratch a b n p none = refl
 
+module _ (t u : List ℕ) (low high : ℤ) (steps skip budget : ℕ) (rows : List ℤ) (scratch : List ℕ) (n p : ℕ) where
   same-list : checked t ≡ C.refused n p → checked u ≡ C.refused n p → list t low high steps skip budget rows scratch ≡ list u low high steps skip budget rows scratch
   unfolding list
   same-list e f =
       let g = ground (length scratch) low high steps in
-      ap (answering t low high steps skip budget rows scratch g) e
-      ∙ same-refusal g
-      ∙ sym (ap (answering u low high steps skip budget rows scratch g) f)
+      ap (answering rows scratch _ g) e
+      ∙ same-refusal rows scratch _ _ n p g
+      ∙ sym (ap (answering rows scratch _ g) f)
 
 -- ---- what follows does not matter
 
@@ -103,7 +104,7 @@ long-enough l h = sym (enough-line l (lineJob l) (ap (λ (b : Bool). b || ltb (p
         ap (λ (b : Bool). isSome (ground 16384 (j .low) (j .high) (j .steps)) || b) (lt-ltb (j .text + 2048) (length l) (omega (arith, h, good-holds l j e .near)))
         ∙ or-true (isSome (ground 16384 (j .low) (j .high) (j .steps)))
 
-pub beyond : (l r : List ℕ) → 2089 ≤ length l → output (l ++ r) ≡ output l
+beyond : (l r : List ℕ) → 2089 ≤ length l → output (l ++ r) ≡ output l
 beyond l r h = enough-input l r (long-enough l h)
 
 -- so the program need not read more

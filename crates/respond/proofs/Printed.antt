@@ -11,10 +11,12 @@ use Rattle.checker.specs.Check.{Verdict, checked}
 use Rattle.checker.proofs.Small.{Within, low as at-most, checked-low}
 use Rattle.semantics.specs.Run.{Row}
 use Rattle.semantics.specs.Search as Z
-use Rattle.semantics.specs.Search.{byRanges}
+use Rattle.semantics.specs.Search.{inUse}
+use Rattle.semantics.specs.Promise.{Promised}
+use Rattle.semantics.proofs.Answer.{few-rows}
 use Rattle.list.specs.List as S
 use Rattle.list.specs.List.{Answer, Left, ground, list, answering}
-use Rattle.list.specs.Promise.{Closes, Keeps}
+use Rattle.list.specs.Promise.{answerWith, Keeps}
 use Rattle.list.proofs.Promises.{keeps}
 use Rattle.lines.specs.declared.Job.{Job}
 use Rattle.lines.specs.declared.JobLine.the-variants.{Bad, Good}
@@ -24,18 +26,18 @@ use Rattle.lines.proofs.Good.{good-holds}
 use Rattle.respond.specs.Output.{textOf, rowWords, scratchWords, listing, shown, linesOf, outputFor, output}
 use Rattle.respond.specs.Parts.{Small}
 use Rattle.respond.specs.Shows.{Shows}
-use Rattle.respond.proofs.Rows.{few-rows, few-written, rows-back}
+use Rattle.respond.proofs.Rows.{few-written, rows-back}
 
 -- ---- list's answers are small
 
 module _ (text : List ℕ) (low high : ℤ) (steps skip budget : ℕ) (rows : List ℤ) (scratch : List ℕ) where
-  small-by : length rows / 10 ≤ 1000 → (g : Option ℕ) (v : Verdict) → Within 2048 v → Small (answering text low high steps skip budget rows scratch g v .answer)
+  small-by : length rows / 10 ≤ 1000 → (g : Option ℕ) (v : Verdict) → Within 2048 v → Small (answering rows scratch (Z.listed inUse (S.jobOf text low high steps) skip (S.places rows) budget) g v .answer)
   unfolding Z.listed
   small-by h (some n) v w = record { few = omega arith; near = omega arith }
   small-by h none (C.refused n p) (at-most k) = record { few = omega arith; near = k }
-  small-by h none C.accepted w = record { few = omega (arith, few-rows Z.whole (Z.search byRanges (S.jobOf text low high steps)) skip (length rows / 10) budget); near = omega arith }
+  small-by h none C.accepted w = record { few = omega (arith, few-rows Z.whole (Z.search inUse (S.jobOf text low high steps)) skip (length rows / 10) budget .0); near = omega arith }
 
-  pub small : length rows / 10 ≤ 1000 → Small (list text low high steps skip budget rows scratch .answer)
+  small : length rows / 10 ≤ 1000 → Small (list text low high steps skip budget rows scratch .answer)
   unfolding list
   small h = small-by h (ground (length scratch) low high steps) (checked text) (checked-low text)
 
@@ -45,9 +47,13 @@ tens = ap (λ (n : ℕ). n / 10) (length-replicate 10000 (pos 0))
 words : length scratchWords ≡ 16384
 words = length-replicate {A = ℕ} 16384 0
 
-pub listing-small : (text : List ℕ) (low high : ℤ) (steps : ℕ) → Small (listing text low high steps .answer)
+listing-small : (text : List ℕ) (low high : ℤ) (steps : ℕ) → Small (listing text low high steps .answer)
 unfolding listing
 listing-small text low high steps = small text low high steps 0 1000000 rowWords scratchWords (omega (arith, tens))
+
+-- what the search of the program's job finds
+abbrev found : List ℕ → ℤ → ℤ → ℕ → Z.Answer
+found text low high steps = Z.listed inUse (S.jobOf text low high steps) 0 (S.places rowWords) 1000000
 
 -- ---- each refusal is one line
 
@@ -61,10 +67,10 @@ good-line input j e = ap (outputFor input) e
 
 module _ (input : List ℕ) (j : Job) (good : lineJob input ≡ Good j) where
   answered : (g : Option ℕ) (v : Verdict) → ground 16384 (j .low) (j .high) (j .steps) ≡ g → checked (textOf input j) ≡ v
-      → listing (textOf input j) (j .low) (j .high) (j .steps) ≡ answering (textOf input j) (j .low) (j .high) (j .steps) 0 1000000 rowWords scratchWords g v
+      → listing (textOf input j) (j .low) (j .high) (j .steps) ≡ answering rowWords scratchWords (found (textOf input j) (j .low) (j .high) (j .steps)) g v
   unfolding listing list
   answered g v e f =
-      ap₂ (answering (textOf input j) (j .low) (j .high) (j .steps) 0 1000000 rowWords scratchWords)
+      ap₂ (answering rowWords scratchWords (found (textOf input j) (j .low) (j .high) (j .steps)))
       (ap (λ (n : ℕ). ground n (j .low) (j .high) (j .steps)) words ∙ e) f
 
   -- by one of list's own grounds, or as check
@@ -102,7 +108,7 @@ module _ (input : List ℕ) (j : Job) (good : lineJob input ≡ Good j) where
       moves = kept .moves;
       ending = kept .ending;
       lines = printed;
-      closes = subst (λ (n : ℕ). Closes (S.jobOf (textOf input j) (j .low) (j .high) (j .steps)) 0 n 1000000 (kept .plans) (kept .written) (kept .moves) (kept .ending)) tens (kept .closes);
+      closes = subst (λ (n : ℕ). Promised inUse (S.jobOf (textOf input j) (j .low) (j .high) (j .steps)) (kept .plans) 0 n 1000000 (answerWith (kept .written) (kept .moves) (kept .ending))) tens (kept .closes);
     }
 
 -- ---- what the code learns of list

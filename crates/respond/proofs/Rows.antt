@@ -1,5 +1,5 @@
--- The rows that stand in the slice are the rows found: at most as many as have a place, each with at most eight values, and read back as they were written.
-use Prim.Native.Nat.{ℕ, zero, suc, _+_, _-_, _*_, _≤_, _<_}
+-- The rows that stand in the slice are the rows found: each with at most eight values, and read back as they were written.
+use Prim.Native.Nat.{ℕ, zero, suc, _+_, _-_, _≤_}
 use native.Mathlib.Omega.{arith}
 use mathlib.Core.Path.{_≡_, refl, sym, ap, ap₂, _∙_, subst}
 use mathlib.Core.Bool.{true, false}
@@ -9,28 +9,15 @@ use lib.Seq.{drop-append-seam}
 use lib.IntN.{ℤ, pos}
 use Rattle.semantics.specs.Does.{frame}
 use Rattle.semantics.specs.Run.{Row, Job, Choice, meaning, each}
-use Rattle.semantics.specs.Search.{Close, Move, plain, found, probe, answer}
+use Rattle.semantics.specs.Search.{Solver, Close, Move, plain, found, probe, Answer, answer}
 use Rattle.semantics.specs.Demand.{RowOf, PlanList}
+use Rattle.semantics.specs.Promise.{Promised, atWhole, atCut, atFull, atSpent}
 use Rattle.semantics.proofs.Keep.{All, anil, acons}
 use Rattle.semantics.proofs.Members.{member-all, run-length}
 use Rattle.settings.specs.Rows.{wordsOf}
-use Rattle.list.specs.Promise.{Closes, atWhole, atCut, atFull, atSpent}
 use Rattle.lines.specs.Written.{rowFrom, rowsFrom}
 use Rattle.lines.proofs.Kept as K
 use Rattle.lines.proofs.Kept.{read-back}
-
--- ---- as many as have a place
-
-pub few-rows : (c : Close) (ms : List Move) (skip room budget : ℕ) → length (answer c ms skip room budget .rows) ≤ room
-unfolding answer
-few-rows c [] skip room budget = omega arith
-few-rows c (m ∷ ms) skip room zero = omega arith
-few-rows c (plain k ∷ ms) skip room (suc n) = few-rows c ms skip room n
-few-rows c (probe false ∷ ms) skip room (suc n) = few-rows c ms skip room n
-few-rows c (probe true ∷ ms) skip room (suc n) = few-rows _ ms skip room n
-few-rows c (found r ∷ ms) (suc k) room (suc n) = few-rows c ms k room n
-few-rows c (found r ∷ ms) zero zero (suc n) = omega arith
-few-rows c (found r ∷ ms) zero (suc k) (suc n) = omega (arith, few-rows c ms zero k n)
 
 -- ---- at most eight values
 
@@ -63,11 +50,11 @@ few-rest : (j : Job) (skip : ℕ) (plans : List Row) → PlanList j plans → Al
 few-rest j skip plans p = all-drop skip (few-plans j plans p)
 
 -- what is written of a plan list
-pub few-written : {j : Job} {skip room budget : ℕ} {plans written : List Row} {moves : ℕ} {c : Close} → PlanList j plans → Closes j skip room budget plans written moves c → All Few written
-few-written {j} {skip} {room} {budget} {plans} {written} p (atWhole e n) = subst (All Few) (sym e) (few-rest j skip plans p)
-few-written {j} {skip} {room} {budget} {plans} {written} p (atCut e s) = subst (All Few) (sym e) (few-rest j skip plans p)
-few-written {j} {skip} {room} {budget} {plans} {written} p (atFull e h) = subst (All Few) (sym e) (all-take room (few-rest j skip plans p))
-few-written {j} {skip} {room} {budget} {plans} {written} p (atSpent m e r h) = all-front written r (subst (All Few) h (few-rest j skip plans p))
+pub few-written : {v : Solver} {j : Job} {skip room budget : ℕ} {plans : List Row} {a : Answer} → PlanList j plans → Promised v j plans skip room budget a → All Few (a .rows)
+few-written {j = j} {skip} {plans = plans} p (atWhole e h n) = subst (All Few) (sym (h .written)) (few-rest j skip plans p)
+few-written {j = j} {skip} {plans = plans} p (atCut e h s) = subst (All Few) (sym (h .written)) (few-rest j skip plans p)
+few-written {j = j} {skip} {room} {plans = plans} p (atFull e h) = subst (All Few) (sym (h .written)) (all-take room (few-rest j skip plans p))
+few-written {j = j} {skip} {plans = plans} {a} p (atSpent e h) = all-front (a .rows) (h .rest) (subst (All Few) (h .front) (few-rest j skip plans p))
 
 -- ---- read back
 

@@ -7,16 +7,16 @@ use lib.ListN.{length, getD, set, length-set}
 use lib.Seq.{getD-set-same, getD-set-other}
 use Rattle.events.specs.Event.{Event, function, parameter, opens, closes, declares}
 use Rattle.text_rules.specs.Names.{Declared, declared, outer, entered, scope}
-use Rattle.scopes.specs.Memory.{declaration, start, from, blocksOf, Ordered, none, more, Room, Moved, scopeOf}
+use Rattle.scopes.specs.Memory.{scopeSlot, scopeStart, scopeWords, declaration, start, from, blocksOf, Ordered, none, more, Room, Moved, scopeOf}
 use Rattle.scopes.specs.declared.scope.Scope.{Scope}
 
 -- ---- reading after a store
 
-declaration-other : (l : List ℕ) (i v j : ℕ) → ¬ (3 * j ≡ i) → ¬ (3 * j + 1 ≡ i) → declaration (set l i v) j ≡ declaration l j
-declaration-other l i v j p q = rw (getD-set-other l i (3 * j) v 0 p, getD-set-other l i (3 * j + 1) v 0 q)
+declaration-other : (l : List ℕ) (i v j : ℕ) → ¬ (scopeWords * j ≡ i) → ¬ (scopeWords * j + scopeSlot ≡ i) → declaration (set l i v) j ≡ declaration l j
+declaration-other l i v j p q = rw (getD-set-other l i (scopeWords * j) v 0 p, getD-set-other l i (scopeWords * j + scopeSlot) v 0 q)
 
-start-other : (l : List ℕ) (i v j : ℕ) → ¬ (3 * j + 2 ≡ i) → start (set l i v) j ≡ start l j
-start-other l i v j p = getD-set-other l i (3 * j + 2) v 0 p
+start-other : (l : List ℕ) (i v j : ℕ) → ¬ (scopeWords * j + scopeStart ≡ i) → start (set l i v) j ≡ start l j
+start-other l i v j p = getD-set-other l i (scopeWords * j + scopeStart) v 0 p
 
 -- ---- lists of declarations, and blocks, by what is read
 
@@ -78,16 +78,16 @@ begun l s i h =
 -- ---- a block begins
 
 pub opened :
-    (l : List ℕ) (s : Scope) → Room l s → 3 * s .blocks + 3 ≤ length l
-    → Moved l s opens (set l (3 * s .blocks + 2) (s .seen)) (record { blocks = s .blocks + 1; seen = s .seen; next = s .next })
+    (l : List ℕ) (s : Scope) → Room l s → scopeWords * s .blocks + scopeWords ≤ length l
+    → Moved l s opens (set l (scopeWords * s .blocks + scopeStart) (s .seen)) (record { blocks = s .blocks + 1; seen = s .seen; next = s .next })
 unfolding entered blocksOf from
 opened l s room h =
     let b = s .blocks in
-    let l′ = set l (3 * b + 2) (s .seen) in
-    let at : start l′ b ≡ s .seen = getD-set-same l (3 * b + 2) (s .seen) 0 (omega arith) in
-    let below : ((j : ℕ) → j < b → start l′ j ≡ start l j) = λ j p. start-other l (3 * b + 2) (s .seen) j (omega arith) in
+    let l′ = set l (scopeWords * b + scopeStart) (s .seen) in
+    let at : start l′ b ≡ s .seen = getD-set-same l (scopeWords * b + scopeStart) (s .seen) 0 (omega arith) in
+    let below : ((j : ℕ) → j < b → start l′ j ≡ start l j) = λ j p. start-other l (scopeWords * b + scopeStart) (s .seen) j (omega arith) in
     let same : ((j : ℕ) → j < s .seen → declaration l′ j ≡ declaration l j) =
-    λ j p. declaration-other l (3 * b + 2) (s .seen) j (omega arith) (omega arith) in
+    λ j p. declaration-other l (scopeWords * b + scopeStart) (s .seen) j (omega arith) (omega arith) in
     let e : b + 1 ≡ suc b = omega arith in
     let z : s .seen - s .seen ≡ 0 = omega arith in
     record {
@@ -117,7 +117,7 @@ close (more {b = b} h o) n =
     record { blocks = rw e; ordered = rw e o; less = rw e h }
 
 pub closed :
-    (l : List ℕ) (s : Scope) (seen : ℕ) → Room l s → ¬ (s .blocks ≡ 0) → seen ≡ getD l (3 * (s .blocks - 1) + 2) 0
+    (l : List ℕ) (s : Scope) (seen : ℕ) → Room l s → ¬ (s .blocks ≡ 0) → seen ≡ getD l (scopeWords * (s .blocks - 1) + scopeStart) 0
     → Moved l s closes l (record { blocks = s .blocks - 1; seen = seen; next = s .next })
 unfolding entered
 closed l s seen room n e =
@@ -153,19 +153,19 @@ grown l l′ i n d s e z (more {b = b} {end = end} h o) =
 
 pub pushed :
     (l : List ℕ) (s : Scope) (i : ℕ) → Room l s → 0 < s .blocks
-    → Moved l s (declares i) (set (set l (3 * s .seen) i) (3 * s .seen + 1) (s .next)) (record { blocks = s .blocks; seen = s .seen + 1; next = s .next + 1 })
+    → Moved l s (declares i) (set (set l (scopeWords * s .seen) i) (scopeWords * s .seen + scopeSlot) (s .next)) (record { blocks = s .blocks; seen = s .seen + 1; next = s .next + 1 })
 unfolding entered
 pushed l s i room pos =
     let k = s .seen in
-    let l₁ = set l (3 * k) i in
-    let l₂ = set l₁ (3 * k + 1) (s .next) in
+    let l₁ = set l (scopeWords * k) i in
+    let l₂ = set l₁ (scopeWords * k + scopeSlot) (s .next) in
     let st : ((j : ℕ) → start l₂ j ≡ start l j) =
-    λ j. start-other l₁ (3 * k + 1) (s .next) j (omega arith) ∙ start-other l (3 * k) i j (omega arith) in
+    λ j. start-other l₁ (scopeWords * k + scopeSlot) (s .next) j (omega arith) ∙ start-other l (scopeWords * k) i j (omega arith) in
     let same : ((j : ℕ) → j < k → declaration l₂ j ≡ declaration l j) =
-    λ j p. declaration-other l₁ (3 * k + 1) (s .next) j (omega arith) (omega arith) ∙ declaration-other l (3 * k) i j (omega arith) (omega arith) in
-    let name : getD l₂ (3 * k) 0 ≡ i =
-    getD-set-other l₁ (3 * k + 1) (3 * k) (s .next) 0 (omega arith) ∙ getD-set-same l (3 * k) i 0 (omega arith) in
-    let slot : getD l₂ (3 * k + 1) 0 ≡ s .next = getD-set-same l₁ (3 * k + 1) (s .next) 0 (simp length-set (omega arith)) in
+    λ j p. declaration-other l₁ (scopeWords * k + scopeSlot) (s .next) j (omega arith) (omega arith) ∙ declaration-other l (scopeWords * k) i j (omega arith) (omega arith) in
+    let name : getD l₂ (scopeWords * k) 0 ≡ i =
+    getD-set-other l₁ (scopeWords * k + scopeSlot) (scopeWords * k) (s .next) 0 (omega arith) ∙ getD-set-same l (scopeWords * k) i 0 (omega arith) in
+    let slot : getD l₂ (scopeWords * k + scopeSlot) 0 ≡ s .next = getD-set-same l₁ (scopeWords * k + scopeSlot) (s .next) 0 (simp length-set (omega arith)) in
     let last : declaration l₂ k ≡ record { name = i; slot = s .next } = rw (name, slot) in
     record {
       means = rw (grown l l₂ i (s .next) same st last (omega arith) (room .ordered), next-suc (s .next));
@@ -180,7 +180,7 @@ pushed l s i room pos =
 
 -- a declaration where no block is open
 pub room-first :
-    {l l₁ : List ℕ} {s s₁ : Scope} → Room l s → 3 * s .blocks + 3 ≤ length l
+    {l l₁ : List ℕ} {s s₁ : Scope} → Room l s → scopeWords * s .blocks + scopeWords ≤ length l
     → (Moved l s opens l₁ s₁) × (s₁ .blocks ≡ s .blocks + 1) × (s₁ .seen ≡ s .seen) × (s₁ .next ≡ s .next)
     → length l₁ ≡ length l
     → (Room l₁ s₁) × (0 < s₁ .blocks)

@@ -1,14 +1,14 @@
 -- The lookup, one declaration or one block at a time.
-use Prim.Native.Nat.{ℕ, zero, suc, _+_, _-_, _*_, _≤_, _<_}
-use mathlib.Core.Path.{_≡_, refl, ap, sym, _∙_}
+use Prim.Native.Nat.{ℕ, suc, _+_, _-_, _*_, _≤_, _<_}
+use mathlib.Core.Path.{_≡_, ap, sym}
 use mathlib.Core.Bool.{Bool, true, false, cond}
-use mathlib.Core.List.{List, [], _∷_}
+use mathlib.Core.List.{List, _∷_}
 use mathlib.Core.Option.{Option, none, some}
 use native.Mathlib.Omega.{arith}
 use native.Mathlib.Numerals.{add-one}
 use lib.ListN.{getD}
 use Rattle.text_rules.specs.Names.{Declared, inBlock, sought}
-use Rattle.scopes.specs.Memory.{declaration, start, from, blocksOf, Ordered}
+use Rattle.scopes.specs.Memory.{scopeSlot, scopeStart, scopeWords, declaration, start, from, blocksOf, Ordered}
 use Rattle.scopes.specs.Memory as M
 
 -- the first of two that is there
@@ -31,7 +31,7 @@ module _ (same : ℕ → ℕ → Bool) where
   module _ (l : List ℕ) (bs : List (List Declared)) (i k end : ℕ) where
     -- the declaration k has the name
     pub hit :
-        {name slot : ℕ} → k < end → name ≡ getD l (3 * k) 0 → slot ≡ getD l (3 * k + 1) 0 → same name i ≡ true
+        {name slot : ℕ} → k < end → name ≡ getD l (scopeWords * k) 0 → slot ≡ getD l (scopeWords * k + scopeSlot) 0 → same name i ≡ true
         → some slot ≡ sought same (from l k (end - k) ∷ bs) i
     unfolding from
     hit h en es e =
@@ -40,7 +40,7 @@ module _ (same : ℕ → ℕ → Bool) where
 
     -- it has another
     pub miss :
-        {name : ℕ} → k < end → name ≡ getD l (3 * k) 0 → same name i ≡ false
+        {name : ℕ} → k < end → name ≡ getD l (scopeWords * k) 0 → same name i ≡ false
         → sought same (from l (k + 1) (end - (k + 1)) ∷ bs) i ≡ sought same (from l k (end - k) ∷ bs) i
     unfolding from
     miss h en e =
@@ -60,7 +60,7 @@ pub record Taken (l : List ℕ) (b end s : ℕ) : Type 0 where
   pub ordered : Ordered l (b - 1) s
   pub less : s ≤ end
 
-pub taken : {l : List ℕ} {b end : ℕ} {s : ℕ} → Ordered l b end → 0 < b → s ≡ getD l (3 * (b - 1) + 2) 0 → Taken l b end s
+pub taken : {l : List ℕ} {b end : ℕ} {s : ℕ} → Ordered l b end → 0 < b → s ≡ getD l (scopeWords * (b - 1) + scopeStart) 0 → Taken l b end s
 unfolding blocksOf
 taken M.none h e = absurd (omega arith)
 taken {l} {s = s} (M.more {b = b} {end = end} p o) h e =

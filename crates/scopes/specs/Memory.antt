@@ -8,11 +8,20 @@ use Rattle.text_rules.specs.Names as N
 use Rattle.text_rules.specs.Names.{Declared, entered}
 use Rattle.scopes.specs.declared.scope.Scope.{Scope}
 
+abbrev pub scopeWords : ℕ
+scopeWords = 3
+
+abbrev pub scopeSlot : ℕ
+scopeSlot = 1
+
+abbrev pub scopeStart : ℕ
+scopeStart = 2
+
 abbrev pub declaration : List ℕ → ℕ → Declared
-declaration l k = record { name = getD l (3 * k) 0; slot = getD l (3 * k + 1) 0 }
+declaration l k = record { name = getD l (scopeWords * k) 0; slot = getD l (scopeWords * k + scopeSlot) 0 }
 
 abbrev pub start : List ℕ → ℕ → ℕ
-start l b = getD l (3 * b + 2) 0
+start l b = getD l (scopeWords * b + scopeStart) 0
 
 -- n declarations from k on
 unfoldable pub from : List ℕ → ℕ → ℕ → List Declared
@@ -36,14 +45,14 @@ pub data Ordered (l : List ℕ) : ℕ → ℕ → Type 0 where
 -- b blocks, and the declarations before `end`, are in the words
 pub record Held (l : List ℕ) (b end : ℕ) : Type 0 where
   pub ordered : Ordered l b end
-  pub blocks : 3 * b ≤ length l
-  pub declarations : 3 * end ≤ length l
+  pub blocks : scopeWords * b ≤ length l
+  pub declarations : scopeWords * end ≤ length l
 
 -- the blocks are in the words, and there is room for one more declaration
 pub record Room (l : List ℕ) (s : Scope) : Type 0 where
   pub ordered : Ordered l (s .blocks) (s .seen)
-  pub blocks : 3 * s .blocks ≤ length l
-  pub seen : 3 * s .seen + 3 ≤ length l
+  pub blocks : scopeWords * s .blocks ≤ length l
+  pub seen : scopeWords * s .seen + scopeWords ≤ length l
   pub small : s .seen < 2 ^ 32
   pub next : s .next < 2 ^ 32
 

@@ -5,11 +5,12 @@ ghost use Rattle.text_rules.specs.Spelling.{sameName};
 ghost use Rattle.text_rules.specs.Names as N;
 ghost use Rattle.scopes.specs.Memory.{Held, blocksOf};
 ghost use Rattle.scopes.specs.Answers.{slotOf, orZero};
+use crate::scope::SCOPE_SLOT;
+use crate::scope::SCOPE_START;
+use crate::scope::SCOPE_WORDS;
+use code::Address;
 use text_rules::spelling::same_name;
 use text_rules::spelling::word;
-
-// A variable's address in its function's frame: the number of its declaration in the function, parameters first.
-pub struct Address(pub usize);
 
 // What a lookup finds.
 pub enum Sought {
@@ -35,11 +36,11 @@ pub fn seek(
     let mut end = seen;
     'blocks: while 0 < block {
         block -= 1;
-        let start = word(scope, 3 * block + 2);
+        let start = word(scope, SCOPE_WORDS * block + SCOPE_START);
         let mut k = start;
         while k < end {
-            if same_name(text, places, values, word(scope, 3 * k), i) {
-                found = Sought::At(Address(word(scope, 3 * k + 1)));
+            if same_name(text, places, values, word(scope, SCOPE_WORDS * k), i) {
+                found = Sought::At(Address(word(scope, SCOPE_WORDS * k + SCOPE_SLOT)));
                 break 'blocks;
             }
             k += 1;

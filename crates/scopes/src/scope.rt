@@ -3,10 +3,17 @@ ghost use mathlib.Core.Path.{_≡_};
 ghost use Prim.Native.Nat.{_+_, _*_, _^_, _≤_, _<_};
 ghost use lib.ListN.{length};
 ghost use Rattle.events.specs.Event.{function, opens, closes, declares};
-ghost use Rattle.text_rules.specs.Answers.{event};
-ghost use Rattle.scopes.specs.Memory.{Room, Moved, tokenOf};
-use text_rules::item::Item;
+ghost use Rattle.events.specs.Read.{asEvent};
+ghost use Rattle.scopes.specs.Memory.{scopeWords, Room, Moved, tokenOf};
+use events::event::Event;
 use text_rules::spelling::word;
+
+// The words of place k: the name and the slot of declaration k, and the first declaration of block k.
+pub const SCOPE_WORDS: usize = 3;
+
+pub const SCOPE_SLOT: usize = 1;
+
+pub const SCOPE_START: usize = 2;
 
 // How many blocks are open, how many declarations can be seen, and the number of the function's next declaration.
 pub struct Scope {
@@ -17,10 +24,10 @@ pub struct Scope {
 
 // A function begins, with the block of its parameters.
 fn begin_function(scope: &mut [u32], s: Scope, name: usize) -> Scope
-    requires { ⌜ 3 ≤ length (now scope) ⌝ }
+    requires { ⌜ scopeWords ≤ length (now scope) ⌝ }
     ensures { λ r. ⌜ Moved (now (scope .entry)) s (function name) (now (scope .exit)) r ⌝ }
 {
-    scope[2] = 0;
+    scope[SCOPE_START] = 0;
     Scope {
         blocks: 1,
         seen: 0,
@@ -29,12 +36,12 @@ fn begin_function(scope: &mut [u32], s: Scope, name: usize) -> Scope
 }
 
 fn open_block(scope: &mut [u32], s: Scope) -> Scope
-    requires { ⌜ (Room (now scope) s) × (3 * s .blocks + 3 ≤ length (now scope)) ⌝ }
+    requires { ⌜ (Room (now scope) s) × (scopeWords * s .blocks + scopeWords ≤ length (now scope)) ⌝ }
     ensures { λ r. ⌜ (Moved (now (scope .entry)) s opens (now (scope .exit)) r) × (r .blocks ≡ s .blocks + 1) × (r .seen ≡ s .seen) × (r .next ≡ s .next) ⌝ }
 {
     let blocks = s.blocks;
     let seen = s.seen;
-    scope[3 * blocks + 2] = seen as u32;
+    scope[SCOPE_WORDS * blocks + SCOPE_START] = seen as u32;
     Scope {
         blocks: blocks + 1,
         seen,
@@ -53,7 +60,7 @@ fn close_block(scope: &[u32], s: Scope) -> Scope
     let outer = blocks - 1;
     Scope {
         blocks: outer,
-        seen: word(scope, 3 * outer + 2),
+        seen: word(scope, SCOPE_WORDS * outer + SCOPE_START),
         next: s.next,
     }
 }
@@ -65,8 +72,8 @@ fn push(scope: &mut [u32], s: Scope, name: usize) -> Scope
 {
     let seen = s.seen;
     let next = s.next;
-    scope[3 * seen] = name as u32;
-    scope[3 * seen + 1] = next as u32;
+    scope[SCOPE_WORDS * seen] = name as u32;
+    scope[SCOPE_WORDS * seen + SCOPE_SLOT] = next as u32;
     Scope {
         blocks: s.blocks,
         seen: seen + 1,
@@ -76,7 +83,7 @@ fn push(scope: &mut [u32], s: Scope, name: usize) -> Scope
 
 // A declaration; where no block is open, it opens one.
 fn declare(scope: &mut [u32], s: Scope, name: usize) -> Scope
-    requires { ⌜ (Room (now scope) s) × (3 * s .blocks + 3 ≤ length (now scope)) × (name < 2 ^ 32) ⌝ }
+    requires { ⌜ (Room (now scope) s) × (scopeWords * s .blocks + scopeWords ≤ length (now scope)) × (name < 2 ^ 32) ⌝ }
     ensures { λ r. ⌜ Moved (now (scope .entry)) s (declares name) (now (scope .exit)) r ⌝ }
 {
     if s.blocks == 0 {
@@ -87,16 +94,16 @@ fn declare(scope: &mut [u32], s: Scope, name: usize) -> Scope
 }
 
 // The scope after an event.
-pub fn enter(scope: &mut [u32], s: Scope, item: Item) -> Scope
-    requires { ⌜ (Room (now scope) s) × (3 * s .blocks + 3 ≤ length (now scope)) × (tokenOf (event item) < 2 ^ 32) ⌝ }
-    ensures { λ r. ⌜ Moved (now (scope .entry)) s (event item) (now (scope .exit)) r ⌝ }
+pub fn enter(scope: &mut [u32], s: Scope, event: Event) -> Scope
+    requires { ⌜ (Room (now scope) s) × (scopeWords * s .blocks + scopeWords ≤ length (now scope)) × (tokenOf (asEvent event) < 2 ^ 32) ⌝ }
+    ensures { λ r. ⌜ Moved (now (scope .entry)) s (asEvent event) (now (scope .exit)) r ⌝ }
 {
-    match item {
-        Item::Function(i) => begin_function(scope, s, i),
-        Item::Parameter(i) => declare(scope, s, i),
-        Item::Declares(i) => declare(scope, s, i),
-        Item::Opens => open_block(scope, s),
-        Item::Closes => close_block(scope, s),
+    match event {
+        Event::Function(i) => begin_function(scope, s, i),
+        Event::Parameter(i) => declare(scope, s, i),
+        Event::Declares(i) => declare(scope, s, i),
+        Event::Opens => open_block(scope, s),
+        Event::Closes => close_block(scope, s),
         _ => s,
     }
 }

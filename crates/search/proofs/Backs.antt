@@ -52,7 +52,8 @@ adds-of c = record { more = c .more; most = omega (arith, c .places) }
 -- ---- the choice taken back
 
 -- no choice is left
-pub ended-backed : (m m′ : List ℕ) (n : ℕ) (t : Tally) (x : Next) → NewestBack m m′ n x → x ≡ Ended → (e : Ending) → closeOf e ≡ closing (t .cut) → (a : Answered) → a ≡ closes t e → Backed m m′ n (tried.Go t) (Over a)
+pub ended-backed : (m m′ : List ℕ) (n : ℕ) (t : Tally) (x : Next) → NewestBack m m′ n x → x ≡ Ended → (e : Ending) → closeOf e ≡ closing (t .cut) → (a : Answered) → a ≡ closes t e
+    → Backed m m′ n (tried.Go t) (Over a)
 ended-backed m m′ n t x b q e c a d = subst (λ (a : Answered). Backed m m′ n (tried.Go t) (Over a)) (sym d) (record {
   is = λ rows. ap (λ k. over (closed k (tallyOf rows t))) c ∙ back-none (outcomesIn m 0 n) (tallyOf rows t) (sym (ap (forcedIn m′) q) ∙ b .is);
   onward = adds-none t;
@@ -80,7 +81,8 @@ moved-same k (tried.Go u) = refl
 moved-same k (tried.Full u) = refl
 moved-same k (tried.Spent u) = refl
 
-pub forced-backed : (m m′ : List ℕ) (n : ℕ) (t : Tally) (x : Next) → NewestBack m m′ n x → (k : ℕ) → x ≡ Forced k → (y : Tried) → Charged t (λ rows. charge (tallyOf rows t)) y → (z : Tried) → y ≡ z → (r : Then) → r ≡ movedOn k z
+pub forced-backed : (m m′ : List ℕ) (n : ℕ) (t : Tally) (x : Next) → NewestBack m m′ n x → (k : ℕ) → x ≡ Forced k → (y : Tried) → Charged t (λ rows. charge (tallyOf rows t)) y → (z : Tried) → y ≡ z
+    → (r : Then) → r ≡ movedOn k z
     → Backed m m′ n (tried.Go t) r
 forced-backed m m′ n t x b k q y h z e r d = subst (λ (r : Then). Backed m m′ n (tried.Go t) r) (sym d) (by (subst (λ (y : Tried). Charged t (λ rows. charge (tallyOf rows t)) y) e h))
   where
@@ -95,10 +97,12 @@ forced-backed m m′ n t x b k q y h z e r d = subst (λ (r : Then). Backed m m�
 -- ---- the search is over
 
 pub over-full : (m : List ℕ) (n : ℕ) (x : Tried) (t : Tally) → x ≡ tried.Full t → (a : Answered) → a ≡ closes t ending.Full → Backed m m n x (Over a)
-over-full m n x t e a d = subst (λ (x : Tried). Backed m m n x (Over a)) (sym e) (subst (λ (a : Answered). Backed m m n (tried.Full t) (Over a)) (sym d) (record { is = λ rows. refl; onward = adds-none t; same = refl }))
+over-full m n x t e a d = subst (λ (x : Tried). Backed m m n x (Over a)) (sym e)
+    (subst (λ (a : Answered). Backed m m n (tried.Full t) (Over a)) (sym d) (record { is = λ rows. refl; onward = adds-none t; same = refl }))
 
 pub over-spent : (m : List ℕ) (n : ℕ) (x : Tried) (t : Tally) → x ≡ tried.Spent t → (a : Answered) → a ≡ closes t ending.Spent → Backed m m n x (Over a)
-over-spent m n x t e a d = subst (λ (x : Tried). Backed m m n x (Over a)) (sym e) (subst (λ (a : Answered). Backed m m n (tried.Spent t) (Over a)) (sym d) (record { is = λ rows. refl; onward = adds-none t; same = refl }))
+over-spent m n x t e a d = subst (λ (x : Tried). Backed m m n x (Over a)) (sym e)
+    (subst (λ (a : Answered). Backed m m n (tried.Spent t) (Over a)) (sym d) (record { is = λ rows. refl; onward = adds-none t; same = refl }))
 
 -- ---- a path's end
 
@@ -113,7 +117,8 @@ module _ (m m₁ m₂ : List ℕ) (p : Point) (t : Tally) (x : Tried) (r : Then)
   after-end : (rows : List ℤ) (y : lister.Next lister.Tally) → nextOf rows x ≡ y → thenOf m₂ rows r ≡ then y (back (outcomesIn m 0 (p .choices)))
   after-end rows y e = b .is rows ∙ ap₂ (λ (y : lister.Next lister.Tally) (h : List Bool). then y (back h)) e (outcomes-steady m m₁ s (p .choices))
 
-  pub finished-return : (v : Value) (rows rows′ : List ℤ) → Placing rows rows′ t (trials (meant m (p .run .nodes) v) (tests m (p .run .nodes) (p .choices)) (settings (windowsIn m (p .windows))) (tallyOf rows t)) x
+  pub finished-return : (v : Value) (rows rows′ : List ℤ) → Placing rows rows′ t (trials (meant m (p .run .nodes) v) (tests m (p .run .nodes) (p .choices))
+      (settings (windowsIn m (p .windows))) (tallyOf rows t)) x
       → Finished m m₂ rows rows′ (returned (meant m (p .run .nodes) v)) p t r
   unfolding finish
   finished-return v rows rows′ h = record {

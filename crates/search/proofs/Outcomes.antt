@@ -1,5 +1,5 @@
 -- The outcomes in memory, and the newest true one taken back.
-use Prim.Native.Nat.{ℕ, zero, suc, _+_, _*_, _-_, _≤_, _<_}
+use Prim.Native.Nat.{ℕ, zero, suc, _+_, _-_, _≤_, _<_}
 use native.Mathlib.Nat.{eq-or-lt-of-le}
 use native.Mathlib.Omega.{arith}
 use mathlib.Core.Path.{_≡_, refl, sym, ap, ap₂, _∙_, subst}
@@ -11,13 +11,14 @@ use lib.ListN.{length, getD, set}
 use lib.Seq.{getD-set-same, getD-set-other}
 use Rattle.simulation.specs.Lister.{next}
 use Rattle.simulation.proofs.Back.{AllFalse, next-none, next-newest}
+use Rattle.machine.specs.Layout.{outcomePlace, wordsFor}
 use Rattle.machine.specs.Memory.{outcomeAs, outcomesIn}
 use Rattle.search.specs.Loop.{NewestBack}
 use Rattle.search.specs.declared.Next.the-variants.{Ended, Forced}
 
 -- the word of choice j
 abbrev pub at : ℕ → ℕ
-at j = 1211 + 12 * j
+at j = outcomePlace j
 
 -- the choices from i on, of n, went false
 abbrev pub FalseFrom : List ℕ → ℕ → ℕ → Type 0
@@ -67,7 +68,7 @@ kept m m′ i (suc k) f = ap₂ (λ (x : ℕ) (l : List Bool). outcomeAs x ∷ l
 pub none-left : (m : List ℕ) (n : ℕ) → FalseFrom m 0 n → NewestBack m m n Ended
 none-left m n f = record { is = sym (next-none (outcomesIn m 0 n) (all-false m 0 n (λ j l u. f j l (omega arith)))); other = λ i h. refl }
 
-module _ (m : List ℕ) (n k : ℕ) (inside : k < n) (room : 1200 + 12 * n ≤ length m) (was : getD m (at k) 0 ≡ 0 → ⊥) (after : FalseFrom m (suc k) n) where
+module _ (m : List ℕ) (n k : ℕ) (inside : k < n) (room : wordsFor n ≤ length m) (was : getD m (at k) 0 ≡ 0 → ⊥) (after : FalseFrom m (suc k) n) where
   abbrev back : List ℕ
   back = set m (at k) 0
 

@@ -41,7 +41,8 @@ pub room-few : (m m′ : List ℕ) (n limit : ℕ) → n ≤ limit → length m�
 room-few m m′ n limit l e r = record { words = omega (arith, l, e, r .words); small = omega (arith, l, r .small) }
 
 module _ (c : Code) (job : Window) (limit : ℕ) (m m₁ m₂ : List ℕ) (rows rows′ : List ℤ) (forced : ℕ) (t : Tally) where
-  pub round-ended : (e : End) (p : Point) (left : ℕ) → Ends c job limit (t .budget) (outcomesIn m 0 forced) m₁ e p left → (u : Tally) → u ≡ paying t left → (r : Then) → Finished m₁ m₂ rows rows′ e p u r → Round c job limit m m₂ rows rows′ forced t r
+  pub round-ended : (e : End) (p : Point) (left : ℕ) → Ends c job limit (t .budget) (outcomesIn m 0 forced) m₁ e p left → (u : Tally) → u ≡ paying t left → (r : Then)
+      → Finished m₁ m₂ rows rows′ e p u r → Round c job limit m m₂ rows rows′ forced t r
   round-ended e p left h u q r f = by (subst (λ (u : Tally). Finished m₁ m₂ rows rows′ e p u r) q f)
     where
       by : Finished m₁ m₂ rows rows′ e p (paying t left) r → Round c job limit m m₂ rows rows′ forced t r
@@ -51,7 +52,8 @@ module _ (c : Code) (job : Window) (limit : ℕ) (m m₁ m₂ : List ℕ) (rows 
         rowed = f .rowed;
       }
 
-pub round-spent : (c : Code) (job : Window) (limit : ℕ) (m m₁ : List ℕ) (rows : List ℤ) (forced : ℕ) (t : Tally) → Walks c job limit (t .budget) (outcomesIn m 0 forced) (λ t. over (closed spent (paid 0 t))) → (u : Tally) → u ≡ paying t 0
+pub round-spent : (c : Code) (job : Window) (limit : ℕ) (m m₁ : List ℕ) (rows : List ℤ) (forced : ℕ) (t : Tally)
+    → Walks c job limit (t .budget) (outcomesIn m 0 forced) (λ t. over (closed spent (paid 0 t))) → (u : Tally) → u ≡ paying t 0
     → (a : Answered) → a ≡ closes u ending.Spent → Round c job limit m m₁ rows rows forced t (Over a)
 round-spent c job limit m m₁ rows forced t h u q a d = subst (λ (a : Answered). Round c job limit m m₁ rows rows forced t (Over a)) (sym (d ∙ ap (λ (u : Tally). closes u ending.Spent) q)) (record {
   is = sym (h .is (tallyOf rows t) refl (turnsOf c limit) (le-refl _));

@@ -7,7 +7,7 @@ use mathlib.Core.List.{List}
 use lib.ListN.{length}
 use lib.IntN.{ℤ}
 use Rattle.semantics.specs.Run.{Window, Job}
-use Rattle.semantics.specs.Search.{known, work, byRanges, listed}
+use Rattle.semantics.specs.Search.{known, work, inUse, listed}
 use Rattle.simulation.specs.Code.{Code}
 use Rattle.simulation.specs.Machine.{start}
 use Rattle.simulation.specs.Path.{begins}
@@ -34,7 +34,8 @@ first skip room budget = record { budget = budget; skip = skip; room = room; wri
 
 -- between two paths: the answer to every job that the code is, the rows so far, and what was counted
 pub record Between (c : Code) (window : Window) (limit skip room budget : ℕ) (m₀ : List ℕ) (rows₀ : List ℤ) (m : List ℕ) (rows : List ℤ) (forced : ℕ) (t : Tally) : Type 0 where
-  pub opens : (j : Job) → Placed c (j .program) → j .window ≡ window → j .steps ≡ limit → Opens (listed byRanges j skip room budget) (treeOf byRanges window limit (j .program)) (startOf m rows forced t)
+  pub opens : (j : Job) → Placed c (j .program) → j .window ≡ window → j .steps ≡ limit
+      → Opens (listed inUse j skip room budget) (treeOf inUse window limit (j .program)) (startOf m rows forced t)
   pub rowed : Rowed rows₀ rows 0 (t .written)
   pub places : t .written + t .room ≡ room
   pub sum : t .moves + t .budget ≡ budget
@@ -42,11 +43,11 @@ pub record Between (c : Code) (window : Window) (limit skip room budget : ℕ) (
   pub sheet : length rows ≡ length rows₀
 
 module _ (c : Code) (window : Window) (limit skip room budget : ℕ) (m₀ : List ℕ) (rows₀ : List ℤ) where
-  opens-first : (j : Job) → j .window ≡ window → j .steps ≡ limit → Opens (listed byRanges j skip room budget) (treeOf byRanges window limit (j .program)) (startOf m₀ rows₀ 0 (first skip room budget))
+  opens-first : (j : Job) → j .window ≡ window → j .steps ≡ limit → Opens (listed inUse j skip room budget) (treeOf inUse window limit (j .program)) (startOf m₀ rows₀ 0 (first skip room budget))
   unfolding outcomesIn rowsAt
   opens-first j p q =
-      subst (λ (w : Window). Opens (listed byRanges j skip room budget) (treeOf byRanges w limit (j .program)) (opening skip room budget)) p
-      (subst (λ (n : ℕ). Opens (listed byRanges j skip room budget) (treeOf byRanges (j .window) n (j .program)) (opening skip room budget)) q (opens-start byRanges j skip room budget))
+      subst (λ (w : Window). Opens (listed inUse j skip room budget) (treeOf inUse w limit (j .program)) (opening skip room budget)) p
+      (subst (λ (n : ℕ). Opens (listed inUse j skip room budget) (treeOf inUse (j .window) n (j .program)) (opening skip room budget)) q (opens-start inUse j skip room budget))
 
   pub between-first : Between c window limit skip room budget m₀ rows₀ m₀ rows₀ 0 (first skip room budget)
   between-first = record {
@@ -63,22 +64,25 @@ module _ (c : Code) (window : Window) (limit skip room budget : ℕ) (m₀ : Lis
     between-fair l h = record { sum = omega (arith, b .sum, l); place = subst (λ (n : ℕ). 10 * n ≤ length rows) (sym (b .places)) (omega (arith, b .sheet, h)) }
 
     module _ (m′ : List ℕ) (rows′ : List ℤ) (r : Then) (h : Round c window limit m m′ rows rows′ forced t r) where
-      opens-next : (j : Job) → Placed c (j .program) → j .window ≡ window → j .steps ≡ limit → OpensNext (listed byRanges j skip room budget) (treeOf byRanges window limit (j .program)) (thenOf m′ rows′ r)
+      opens-next : (j : Job) → Placed c (j .program) → j .window ≡ window → j .steps ≡ limit
+          → OpensNext (listed inUse j skip room budget) (treeOf inUse window limit (j .program)) (thenOf m′ rows′ r)
       opens-next j placing p q =
-          let a = listed byRanges j skip room budget in
-          let tree = treeOf byRanges window limit (j .program) in
+          let a = listed inUse j skip room budget in
+          let tree = treeOf inUse window limit (j .program) in
           let k = kept-start c limit (outcomesIn m 0 forced) in
           subst (OpensNext a tree) (sym (h .is))
-          (path-ok a tree byRanges window c limit (most-turns c limit) (start known work c) (begins limit (outcomesIn m 0 forced)) (tallyOf rows t) (leads-start a byRanges window c limit (j .program) placing (startOf m rows forced t) (b .opens j placing p q)) k
+          (path-ok a tree inUse window c limit (most-turns c limit) (start known work c) (begins limit (outcomesIn m 0 forced)) (tallyOf rows t)
+          (leads-start a inUse window c limit (j .program) placing (startOf m rows forced t) (b .opens j placing p q)) k
           (turns-le c limit (start known work c) (begins limit (outcomesIn m 0 forced)) k))
 
       fewer : Fewer (t .budget) (thenOf m′ rows′ r)
-      fewer = subst (Fewer (t .budget)) (sym (h .is)) (path-fewer byRanges window c limit (most-turns c limit) (start known work c) (begins limit (outcomesIn m 0 forced)) (tallyOf rows t))
+      fewer = subst (Fewer (t .budget)) (sym (h .is)) (path-fewer inUse window c limit (most-turns c limit) (start known work c) (begins limit (outcomesIn m 0 forced)) (tallyOf rows t))
 
     pub between-less : (m′ : List ℕ) (rows′ : List ℤ) (r : Then) → Round c window limit m m′ rows rows′ forced t r → (k : ℕ) (u : Tally) → r ≡ On k u → u .budget < t .budget
     between-less m′ rows′ r h k u e = subst (λ (r : Then). Fewer (t .budget) (thenOf m′ rows′ r)) e (fewer m′ rows′ r h)
 
-    pub between-next : (m′ : List ℕ) (rows′ : List ℤ) (r : Then) → Round c window limit m m′ rows rows′ forced t r → (k : ℕ) (u : Tally) → r ≡ On k u → length m′ ≡ length m → length rows′ ≡ length rows
+    pub between-next : (m′ : List ℕ) (rows′ : List ℤ) (r : Then) → Round c window limit m m′ rows rows′ forced t r → (k : ℕ) (u : Tally) → r ≡ On k u → length m′
+        ≡ length m → length rows′ ≡ length rows
         → Between c window limit skip room budget m₀ rows₀ m′ rows′ k u
     between-next m′ rows′ r h k u e x y = by (subst (λ (r : Then). Round c window limit m m′ rows rows′ forced t r) e h)
       where
@@ -92,12 +96,14 @@ module _ (c : Code) (window : Window) (limit skip room budget : ℕ) (m₀ : Lis
           sheet = y ∙ b .sheet;
         }
 
-    pub between-over : 10 * room ≤ length rows₀ → (m′ : List ℕ) (rows′ : List ℤ) (r : Then) → Round c window limit m m′ rows rows′ forced t r → (a : Answered) → r ≡ Over a → length rows′ ≡ length rows → Lists c window limit skip room budget rows₀ rows′ a
+    pub between-over : 10 * room ≤ length rows₀ → (m′ : List ℕ) (rows′ : List ℤ) (r : Then) → Round c window limit m m′ rows rows′ forced t r → (a : Answered) → r ≡ Over a → length rows′
+        ≡ length rows → Lists c window limit skip room budget rows₀ rows′ a
     between-over l m′ rows′ r h a e y = by (subst (λ (r : Then). Round c window limit m m′ rows rows′ forced t r) e h)
       where
         by : Round c window limit m m′ rows rows′ forced t (Over a) → Lists c window limit skip room budget rows₀ rows′ a
         by h = record {
           is = opens-next m′ rows′ (Over a) h;
-          sheet = sheet-is rows₀ rows′ (a .written) (y ∙ b .sheet) (omega (arith, l, h .onward .most, b .places)) (rowed-more rows₀ rows rows′ 0 (t .written) (a .written) (omega arith) (h .onward .more) (b .rowed) (h .rowed));
+          sheet = sheet-is rows₀ rows′ (a .written) (y ∙ b .sheet) (omega (arith, l, h .onward .most, b .places))
+              (rowed-more rows₀ rows rows′ 0 (t .written) (a .written) (omega arith) (h .onward .more) (b .rowed) (h .rowed));
           few = omega (arith, h .onward .most, b .places);
         }

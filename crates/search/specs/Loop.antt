@@ -1,5 +1,5 @@
 -- The search in lent memory, path after path, and its answer.
-use Prim.Native.Nat.{ℕ, _+_, _-_, _*_, _≤_, _<_}
+use Prim.Native.Nat.{ℕ, _+_, _-_, _≤_, _<_}
 use mathlib.Core.Path.{_≡_}
 use mathlib.Core.Bool.{Bool}
 use mathlib.Core.List.{List}
@@ -8,13 +8,14 @@ use lib.ListN.{getD}
 use lib.IntN.{ℤ}
 use Rattle.semantics.specs.Run as run
 use Rattle.semantics.specs.Run.{Job}
-use Rattle.semantics.specs.Search.{known, work, byRanges, Close, whole, cuts, full, spent, Answer, listed}
+use Rattle.semantics.specs.Search.{known, work, inUse, Close, whole, cuts, full, spent, Answer, listed}
 use Rattle.simulation.specs.Code.{Code}
 use Rattle.simulation.specs.Machine.{start}
 use Rattle.simulation.specs.Path.{begins, End}
 use Rattle.simulation.specs.Lister as lister
 use Rattle.simulation.specs.Lister.{go, over, then, next, Start, finish, back, path}
 use Rattle.simulation.specs.Placed.{Placed}
+use Rattle.machine.specs.Layout.{outcomePlace}
 use Rattle.machine.specs.Memory.{outcomesIn}
 use Rattle.settings.specs.declared.Tally.{Tally}
 use Rattle.settings.specs.declared.Tried.{Tried}
@@ -41,7 +42,7 @@ forcedIn m (Forced k) = some (outcomesIn m 0 k)
 -- of n choices the newest true one was taken back, if there is one; no word but an outcome's changed
 pub record NewestBack (m m′ : List ℕ) (n : ℕ) (r : Next) : Type 0 where
   pub is : forcedIn m′ r ≡ next (outcomesIn m 0 n)
-  pub other : (i : ℕ) → ((j : ℕ) → j < n → i ≡ 1211 + 12 * j → ⊥) → getD m′ i 0 ≡ getD m i 0
+  pub other : (i : ℕ) → ((j : ℕ) → j < n → i ≡ outcomePlace j → ⊥) → getD m′ i 0 ≡ getD m i 0
 
 -- ---- the answer
 
@@ -101,7 +102,7 @@ pub record Finished (m m′ : List ℕ) (rows rows′ : List ℤ) (e : End) (p :
 
 -- one path, and what is done at its end
 pub record Round (c : Code) (job : run.Window) (limit : ℕ) (m m′ : List ℕ) (rows rows′ : List ℤ) (forced : ℕ) (t : Tally) (r : Then) : Type 0 where
-  pub is : thenOf m′ rows′ r ≡ path byRanges job c limit (turnsOf c limit) (start known work c) (begins limit (outcomesIn m 0 forced)) (tallyOf rows t)
+  pub is : thenOf m′ rows′ r ≡ path inUse job c limit (turnsOf c limit) (start known work c) (begins limit (outcomesIn m 0 forced)) (tallyOf rows t)
   pub onward : Onward t r
   pub rowed : Rowed rows rows′ (t .written) (writtenIn r)
 
@@ -109,6 +110,6 @@ pub record Round (c : Code) (job : run.Window) (limit : ℕ) (m m′ : List ℕ)
 
 -- the answer to every job with this window and limit, whose program the code is; the slice holds its rows, and behind them what it held
 pub record Lists (c : Code) (window : run.Window) (limit skip room budget : ℕ) (rows rows′ : List ℤ) (a : Answered) : Type 0 where
-  pub is : (j : Job) → Placed c (j .program) → j .window ≡ window → j .steps ≡ limit → answerOf rows′ a ≡ listed byRanges j skip room budget
+  pub is : (j : Job) → Placed c (j .program) → j .window ≡ window → j .steps ≡ limit → answerOf rows′ a ≡ listed inUse j skip room budget
   pub sheet : rows′ ≡ sheet rows (answerOf rows′ a .rows)
   pub few : a .written ≤ room

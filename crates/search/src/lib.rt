@@ -14,6 +14,7 @@ ghost use Rattle.paths.specs.Point.{Standing};
 ghost use Rattle.search.specs.Loop.{NewestBack, closes, paying, Backed, Finished, Round, Lists};
 use intervals::Window;
 use machine::Value;
+use machine::layout;
 use paths::Point;
 use paths::Walked;
 use settings::Tally;
@@ -54,8 +55,8 @@ fn take_back(mem: &mut [u32], n: usize) -> Next
     let mut i = n;
     while 0 < i {
         i -= 1;
-        if mem[1211 + 12 * i] != 0 {
-            mem[1211 + 12 * i] = 0;
+        if mem[layout::OUTCOMES + layout::STRIDE * i] != 0 {
+            mem[layout::OUTCOMES + layout::STRIDE * i] = 0;
             return Next::Forced(i + 1);
         }
     }

@@ -7,7 +7,8 @@ use native.Mathlib.Omega.{arith}
 use lib.ListN.{length, take, drop, length-append, take-append-drop}
 use lib.Dec.{T}
 use lib.Seq.{drop-nil}
-use Rattle.semantics.specs.Run.{Row, Job, choices, someCut}
+use Rattle.semantics.specs.Run.{Row, Job}
+use Rattle.semantics.specs.Plans.{choices, plans, someCut}
 use Rattle.semantics.specs.Search.{all32, Move, plain, found, probe, rowsIn, cutIn, Solver, search, Close, whole, cuts, full, spent, Answer, answer, listed}
 use Rattle.semantics.specs.Promise.{Ended, Full, Spent, Promised, atWhole, atCut, atFull, atSpent}
 use Rattle.semantics.proofs.Range.{Sub}
@@ -86,7 +87,7 @@ drop-front (suc n) (r ∷ x) y = drop-front n x y
 -- ---- the promise
 
 module _ (v : Solver) (sound : Sound v) (j : Job) (small : Sub (j .window) all32) (skip room budget : ℕ) where
-  promised : (a : Answer) → Outcome whole (search v j) skip room budget a → Promised v j skip room budget a
+  promised : (a : Answer) → Outcome whole (search v j) skip room budget a → Promised v j (plans j) skip room budget a
   promised a (filled l p q w s t u) = atFull p (record {
     last = l;
     time = s;
@@ -101,19 +102,32 @@ module _ (v : Solver) (sound : Sound v) (j : Job) (small : Sub (j .window) all32
       atSpent p (record { time = s; place = t; made = q; written = w; rest = e .0; front = ap (drop skip) (sym (search-rows v sound j small) ∙ front (search v j) budget) ∙ e .1 ∙ ap (λ l. l ++ e .0) (sym w) })
   promised a (ended p q w s t) = go (someCut (choices j)) refl
     where
-      all : Ended v j skip room budget a
+      all : Ended v j (plans j) skip room budget a
       all = record { time = s; place = omega (arith, t, ap length (search-rows v sound j small)); made = q; written = w ∙ ap (drop skip) (search-rows v sound j small) }
 
       closes : (b : Bool) → someCut (choices j) ≡ b → a .close ≡ cond b cuts whole
       closes b e = p ∙ ap (λ b. cond b cuts whole) (search-cut v sound j small ∙ e)
 
-      go : (b : Bool) → someCut (choices j) ≡ b → Promised v j skip room budget a
+      go : (b : Bool) → someCut (choices j) ≡ b → Promised v j (plans j) skip room budget a
       go true e = atCut (closes true e) all (some-cut j .0 (subst T (sym e) tt))
       go false e = atWhole (closes false e) all (λ c. subst T e (some-cut j .1 c))
 
-  pub promise : Promised v j skip room budget (listed v j skip room budget)
+  pub promise : Promised v j (plans j) skip room budget (listed v j skip room budget)
   unfolding listed
   promise = promised (answer whole (search v j) skip room budget) (outcome whole (search v j) skip room budget)
+
+-- ---- each row written has a place, and was a move
+
+pub few-rows : (c : Close) (ms : List Move) (skip room budget : ℕ) → (length (answer c ms skip room budget .rows) ≤ room) × (length (answer c ms skip room budget .rows) ≤ budget)
+unfolding answer
+few-rows c [] skip room budget = (omega arith, omega arith)
+few-rows c (m ∷ ms) skip room zero = (omega arith, omega arith)
+few-rows c (plain k ∷ ms) skip room (suc n) = let h = few-rows c ms skip room n in (h .0, omega (arith, h .1))
+few-rows c (probe false ∷ ms) skip room (suc n) = let h = few-rows c ms skip room n in (h .0, omega (arith, h .1))
+few-rows c (probe true ∷ ms) skip room (suc n) = let h = few-rows cuts ms skip room n in (h .0, omega (arith, h .1))
+few-rows c (found r ∷ ms) (suc k) room (suc n) = let h = few-rows c ms k room n in (h .0, omega (arith, h .1))
+few-rows c (found r ∷ ms) zero zero (suc n) = (omega arith, omega arith)
+few-rows c (found r ∷ ms) zero (suc k) (suc n) = let h = few-rows c ms zero k n in (omega (arith, h .0), omega (arith, h .1))
 
 -- ---- the promise leaves nothing open: an answer that keeps it is list's
 
@@ -137,26 +151,26 @@ answer-path : {a b : Answer} → a .rows ≡ b .rows → a .moves ≡ b .moves �
 answer-path p q r = λ i. record { rows = p i; moves = q i; close = r i }
 
 module _ (v : Solver) (j : Job) (skip room budget : ℕ) (a b : Answer) where
-  one-ended : (c : Close) → a .close ≡ c → b .close ≡ c → Ended v j skip room budget a → Ended v j skip room budget b → a ≡ b
+  one-ended : (c : Close) → a .close ≡ c → b .close ≡ c → Ended v j (plans j) skip room budget a → Ended v j (plans j) skip room budget b → a ≡ b
   one-ended c e f p q = answer-path (p .written ∙ sym (q .written)) (p .made ∙ sym (q .made)) (e ∙ sym f)
 
-  one-full : a .close ≡ full → b .close ≡ full → Full v j skip room budget a → Full v j skip room budget b → a ≡ b
+  one-full : a .close ≡ full → b .close ≡ full → Full v j (plans j) skip room budget a → Full v j (plans j) skip room budget b → a ≡ b
   one-full e f p q = answer-path (p .written ∙ sym (q .written)) (p .made ∙ ap suc (same-last (search v j) (p .last) (q .last) (skip + room) (p .place) (p .over) (q .place) (q .over)) ∙ sym (q .made)) (e ∙ sym f)
 
-  one-spent : a .close ≡ spent → b .close ≡ spent → Spent v j skip room budget a → Spent v j skip room budget b → a ≡ b
+  one-spent : a .close ≡ spent → b .close ≡ spent → Spent v j (plans j) skip room budget a → Spent v j (plans j) skip room budget b → a ≡ b
   one-spent e f p q = answer-path (p .written ∙ sym (q .written)) (p .made ∙ sym (q .made)) (e ∙ sym f)
 
 module _ (v : Solver) (j : Job) (skip room budget : ℕ) where
-  ended-full : (a b : Answer) → Ended v j skip room budget a → Full v j skip room budget b → ⊥
+  ended-full : (a b : Answer) → Ended v j (plans j) skip room budget a → Full v j (plans j) skip room budget b → ⊥
   ended-full a b p q = omega (arith, p .place, q .more)
 
-  ended-spent : (a b : Answer) → Ended v j skip room budget a → Spent v j skip room budget b → ⊥
+  ended-spent : (a b : Answer) → Ended v j (plans j) skip room budget a → Spent v j (plans j) skip room budget b → ⊥
   ended-spent a b p q = omega (arith, p .time, q .time)
 
-  full-spent : (a b : Answer) → Full v j skip room budget a → Spent v j skip room budget b → ⊥
+  full-spent : (a b : Answer) → Full v j (plans j) skip room budget a → Spent v j (plans j) skip room budget b → ⊥
   full-spent a b p q = omega (arith, p .over, q .place, rows-mono (search v j) (suc (p .last)) budget (p .time))
 
-  pub promise-settles : (a b : Answer) → Promised v j skip room budget a → Promised v j skip room budget b → a ≡ b
+  pub promise-settles : (a b : Answer) → Promised v j (plans j) skip room budget a → Promised v j (plans j) skip room budget b → a ≡ b
   promise-settles a b (atWhole e p c) (atWhole f q d) = one-ended v j skip room budget a b whole e f p q
   promise-settles a b (atWhole e p c) (atCut f q d) = absurd (c d)
   promise-settles a b (atWhole e p c) (atFull f q) = absurd (ended-full a b p q)

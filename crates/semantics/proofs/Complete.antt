@@ -8,7 +8,8 @@ use lib.ListN.{length}
 use lib.IntN.{ℤ}
 use lib.Dec.{leb·zero}
 use Rattle.semantics.specs.Does.{does}
-use Rattle.semantics.specs.Run.{Ending, returns, fails, cuts, Ran, Choice, adding, belonging, before, insert, sorted, Row, rowsWith, rowsOf, isCut, lists, Job, meaning, choices, plans, someCut}
+use Rattle.semantics.specs.Run.{Ending, returns, fails, cuts, Ran, Choice, Row, Job, meaning}
+use Rattle.semantics.specs.Plans.{adding, belonging, before, insert, sorted, rowsWith, rowsOf, isCut, lists, choices, plans, someCut}
 use Rattle.semantics.specs.Search.{known, work, all32, Move, plain, found, probe, meets, paths, moves, probedOnce, openly, Solver, search, rowsIn, cutIn}
 use Rattle.semantics.proofs.Order.{cond-cases}
 use Rattle.semantics.proofs.Range.{Sub}

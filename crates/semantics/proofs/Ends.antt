@@ -10,7 +10,8 @@ use lib.Dec.{T, eqb, ltb, T-not}
 use lib.Signed.{ltZ}
 use Rattle.semantics.specs.Int.{Cmp}
 use Rattle.semantics.specs.Does.{Does, returned, failed, cut, step, free, test}
-use Rattle.semantics.specs.Run.{Ending, returns, fails, cuts, Ran, noting, Choice, adding, belonging, smaller, sooner, before, insert, sorted}
+use Rattle.semantics.specs.Run.{Ending, returns, fails, cuts, Ran, noting, Choice}
+use Rattle.semantics.specs.Plans.{adding, belonging, smaller, sooner, before, insert, sorted}
 use Rattle.semantics.specs.Search.{Value, unknown, under}
 use Rattle.semantics.proofs.Order.{_≺_, cond-cases, →ltZ}
 use Rattle.semantics.proofs.Keep.{All, anil, acons, all-map, keep, Ordered, onil, ocons, ordered-keep}

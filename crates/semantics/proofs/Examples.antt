@@ -1,16 +1,14 @@
--- Document 01's "Rules tried by hand" that need no text, in one table under one proof by computation; and, in a second one, texts on which readings of the paper differ.
+-- What the search answers to programs on which readings of the paper differ, in one table under one proof by computation. (Document 01's starred "Rules tried by hand" are held from their texts, in list.)
 use Prim.Native.Nat.{ℕ, zero, suc}
 use mathlib.Core.Path.{_≡_, refl}
 use mathlib.Core.Bool.{true}
 use mathlib.Core.List.{List, [], _∷_, map}
 use lib.IntN.{ℤ, pos, negsuc}
-use Rattle.semantics.specs.Int.{add, mul, lt, gt, eq, ne, arith, exact, wrap, low32, holds, eqZ}
-use Rattle.semantics.specs.Program
-use Rattle.semantics.specs.Does
-use Rattle.semantics.specs.Program.{Address, slot, Expr, number, name, op, call, Exprs, more, Cond, const, compare, and, or, Stmt, empty, declare, unknown, assign, block, if, while, return, fail, Stmts, end, next, Program}
+use Rattle.semantics.specs.Int.{add, mul, lt, eq, ne, arith, exact, wrap, low32, holds, eqZ}
+use Rattle.semantics.specs.Program.{Address, slot, Expr, number, name, op, call, Exprs, more, Cond, const, compare, or, Stmt, empty, declare, unknown, assign, block, if, while, return, fail, Stmts, end, next, Program}
 use Rattle.semantics.specs.Does.{within, does, enter, stmt, loop, cond, expr, frame}
 use Rattle.semantics.specs.Run.{Row, Job, each, numbers, clamp, counting}
-use Rattle.semantics.specs.Search.{to, byRanges, Answer, Close, whole, cuts, full, spent, listed, answer, search, openly, probedOnce, moves, paths, probed, tried, settings, meets, narrowed, clipped, clip, decided, always, range, fitted, span, maxZ, minZ, all32, under, work}
+use Rattle.semantics.specs.Search.{to, inUse, Answer, Close, whole, cuts, full, spent, listed, answer, search, openly, probedOnce, moves, paths, probed, tried, settings, meets, narrowed, clipped, clip, decided, always, range, fitted, span, maxZ, minZ, all32, under, work}
 
 -- ---- how the texts are written here
 
@@ -75,65 +73,15 @@ asked j skip room budget rs c n = record { job = j; skip = skip; room = room; bu
 abbrev gives : Job → List Row → Close → ℕ → Case
 gives j rs c n = asked j 0 1000 1000000 rs c n
 
--- ---- the starred texts
+-- ---- the programs
 
 -- int main() { int y free; if (y < 2) return y; else fail; }
 abbrev A : Program
 A = main₁ (body₂ (unknown a) (if (compare lt (name a) (num 2)) (return (name a)) fail))
 
-abbrev within-steps : ℕ → Job
-within-steps n = record { program = A; window = to (pos 0) (pos 3); steps = n }
-
--- int a free; if (a > 1) return 1; else return 0;
-abbrev above-one : Program
-above-one = main₁ (body₂ (unknown a) (if (compare gt (name a) (num 1)) (give 1) (give 0)))
-
--- int a free; int b free; return a + b;
-abbrev sum : Program
-sum = main₁ (body₃ (unknown a) (unknown b) (return (op add (name a) (name b))))
-
--- int a free; if (a < a) return 9; else return a;
-abbrev itself : Program
-itself = main₁ (body₂ (unknown a) (if (compare lt (name a) (name a)) (give 9) (return (name a))))
-
--- int a free; if (a < 1 && f() == 0) return 1; else return 0; and int f() { fail; }
-abbrev right-side : Program
-right-side = main₂ (body₂ (unknown a) (if (and (compare lt (name a) (num 1)) (compare eq (call 1 Exprs.none) (num 0))) (give 1) (give 0))) (body₁ fail)
-
--- while (true) ; fail;
-abbrev ever : Program
-ever = main₁ (body₂ (while (const true) empty) fail)
-
 -- return e;
 abbrev value : Expr → Program
 value e = main₁ (body₁ (return e))
-
-abbrev starred : List Case
-starred =
-    -- A, 0 to 3: budget 9 whole, 8 spent with both rows
-    asked (upto A 3) 0 1000 9 (plan 0 (0 ∷ []) ∷ plan 1 (1 ∷ []) ∷ []) whole 9
-    ∷ asked (upto A 3) 0 1000 8 (plan 0 (0 ∷ []) ∷ plan 1 (1 ∷ []) ∷ []) spent 8
-    -- A, step limit 5 whole; 4 gives cut, no rows, 6 moves
-    ∷ gives (within-steps 5) (plan 0 (0 ∷ []) ∷ plan 1 (1 ∷ []) ∷ []) whole 9
-    ∷ gives (within-steps 4) [] cuts 6
-    -- A, rows slice of 10 words: full after 1 row, 7 moves
-    ∷ asked (upto A 3) 0 1 1000000 (plan 0 (0 ∷ []) ∷ []) full 7
-    -- values 2, 3, 0, 1
-    ∷ gives (upto above-one 3) (plan 1 (2 ∷ []) ∷ plan 1 (3 ∷ []) ∷ plan 0 (0 ∷ []) ∷ plan 0 (1 ∷ []) ∷ []) whole 11
-    -- two free numbers, sum returned, 0 to 1: 0,0 0,1 1,0 1,1
-    ∷ gives (upto sum 1) (plan 0 (0 ∷ 0 ∷ []) ∷ plan 1 (0 ∷ 1 ∷ []) ∷ plan 1 (1 ∷ 0 ∷ []) ∷ plan 2 (1 ∷ 1 ∷ []) ∷ []) whole 9
-    -- a free, 1 to 2: rows 1, 2 in 11 moves
-    ∷ gives (record { program = itself; window = to (pos 1) (pos 2); steps = 100 }) (plan 1 (1 ∷ []) ∷ plan 2 (2 ∷ []) ∷ []) whole 11
-    -- 0 to 1: one row, value 1, result 0
-    ∷ gives (upto right-side 1) (plan 0 (1 ∷ []) ∷ []) whole 9
-    -- 50 steps: cut, 51 moves
-    ∷ gives (record { program = ever; window = to (pos 0) (pos 0); steps = 50 }) [] cuts 51
-    -- 2147483647 + 1 is -2147483648; 65536 × 65536 is 0
-    ∷ gives (upto (value (op add (num 2147483647) (num 1))) 0) (row (negsuc 2147483647) [] ∷ []) whole 4
-    ∷ gives (upto (value (op mul (num 65536) (num 65536))) 0) (plan 0 [] ∷ []) whole 4
-    ∷ []
-
--- ---- further texts
 
 -- Listing 1 of 002, called by int main() { return log(1); }
 abbrev log : Program
@@ -231,11 +179,7 @@ further =
 -- ---- the proof
 
 unfoldable pub given : Case → Answer
-given c = listed byRanges (c .job) (c .skip) (c .room) (c .budget)
-
-pub starred-hold : map given starred ≡ map (λ c. c .answer) starred
-unfolding given listed answer search openly probedOnce moves paths probed tried settings meets narrowed clipped clip decided always range fitted span maxZ minZ all32 under work each numbers clamp counting within does enter stmt loop cond expr frame holds eqZ arith exact wrap low32
-starred-hold = refl
+given c = listed inUse (c .job) (c .skip) (c .room) (c .budget)
 
 pub further-hold : map given further ≡ map (λ c. c .answer) further
 unfolding frees given listed answer search openly probedOnce moves paths probed tried settings meets narrowed clipped clip decided always range fitted span maxZ minZ all32 under work each numbers clamp counting within does enter stmt loop cond expr frame holds eqZ arith exact wrap low32

@@ -128,7 +128,7 @@ module _ {X : Type 0} (num : ℤ → X) (work : Op → X → X → X) where
   enter-upto L n m a b p (suc d) K l g vs k k′ h =
       upto-step (stmts-upto L (enter num work n p d) (enter num work m p d) (enter-upto L n m a b p d) n m a b (getD p g Stmts.end) (frame (num (pos 0)) 16 vs) K _ _ k k′ l (λ f. upto-same K failed) h)
 
-  pub enough-turns : (l f n m : ℕ) → l ≤ n → l ≤ m → (p : Program) → within l f (does num work n p) ≡ within l f (does num work m p)
+  enough-turns : (l f n m : ℕ) → l ≤ n → l ≤ m → (p : Program) → within l f (does num work n p) ≡ within l f (does num work m p)
   unfolding does
   enough-turns l f n m a b p = enter-upto l n m a b (p .bodies) 32 l (omega arith) (p .main) [] returned returned (λ v. upto-same l (returned v)) .upto l f (omega arith)
 

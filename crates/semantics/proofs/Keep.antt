@@ -23,7 +23,7 @@ module _ {A : Type 0} where
   all-of f [] = anil
   all-of f (x ∷ xs) = acons (f x) (all-of f xs)
 
-  pub all-append : {P : A → Type 0} {xs : List A} → All P xs → {ys : List A} → All P ys → All P (xs ++ ys)
+  all-append : {P : A → Type 0} {xs : List A} → All P xs → {ys : List A} → All P ys → All P (xs ++ ys)
   all-append anil k = k
   all-append (acons h t) k = acons h (all-append t k)
 
@@ -56,7 +56,7 @@ module _ {A : Type 0} where
   keep-keep p q [] = refl
   keep-keep p q (x ∷ xs) = keep-keep-step p q x xs (p x) refl (q x) (keep-keep p q xs)
 
-  pub keep-append : (p : A → Bool) (xs ys : List A) → keep p (xs ++ ys) ≡ keep p xs ++ keep p ys
+  keep-append : (p : A → Bool) (xs ys : List A) → keep p (xs ++ ys) ≡ keep p xs ++ keep p ys
   unfolding keep
   keep-append p [] ys = refl
   keep-append p (x ∷ xs) ys = go (p x) (keep-append p xs ys)
@@ -65,7 +65,7 @@ module _ {A : Type 0} where
       go true h = ap (λ l. x ∷ l) h
       go false h = h
 
-  pub all-keep : {P : A → Type 0} (p : A → Bool) {xs : List A} → All P xs → All P (keep p xs)
+  all-keep : {P : A → Type 0} (p : A → Bool) {xs : List A} → All P xs → All P (keep p xs)
   unfolding keep
   all-keep p anil = anil
   all-keep {P} p (acons {x} {xs} h t) = go (p x) (all-keep p t)

@@ -12,7 +12,8 @@ use lib.IntN.{ℤ, sucℤ, _-ℤ_}
 use lib.Dec.{T}
 use Rattle.semantics.specs.Int.{holds}
 use Rattle.semantics.specs.Does.{Does, returned, failed, cut, step, free, test, within}
-use Rattle.semantics.specs.Run.{Window, counting, clamp, numbers, each, lists, Ending, returns, fails, cuts, Ran, noting, exactly, run, Choice, adding, belonging, before, insert, sorted, Row, rowsWith, rowsOf, isCut, someCut}
+use Rattle.semantics.specs.Run.{Window, counting, clamp, numbers, each, Ending, returns, fails, cuts, Ran, noting, exactly, run, Choice, Row}
+use Rattle.semantics.specs.Plans.{lists, adding, belonging, before, insert, sorted, rowsWith, rowsOf, isCut, someCut}
 use Rattle.semantics.specs.Demand.{_∈_}
 use Rattle.semantics.proofs.Order.{_≼_, cond-cases, antisym, of-suc}
 use Rattle.semantics.proofs.Range.{In}
@@ -47,12 +48,12 @@ module _ {A : Type 0} where
   split-member x (y ∷ front) rest = there (split-member x front rest)
 
 module _ {A B : Type 0} where
-  pub map-member : (f : A → B) (x : A) (xs : List A) → x ∈ xs → f x ∈ map f xs
+  map-member : (f : A → B) (x : A) (xs : List A) → x ∈ xs → f x ∈ map f xs
   map-member f x [] m = absurd (nowhere m)
   map-member f x (y ∷ xs) (here e) = here (ap f e)
   map-member f x (y ∷ xs) (there m) = there (map-member f x xs m)
 
-  pub each-member : (f : A → List B) (x : A) (xs : List A) (y : B) → x ∈ xs → y ∈ f x → y ∈ each f xs
+  each-member : (f : A → List B) (x : A) (xs : List A) (y : B) → x ∈ xs → y ∈ f x → y ∈ each f xs
   unfolding each
   each-member f x [] y m n = absurd (nowhere m)
   each-member f x (z ∷ xs) y (here e) n = Memᴰ·append-left (each f xs) (subst (λ z. y ∈ f z) e n)

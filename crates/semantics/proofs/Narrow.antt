@@ -60,7 +60,7 @@ eq-sym x y =
     (λ t. subst (λ z. T (eqZ z x)) (eqZ→ x y t) (eqZ-refl x))
     (λ t. subst (λ z. T (eqZ z y)) (eqZ→ y x t) (eqZ-refl y))
 
-pub holds-mirrored : (c : Cmp) (x y : ℤ) → holds (mirrored c) y x ≡ holds c x y
+holds-mirrored : (c : Cmp) (x y : ℤ) → holds (mirrored c) y x ≡ holds c x y
 unfolding holds
 holds-mirrored lt x y = refl
 holds-mirrored le x y = refl

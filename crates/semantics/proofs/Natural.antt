@@ -169,7 +169,7 @@ module _ (s : List ℤ) where
       (frame-map s 16 vs)
       (stmts-same (enter known work most p d) (enter (λ z. z) work32 most p d) (enter-same most p d) most (getD p g Stmts.end) (frame (known (pos 0)) 16 vs) _ _ k m (λ f. same-failed) h))
 
-  pub does-same : (most : ℕ) (p : Program) → Same s (does known work most p) (does (λ z. z) work32 most p)
+  does-same : (most : ℕ) (p : Program) → Same s (does known work most p) (does (λ z. z) work32 most p)
   unfolding does
   does-same most p = enter-same most (p .bodies) 32 (p .main) [] _ _ same-returned
 

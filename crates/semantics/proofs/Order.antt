@@ -96,13 +96,13 @@ neqZ→ a b t e = T-not (eqZ a b) t (subst (λ z. T (eqZ a z)) (antisym a b (ome
 
 -- ---- what the operations do to `up` and `down`
 
-pub up-neg : (a : ℤ) → up (negℤ a) ≡ down a
+up-neg : (a : ℤ) → up (negℤ a) ≡ down a
 unfolding up down
 up-neg (pos zero) = refl
 up-neg (pos (suc n)) = refl
 up-neg (negsuc n) = refl
 
-pub down-neg : (a : ℤ) → down (negℤ a) ≡ up a
+down-neg : (a : ℤ) → down (negℤ a) ≡ up a
 unfolding up down
 down-neg (pos zero) = refl
 down-neg (pos (suc n)) = refl

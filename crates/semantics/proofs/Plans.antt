@@ -11,7 +11,8 @@ use lib.IntN.{ℤ}
 use lib.Dec.{T, eqb→eq}
 use lib.Signed.{ltZ}
 use Rattle.semantics.specs.Does.{Does, returned, failed, cut, step, free, test}
-use Rattle.semantics.specs.Run.{Window, lists, Ending, returns, fails, cuts, Ran, run, Choice, sorted, Row, rowsWith, rowsOf, Job, meaning, choices, plans, someCut}
+use Rattle.semantics.specs.Run.{Window, Ending, returns, fails, cuts, Ran, run, Choice, Row, Job, meaning}
+use Rattle.semantics.specs.Plans.{lists, sorted, rowsWith, rowsOf, choices, plans, someCut}
 use Rattle.semantics.specs.Search.{Value, unknown, openly}
 use Rattle.semantics.specs.Demand.{_∈_, InWindow, Belongs, Sooner, Lower, Before, RowOf, Earlier, PlanList, SomeCut}
 use Rattle.semantics.proofs.Order.{up, down, leZ→, →leZ, ltZ→, →ltZ}
@@ -31,13 +32,13 @@ in-window w v h = (→leZ (w .low) v (h .least), →leZ v (w .high) (h .most))
 window-in : (w : Window) (v : ℤ) → InWindow w v → In w v
 window-in w v h = record { least = leZ→ (w .low) v (h .0); most = leZ→ v (w .high) (h .1) }
 
-pub belongs-only : (j : Job) (c : Choice) → c ∈ choices j → Belongs j c
+belongs-only : (j : Job) (c : Choice) → c ∈ choices j → Belongs j c
 unfolding choices
 belongs-only j c m =
     let p = belonging-only (run (meaning j)) (lists 8 (j .window)) c m in
     record { inside = λ v n. in-window (j .window) v (all-member (lists-all 8 (j .window) (c .values) (p .0)) v n); runs = p .1 }
 
-pub belongs-has : (j : Job) (c : Choice) → Belongs j c → c ∈ choices j
+belongs-has : (j : Job) (c : Choice) → Belongs j c → c ∈ choices j
 unfolding choices meaning
 belongs-has j c b =
     belonging-has (run (meaning j)) (lists 8 (j .window)) (c .values) (c .ran)

@@ -159,7 +159,7 @@ bool-ext true false f g = absurd (f tt)
 bool-ext false true f g = absurd (g tt)
 bool-ext false false f g = refl
 
-pub fitted-sound : (w : Window) (z : ℤ) → In w z → In (fitted w) (wrap z)
+fitted-sound : (w : Window) (z : ℤ) → In w z → In (fitted w) (wrap z)
 unfolding fitted
 fitted-sound w z h =
     cond-cases (leZ (all32 .low) (w .low) && leZ (w .high) (all32 .high)) (λ r. In r (wrap z)) inside (λ t. wrap-in z)

@@ -10,7 +10,8 @@ use lib.ListN.{length, getD}
 use lib.IntN.{ℤ, pos, negsuc, sucℤ, _-ℤ_}
 use lib.Dec.{T, eqb·zero-suc, eqb·suc-zero, eqb·suc-suc}
 use lib.Signed.{leZ}
-use Rattle.semantics.specs.Run.{Window, counting, clamp, numbers, each, lists}
+use Rattle.semantics.specs.Run.{Window, counting, clamp, numbers, each}
+use Rattle.semantics.specs.Plans.{lists}
 use Rattle.semantics.specs.Search.{settings}
 use Rattle.semantics.proofs.Order.{up, down, _≼_, _≺_, leZ→, →leZ, nleZ→, antisym, of-minus, of-suc}
 use Rattle.semantics.proofs.Range.{In, Sub, Subs, and-left, and-right, and-both}
@@ -92,7 +93,7 @@ ahead w x (suc n) h k = by-order (w .low) x
     (λ l. rw (inside-no w x (λ p q. omega arith)) (ahead w (sucℤ x) n (omega (arith, of-suc x)) (omega (arith, of-suc x))))
 
 -- a window within another keeps its own numbers of the other's
-pub numbers-sub : (v w : Window) → Sub v w → keep (inside v) (numbers w) ≡ numbers v
+numbers-sub : (v w : Window) → Sub v w → keep (inside v) (numbers w) ≡ numbers v
 unfolding numbers counting
 numbers-sub v w h = by-order (v .low) (v .high)
     (λ l. ap (λ n. keep (inside v) (counting (w .low) n)) (clamp-gap (w .low) (sucℤ (w .high)))
@@ -163,7 +164,7 @@ unfolding counting
 counting-in w x zero h k = anil
 counting-in w x (suc n) h k = acons (record { least = h; most = omega (arith, of-suc (w .high)) }) (counting-in w (sucℤ x) n (omega (arith, of-suc x)) (omega (arith, of-suc x)))
 
-pub numbers-in : (w : Window) → All (In w) (numbers w)
+numbers-in : (w : Window) → All (In w) (numbers w)
 unfolding numbers
 numbers-in w = counting-in w (w .low) (clamp (sucℤ (w .high) -ℤ w .low)) (omega arith) (omega (arith, clamp-gap (w .low) (sucℤ (w .high))))
 

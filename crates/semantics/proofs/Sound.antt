@@ -10,7 +10,7 @@ use lib.IntN.{ℤ}
 use lib.Dec.{T}
 use Rattle.semantics.specs.Int.{Cmp, holds}
 use Rattle.semantics.specs.Run.{Window}
-use Rattle.semantics.specs.Search.{Value, under, all32, range, negated, always, decided, Solver, byRanges}
+use Rattle.semantics.specs.Search.{Value, under, all32, range, negated, always, decided, Solver, byRanges, inUse}
 use Rattle.semantics.proofs.Range.{Sub, Within, range-sound}
 use Rattle.semantics.proofs.Narrow.{always-sound, holds-negated, narrowed-sound, narrowed-length, narrowed-within}
 
@@ -67,3 +67,7 @@ byRanges-sound = record {
 
     clash : {us : List Window} → _≡_ {A = Option (List Window)} (some us) none → ⊥
     clash e = let z : _≡_ {A = ℕ} 0 1 = cc in omega arith
+
+-- the solver that list uses
+pub inUse-sound : Sound inUse
+inUse-sound = byRanges-sound

@@ -4,8 +4,9 @@ use mathlib.Core.Path.{_≡_, sym, subst, _∙_}
 use mathlib.Core.Logic.{_↔_}
 use mathlib.Core.List.{List}
 use lib.Dec.{T}
-use Rattle.semantics.specs.Run.{Window, Job, Choice, Row, choices, plans}
-use Rattle.semantics.specs.Search.{all32, Solver, byRanges, search, rowsIn, cutIn, Answer, listed}
+use Rattle.semantics.specs.Run.{Window, Job, Choice, Row}
+use Rattle.semantics.specs.Plans.{choices, plans}
+use Rattle.semantics.specs.Search.{all32, Solver, inUse, search, rowsIn, cutIn, Answer, listed}
 use Rattle.semantics.specs.Demand.{_∈_, In32, Belongs, PlanList, SomeCut}
 use Rattle.semantics.specs.Promise.{Promised}
 use Rattle.semantics.proofs.Order.{leZ→}
@@ -20,11 +21,11 @@ pub use Rattle.semantics.proofs.Fuel.{turns}
 pub use Rattle.semantics.proofs.Exact.{wrap-exact, range-exact, decided-true, decided-false, clip-exact}
 pub use Rattle.semantics.proofs.Filled.{range-filled, never-empty}
 pub use Rattle.semantics.proofs.Idle.{decided-idle}
-pub use Rattle.semantics.proofs.Sound.{byRanges-sound}
--- the starred examples, and further ones
-pub use Rattle.semantics.proofs.Examples.{starred-hold, further-hold}
+pub use Rattle.semantics.proofs.Sound.{byRanges-sound, inUse-sound}
+-- programs on which readings of the paper differ
+pub use Rattle.semantics.proofs.Examples.{further-hold}
 
-pub in-32 : (w : Window) → In32 w → Sub w all32
+in-32 : (w : Window) → In32 w → Sub w all32
 unfolding all32
 in-32 w h = record { least = leZ→ _ (w .low) (h .0); most = leZ→ (w .high) _ (h .1) }
 
@@ -55,11 +56,11 @@ module _ (v : Solver) (sound : Sound v) (j : Job) (small : In32 (j .window)) whe
       (λ t. Plans.some-cut j .0 (subst T e t), λ s. subst T (sym e) (Plans.some-cut j .1 s))
 
   -- what is written, the moves made and the ending, under every skip, room and budget
-  pub promise : (skip room budget : ℕ) → Promised v j skip room budget (listed v j skip room budget)
+  pub promise : (skip room budget : ℕ) → Promised v j (plans j) skip room budget (listed v j skip room budget)
   promise = Answer.promise v sound j (in-32 (j .window) small)
 
   -- which leaves nothing open: an answer that keeps the promise is this one
-  pub promise-unique : (skip room budget : ℕ) (a : Answer) → Promised v j skip room budget a → a ≡ listed v j skip room budget
+  pub promise-unique : (skip room budget : ℕ) (a : Answer) → Promised v j (plans j) skip room budget a → a ≡ listed v j skip room budget
   promise-unique skip room budget a p = Answer.promise-settles v j skip room budget a (listed v j skip room budget) p (promise skip room budget)
 
 -- two sound solvers find the same rows in the same order, and a cut run both or neither
@@ -68,15 +69,3 @@ module _ (u v : Solver) (sound₁ : Sound u) (sound₂ : Sound v) (j : Job) (sma
   solvers-agree =
       let i = in-32 (j .window) small in
       (search-rows u sound₁ j i ∙ sym (search-rows v sound₂ j i), search-cut u sound₁ j i ∙ sym (search-cut v sound₂ j i))
-
--- ---- document 01's search
-
-module _ (j : Job) (small : In32 (j .window)) where
-  pub whole-rows-01 : rowsIn (search byRanges j) ≡ plans j
-  whole-rows-01 = whole-rows byRanges byRanges-sound j small
-
-  pub whole-cut-01 : T (cutIn (search byRanges j)) ↔ SomeCut j
-  whole-cut-01 = whole-cut byRanges byRanges-sound j small
-
-  pub promise-01 : (skip room budget : ℕ) → Promised byRanges j skip room budget (listed byRanges j skip room budget)
-  promise-01 = promise byRanges byRanges-sound j small

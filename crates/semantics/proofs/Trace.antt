@@ -12,7 +12,8 @@ use lib.Signed.{leZ}
 use lib.Dec.{T, leb, ltb, leb→le, le→leb, ltb→lt, nltb→le, eqb→eq}
 use Rattle.semantics.specs.Int.{Cmp}
 use Rattle.semantics.specs.Does.{Does, returned, failed, cut, step, free, test, within}
-use Rattle.semantics.specs.Run.{Window, returns, cuts, lists}
+use Rattle.semantics.specs.Run.{Window, returns, cuts}
+use Rattle.semantics.specs.Plans.{lists}
 use Rattle.semantics.specs.Search.{Value, unknown, under, all32, negated, Solver, Test, asTest, meets, settings, Move, Paths, fork, side, paths, moves}
 use Rattle.semantics.proofs.Order.{up, down, →leZ}
 use Rattle.semantics.proofs.Range.{In, Sub, sub-trans, Subs, Within, and-left, and-right, and-both, bool-ext}
@@ -153,11 +154,6 @@ module _ (solver : Solver) (sound : Sound solver) (job : Window) (small : Sub jo
       swap true false z = refl
       swap false true z = refl
       swap false false z = refl
-
-  tested-not : (n : ℕ) (ts : List Test) (c : Cmp) (a b : Value) → keep (λ s. not (passes c a b s)) (candidates n ts) ≡ candidates n (asTest (negated c) a b ∷ ts)
-  tested-not n ts c a b =
-      keep-same _ _ (all-of (λ s. sym (holds-negated c (under s a) (under s b))) (candidates n ts))
-      ∙ tested n ts (negated c) a b
 
   keeps-test : (ws us : List Window) (ts : List Test) (c : Cmp) (a b : Value) → solver .narrow c a b ws ≡ some us → Keeps ws ts → Keeps us (asTest c a b ∷ ts)
   unfolding meets

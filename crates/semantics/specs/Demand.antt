@@ -1,4 +1,4 @@
--- What demand 3 says of the plan list of a job, in words of runs alone: neither sorting nor a search stands here. That `plans` of Run is this list, and that there is no other, are theorems.
+-- What demand 3 says of the plan list of a job, in words of runs alone: neither sorting nor a search stands here. That `plans` (Plans) is this list, and that there is no other, are theorems.
 use mathlib.Core.Path.{_≡_}
 use mathlib.Core.Bool.{Bool, true, false}
 use mathlib.Core.Option.{some}

@@ -1,4 +1,4 @@
--- The search of document 01: values that may be open, ranges, deciding and narrowing, the moves of the whole search, and what list answers.
+-- The search of document 01: values that may be open, ranges, deciding and narrowing, the solver, the moves of the whole search, and what list answers.
 use Prim.Native.Nat.{ℕ, zero, suc}
 use mathlib.Core.Bool.{Bool, true, false, cond, not, _&&_, _||_}
 use mathlib.Core.Option.{Option, none, some}
@@ -132,6 +132,10 @@ byRanges = record {
   decide = λ c a b ws. decided c (range ws a) (range ws b);
   narrow = λ c a b ws. some (narrowed c a b ws);
 }
+
+-- The solver that list uses: document 01's. Another one changes this line.
+abbrev pub inUse : Solver
+inUse = byRanges
 
 -- ---- settings
 

@@ -1,1 +1,1 @@
-// The definitions stand in specs/, the theorems in proofs/; there is no code.
+// What the papers say of programs, their runs, the plan list and the search: the definitions stand in specs/, the theorems on them in proofs/. There is no code.

@@ -99,9 +99,11 @@ module _ (rows : List ℤ) (t : Tally) (x : Row) where
     rowed = rowed-none rows (t .written);
   }
 
-  pub placed-row : (rows′ : List ℤ) → length (x .values) ≤ 8 → t .skip ≡ 0 → (t .room ≡ 0 → ⊥) → Written rows rows′ (t .written) x → Placing rows rows′ t (lister.place x (tallyOf rows t)) (Go (rowed t))
+  pub placed-row : (rows′ : List ℤ) → length (x .values) ≤ 8 → t .skip ≡ 0 → (t .room ≡ 0 → ⊥) → Written rows rows′ (t .written) x
+      → Placing rows rows′ t (lister.place x (tallyOf rows t)) (Go (rowed t))
   placed-row rows′ few e q w = record {
-    is = ap (λ (l : List Row). go (tally (t .budget) (t .skip) (t .room - 1) l (t .moves) (t .cut))) (w .is) ∙ place-row (t .budget) (t .skip) (t .room) (rowsAt rows (t .written)) (t .moves) (t .cut) x e q;
+    is = ap (λ (l : List Row). go (tally (t .budget) (t .skip) (t .room - 1) l (t .moves) (t .cut))) (w .is)
+        ∙ place-row (t .budget) (t .skip) (t .room) (rowsAt rows (t .written)) (t .moves) (t .cut) x e q;
     counts = record { sum = refl; places = omega (arith, q); more = omega arith; spends = omega arith };
     rowed = record {
       other = λ j h. w .other j (λ a b. h a (omega arith));

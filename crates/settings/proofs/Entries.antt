@@ -2,7 +2,7 @@
 use mathlib.Core.Path.{_≡_, refl, sym, ap, ap₂, _∙_, subst}
 use mathlib.Core.List.{List, [], _∷_, _++_}
 use mathlib.Core.Logic.{⊎-elim}
-use Prim.Native.Nat.{ℕ, zero, suc, _+_, _-_, _*_, _≤_, _<_}
+use Prim.Native.Nat.{ℕ, zero, suc, _+_, _-_, _≤_, _<_}
 use native.Mathlib.Nat.{eq-or-lt-of-le}
 use native.Mathlib.Numerals.{add-one, unary-clauses}
 use native.Mathlib.Omega.{arith}
@@ -19,6 +19,7 @@ use Rattle.semantics.proofs.Order.{ltZ→}
 use Rattle.intervals.proofs.Narrow.{suc-fits}
 use Rattle.simulation.specs.Nodes.{Cell, Known, Open, cell, node, numberIn}
 use Rattle.ints.specs.Numbers as numbers
+use Rattle.machine.specs.Layout.{numberPlace}
 use Rattle.machine.specs.Memory.{cellAs, nodeBy, nodeAt, nodesIn, settingIn, numbersIn}
 use Rattle.settings.specs.Table.{valueAt, Wrote}
 
@@ -51,7 +52,7 @@ upTo-same f g zero h = refl
 upTo-same f g (suc n) h = ap₂ (λ l x. l ++ x ∷ []) (upTo-same f g n (λ j l. h j (omega arith))) (h n (omega arith))
 
 abbrev pub numberWord : List ℕ → ℕ → ℤ
-numberWord m j = toZ w32 (getD m (1207 + 12 * j) 0)
+numberWord m j = toZ w32 (getD m (numberPlace j) 0)
 
 pub setting-is : (m : List ℕ) (n : ℕ) → settingIn m n ≡ upTo (valueAt m) n
 unfolding settingIn upTo

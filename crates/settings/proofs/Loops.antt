@@ -110,8 +110,11 @@ module _ {m₀ : List ℕ} {n c k : ℕ} {v : Cell} {rows₀ : List ℤ} {t₀ :
 pub trialling-all : (m m₀ m₂ : List ℕ) (n c k : ℕ) (v : Cell) (rows rows′ : List ℤ) (t : Tally) (r : Tried) → k ≤ 8 → First m m₀ k → Placing rows rows′ t (Whole m₀ n c k v rows t) r × Steady m₀ m₂
     → Placing rows rows′ t (Whole m n c k v rows t) r × Steady m m₂
 trialling-all m m₀ m₂ n c k v rows rows′ t r few f p =
-    let s = first-steady m m₀ k few f in
-    (there m m₀ n c v s (λ w ts. Placing rows rows′ t (whole w ts (windowsIn m k) rows t) r) (subst (λ (ws : List Window). Placing rows rows′ t (whole (meant m₀ n v) (tests m₀ n c) ws rows t) r) (windows-steady m m₀ s k few) (p .0)), steady-more m m₀ m₂ s (p .1))
+    let s = first-steady m m₀ k few f in (
+      there m m₀ n c v s (λ w ts. Placing rows rows′ t (whole w ts (windowsIn m k) rows t) r)
+          (subst (λ (ws : List Window). Placing rows rows′ t (whole (meant m₀ n v) (tests m₀ n c) ws rows t) r) (windows-steady m m₀ s k few) (p .0)),
+      steady-more m m₀ m₂ s (p .1),
+    )
 
 -- ---- at a cut
 
@@ -157,5 +160,8 @@ module _ {m₀ : List ℕ} {n c k : ℕ} {t₀ : Tally} {m : List ℕ} {t : Tall
 
 pub cutting-all : (m m₀ m₂ : List ℕ) (n c k : ℕ) (t : Tally) (r : Tried) → k ≤ 8 → First m m₀ k → Counted t (Probing m₀ n c k t) r × Steady m₀ m₂ → Counted t (Probing m n c k t) r × Steady m m₂
 cutting-all m m₀ m₂ n c k t r few f p =
-    let s = first-steady m m₀ k few f in
-    (subst (λ (ts : List Test). Counted t (probing ts (windowsIn m k) t) r) (tests-steady m m₀ s n c) (subst (λ (ws : List Window). Counted t (probing (tests m₀ n c) ws t) r) (windows-steady m m₀ s k few) (p .0)), steady-more m m₀ m₂ s (p .1))
+    let s = first-steady m m₀ k few f in (
+      subst (λ (ts : List Test). Counted t (probing ts (windowsIn m k) t) r) (tests-steady m m₀ s n c)
+          (subst (λ (ws : List Window). Counted t (probing (tests m₀ n c) ws t) r) (windows-steady m m₀ s k few) (p .0)),
+      steady-more m m₀ m₂ s (p .1),
+    )

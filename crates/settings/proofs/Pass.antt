@@ -3,7 +3,7 @@ use mathlib.Core.Path.{_≡_, refl, sym, ap, ap₂, _∙_, subst}
 use mathlib.Core.Bool.{Bool, true, false, not, _&&_}
 use mathlib.Core.List.{List, [], _∷_, _++_}
 use mathlib.Core.Logic.{⊎-elim}
-use Prim.Native.Nat.{ℕ, zero, suc, _+_, _-_, _*_, _≤_, _<_}
+use Prim.Native.Nat.{ℕ, zero, suc, _+_, _-_, _≤_, _<_}
 use native.Mathlib.Nat.{eq-or-lt-of-le}
 use native.Mathlib.Numerals.{add-one}
 use native.Mathlib.Omega.{arith}
@@ -15,24 +15,25 @@ use mir.Val.{toZ}
 use Rattle.semantics.specs.Int as int
 use Rattle.simulation.specs.Nodes.{Node, node, pass, numbers, meetsIn}
 use Rattle.simulation.proofs.Nodes.{numbers-last}
+use Rattle.machine.specs.Layout.{windowLow, valuePlace, tablesPlace, nodePlace, nodeLeft, nodeRight, nodeEnd, numberPlace}
 use Rattle.machine.specs.Memory.{nodeAt, nodesIn, settingIn, numbersIn, testsIn}
 use Rattle.settings.specs.Table.{windowAt, valueAt, numberAt, holdsAt, Wrote, Numbered, Anew}
 use Rattle.settings.proofs.Entries.{upTo-same, numberWord, setting-is, numbers-is, nodes-is}
 
 -- ---- what stays where words stay
 
-pub setting-same : (m m′ : List ℕ) (k : ℕ) → ((i : ℕ) → i < k → getD m′ (1136 + i) 0 ≡ getD m (1136 + i) 0) → settingIn m′ k ≡ settingIn m k
+pub setting-same : (m m′ : List ℕ) (k : ℕ) → ((i : ℕ) → i < k → getD m′ (valuePlace i) 0 ≡ getD m (valuePlace i) 0) → settingIn m′ k ≡ settingIn m k
 setting-same m m′ k h = setting-is m′ k ∙ upTo-same (valueAt m′) (valueAt m) k (λ j l. ap (toZ w32) (h j l)) ∙ sym (setting-is m k)
 
-pub numbers-same : (m m′ : List ℕ) (n : ℕ) → ((j : ℕ) → j < n → getD m′ (1207 + 12 * j) 0 ≡ getD m (1207 + 12 * j) 0) → numbersIn m′ n ≡ numbersIn m n
+pub numbers-same : (m m′ : List ℕ) (n : ℕ) → ((j : ℕ) → j < n → getD m′ (numberPlace j) 0 ≡ getD m (numberPlace j) 0) → numbersIn m′ n ≡ numbersIn m n
 numbers-same m m′ n h = numbers-is m′ n ∙ upTo-same (numberWord m′) (numberWord m) n (λ j l. ap (toZ w32) (h j l)) ∙ sym (numbers-is m n)
 
 -- the words of a node stay
 abbrev pub Nodes : List ℕ → List ℕ → Type 0
-Nodes m m′ = (i j : ℕ) → 1202 + 12 * j ≤ i → i < 1205 + 12 * j → getD m′ i 0 ≡ getD m i 0
+Nodes m m′ = (i j : ℕ) → nodePlace j ≤ i → i < nodeEnd j → getD m′ i 0 ≡ getD m i 0
 
 pub node-same : (m m′ : List ℕ) → Nodes m m′ → (j : ℕ) → nodeAt m′ j ≡ nodeAt m j
-node-same m m′ h j = rw (h (1202 + 12 * j) j (omega arith) (omega arith), h (1203 + 12 * j) j (omega arith) (omega arith), h (1204 + 12 * j) j (omega arith) (omega arith))
+node-same m m′ h j = rw (h (nodePlace j) j (omega arith) (omega arith), h (nodeLeft j) j (omega arith) (omega arith), h (nodeRight j) j (omega arith) (omega arith))
 
 pub nodes-same : (m m′ : List ℕ) → Nodes m m′ → (n : ℕ) → nodesIn m′ n ≡ nodesIn m n
 nodes-same m m′ h n = nodes-is m′ n ∙ upTo-same (nodeAt m′) (nodeAt m) n (λ j l. node-same m m′ h j) ∙ sym (nodes-is m n)
@@ -43,9 +44,9 @@ pub numbered-none : (m : List ℕ) (k : ℕ) → Numbered m m 0 k
 unfolding numbersIn nodesIn numbers pass
 numbered-none m k = record { is = refl; other = λ i h. refl }
 
-module _ (m₀ m m′ : List ℕ) (j k : ℕ) (small : k ≤ 8) (p : Numbered m₀ m j k) (w : Wrote m m′ (1207 + 12 * j) (numberAt m k j)) where
+module _ (m₀ m m′ : List ℕ) (j k : ℕ) (small : k ≤ 8) (p : Numbered m₀ m j k) (w : Wrote m m′ (numberPlace j) (numberAt m k j)) where
   stays : settingIn m k ≡ settingIn m₀ k
-  stays = setting-same m₀ m k (λ i l. p .other (1136 + i) (λ q g e. omega arith))
+  stays = setting-same m₀ m k (λ i l. p .other (valuePlace i) (λ q g e. omega arith))
 
   node-stays : nodeAt m j ≡ nodeAt m₀ j
   node-stays = node-same m₀ m (λ i h l u. p .other i (λ q g e. omega arith)) j
@@ -58,7 +59,7 @@ module _ (m₀ m m′ : List ℕ) (j k : ℕ) (small : k ≤ 8) (p : Numbered m�
   numbered-suc : numbersIn m′ (suc j) ≡ numbers (settingIn m₀ k) (nodesIn m₀ (suc j))
   unfolding numbersIn nodesIn
   numbered-suc =
-      ap₂ (λ (zs : List ℤ) (z : ℤ). zs ++ z ∷ []) (numbers-same m m′ j (λ i l. w .other .outside (1207 + 12 * i) (λ a b. omega arith)) ∙ p .is) number-is
+      ap₂ (λ (zs : List ℤ) (z : ℤ). zs ++ z ∷ []) (numbers-same m m′ j (λ i l. w .other .outside (numberPlace i) (λ a b. omega arith)) ∙ p .is) number-is
       ∙ sym (numbers-last (settingIn m₀ k) (nodesIn m₀ j) (nodeAt m₀ j))
 
   pub numbered-more : Numbered m₀ m′ (j + 1) k
@@ -93,13 +94,13 @@ meets-one m n (suc j) b h e =
 pub anew-none : (m : List ℕ) (i : ℕ) → Anew m m i i
 anew-none m i = record { other = record { outside = λ k h. refl }; low = λ j l u. absurd (omega arith) }
 
-pub anew-more : (m₀ m : List ℕ) (i j : ℕ) → i ≤ j → j < 8 → 1200 ≤ length m → Anew m₀ m i j → Anew m₀ (set m (1136 + j) (getD m (1120 + 2 * j) 0)) i (j + 1)
+pub anew-more : (m₀ m : List ℕ) (i j : ℕ) → i ≤ j → j < 8 → tablesPlace ≤ length m → Anew m₀ m i j → Anew m₀ (set m (valuePlace j) (getD m (windowLow j) 0)) i (j + 1)
 anew-more m₀ m i j l u s a = record {
-  other = record { outside = λ k h. getD-set-other m (1136 + j) k (getD m (1120 + 2 * j) 0) 0 (λ e. h (omega arith) (omega arith)) ∙ a .other .outside k (λ p q. h p (omega arith)) };
+  other = record { outside = λ k h. getD-set-other m (valuePlace j) k (getD m (windowLow j) 0) 0 (λ e. h (omega arith) (omega arith)) ∙ a .other .outside k (λ p q. h p (omega arith)) };
   low = λ q p r. ⊎-elim
-      (λ e. ap (λ (n : ℕ). toZ w32 (getD (set m (1136 + j) (getD m (1120 + 2 * j) 0)) (1136 + n) 0)) e
-      ∙ ap (toZ w32) (getD-set-same m (1136 + j) (getD m (1120 + 2 * j) 0) 0 (omega arith) ∙ a .other .outside (1120 + 2 * j) (λ x y. omega arith))
+      (λ e. ap (λ (n : ℕ). toZ w32 (getD (set m (valuePlace j) (getD m (windowLow j) 0)) (valuePlace n) 0)) e
+      ∙ ap (toZ w32) (getD-set-same m (valuePlace j) (getD m (windowLow j) 0) 0 (omega arith) ∙ a .other .outside (windowLow j) (λ x y. omega arith))
       ∙ ap (λ (n : ℕ). windowAt m₀ n .low) (sym e))
-      (λ g. ap (toZ w32) (getD-set-other m (1136 + j) (1136 + q) (getD m (1120 + 2 * j) 0) 0 (λ e. omega arith)) ∙ a .low q p g)
+      (λ g. ap (toZ w32) (getD-set-other m (valuePlace j) (valuePlace q) (getD m (windowLow j) 0) 0 (λ e. omega arith)) ∙ a .low q p g)
       (eq-or-lt-of-le {n = q} {m = j} (omega arith));
 }

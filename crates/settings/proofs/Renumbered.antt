@@ -1,7 +1,7 @@
 -- What a setting tried reads of the memory: tests, results and the setting itself.
 use mathlib.Core.Path.{_≡_, refl, sym, ap, ap₂, _∙_}
 use mathlib.Core.List.{List, _∷_, map}
-use Prim.Native.Nat.{ℕ, zero, suc, _+_, _*_, _≤_, _<_}
+use Prim.Native.Nat.{ℕ, zero, suc, _≤_, _<_}
 use native.Mathlib.Omega.{arith}
 use lib.ListN.{length, getD}
 use lib.IntN.{ℤ}
@@ -9,6 +9,7 @@ use Rattle.semantics.specs.Search as search
 use Rattle.semantics.specs.Search.{under}
 use Rattle.simulation.specs.Nodes.{Cell, Node, Noted, meaning, testOf, numberIn, meetsIn}
 use Rattle.simulation.proofs.Nodes.{number-ok, meets-ok}
+use Rattle.machine.specs.Layout.{windowLow, windowHigh, settingPlace, valuePlace, testPlace, testLeft, testRight, testEnd}
 use Rattle.machine.specs.Memory.{nodesIn, settingIn, numbersIn, testsIn, windowsIn, testAt}
 use Rattle.machine.specs.Contracts.{Other}
 use Rattle.settings.specs.Table.{windowAt, Numbered, Renumbered, Steady, Holding}
@@ -18,10 +19,10 @@ use Rattle.settings.proofs.Turns.{tab-same, windows-tab}
 
 -- the words of a test stay
 abbrev Tests : List ℕ → List ℕ → Type 0
-Tests m m′ = (i j : ℕ) → 1208 + 12 * j ≤ i → i < 1211 + 12 * j → getD m′ i 0 ≡ getD m i 0
+Tests m m′ = (i j : ℕ) → testPlace j ≤ i → i < testEnd j → getD m′ i 0 ≡ getD m i 0
 
 test-same : (m m′ : List ℕ) → Tests m m′ → (j : ℕ) → testAt m′ j ≡ testAt m j
-test-same m m′ h j = rw (h (1208 + 12 * j) j (omega arith) (omega arith), h (1209 + 12 * j) j (omega arith) (omega arith), h (1210 + 12 * j) j (omega arith) (omega arith))
+test-same m m′ h j = rw (h (testPlace j) j (omega arith) (omega arith), h (testLeft j) j (omega arith) (omega arith), h (testRight j) j (omega arith) (omega arith))
 
 tests-same : (m m′ : List ℕ) → Tests m m′ → (t : ℕ) → testsIn m′ t ≡ testsIn m t
 unfolding testsIn
@@ -35,7 +36,7 @@ pub renumbered-none : (m : List ℕ) → Renumbered m m
 renumbered-none m = record { other = λ i h. refl }
 
 pub setting-stays : (m m′ : List ℕ) (k : ℕ) → k ≤ 8 → Renumbered m m′ → settingIn m′ k ≡ settingIn m k
-setting-stays m m′ k h p = setting-same m m′ k (λ i l. p .other (1136 + i) (λ j e. omega arith))
+setting-stays m m′ k h p = setting-same m m′ k (λ i l. p .other (valuePlace i) (λ j e. omega arith))
 
 -- ---- after a pass
 
@@ -58,7 +59,7 @@ module _ (m m′ : List ℕ) (s : Steady m m′) where
   pub windows-steady : (k : ℕ) → k ≤ 8 → windowsIn m′ k ≡ windowsIn m k
   windows-steady k h =
       windows-tab m′ k h
-      ∙ tab-same (windowAt m′) (windowAt m) 0 k (λ j l u. rw (s .other (1120 + 2 * j) (λ a b. omega arith) (λ q e. omega arith), s .other (1121 + 2 * j) (λ a b. omega arith) (λ q e. omega arith)))
+      ∙ tab-same (windowAt m′) (windowAt m) 0 k (λ j l u. rw (s .other (windowLow j) (λ a b. omega arith) (λ q e. omega arith), s .other (windowHigh j) (λ a b. omega arith) (λ q e. omega arith)))
       ∙ sym (windows-tab m k h)
 
 pub steady-none : (m : List ℕ) → Steady m m
@@ -67,7 +68,7 @@ steady-none m = record { other = λ i h g. refl }
 pub steady-numbers : (m m₁ m₂ : List ℕ) → Steady m m₁ → Renumbered m₁ m₂ → Steady m m₂
 steady-numbers m m₁ m₂ s r = record { other = λ i h g. r .other i g ∙ s .other i h g }
 
-pub steady-setting : (m m₁ m₂ : List ℕ) (k : ℕ) → k ≤ 8 → Steady m m₁ → Other m₁ m₂ 1136 (1136 + k) → Steady m m₂
+pub steady-setting : (m m₁ m₂ : List ℕ) (k : ℕ) → k ≤ 8 → Steady m m₁ → Other m₁ m₂ settingPlace (valuePlace k) → Steady m m₂
 steady-setting m m₁ m₂ k l s o = record { other = λ i h g. o .outside i (λ a b. h a (omega arith)) ∙ s .other i h g }
 
 pub holding-same : (m m′ : List ℕ) (n t k : ℕ) → length m′ ≡ length m → Holding m n t k → Holding m′ n t k

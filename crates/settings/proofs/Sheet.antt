@@ -86,7 +86,8 @@ pub record Wording (rows rows′ : List ℤ) (n j : ℕ) (r : Row) : Type 0 wher
 pub wording-none : (rows : List ℤ) (n : ℕ) (r : Row) → Wording rows rows n 0 r
 wording-none rows n r = record { word = λ i l. absurd (omega arith); other = λ i h. refl }
 
-pub wording-more : (rows₀ rows : List ℤ) (n j : ℕ) (r : Row) (z : ℤ) → j < 10 → 10 * n + 10 ≤ length rows → z ≡ getD (wordsOf r) j (pos 0) → Wording rows₀ rows n j r → Wording rows₀ (set rows (10 * n + j) z) n (j + 1) r
+pub wording-more : (rows₀ rows : List ℤ) (n j : ℕ) (r : Row) (z : ℤ) → j < 10 → 10 * n + 10 ≤ length rows → z ≡ getD (wordsOf r) j (pos 0) → Wording rows₀ rows n j r
+    → Wording rows₀ (set rows (10 * n + j) z) n (j + 1) r
 wording-more rows₀ rows n j r z h s e w = record {
   word = λ i l. ⊎-elim
       (λ q. ap (λ (k : ℕ). getD (set rows (10 * n + j) z) (10 * n + k) (pos 0)) q ∙ getD-set-same rows (10 * n + j) z (pos 0) (omega arith) ∙ e ∙ ap (λ (k : ℕ). getD (wordsOf r) k (pos 0)) (sym q))

@@ -4,7 +4,7 @@ use mathlib.Core.Bool.{Bool, true, false, not, _&&_}
 use mathlib.Core.Option.{some}
 use mathlib.Core.List.{List, [], _∷_, _++_}
 use mathlib.Core.Logic.{⊎-elim}
-use Prim.Native.Nat.{ℕ, zero, suc, _+_, _-_, _*_, _≤_, _<_}
+use Prim.Native.Nat.{ℕ, zero, suc, _+_, _-_, _≤_, _<_}
 use native.Mathlib.Nat.{eq-or-lt-of-le}
 use native.Mathlib.Numerals.{add-one}
 use native.Mathlib.Omega.{arith}
@@ -20,6 +20,7 @@ use Rattle.simulation.specs.Odometer.{filled, lowest, after}
 use Rattle.simulation.proofs.Odometer.{AtHigh, after-last, after-up}
 use Rattle.intervals.specs.Meaning.{ofPairs}
 use Rattle.window_memory.specs.Memory.{pairsAt}
+use Rattle.machine.specs.Layout.{windowLow, windowHigh, valuePlace}
 use Rattle.machine.specs.Memory.{windowsIn, settingIn}
 use Rattle.settings.specs.Table.{windowAt, valueAt, Wrote, Anew, First, Follows}
 use Rattle.settings.proofs.Entries.{upTo, setting-is}
@@ -40,7 +41,8 @@ module _ {A : Type 0} (f : ℕ → A) where
   unfolding tab
   tab-split i n zero d e = ap (λ (j : ℕ). tab j n) {x = i} {y = i + 0} (omega arith) ∙ ap (tab (i + 0)) {x = n} {y = d} (omega arith)
   tab-split i zero (suc a) d e = absurd (omega arith)
-  tab-split i (suc n) (suc a) d e = ap (λ (l : List A). f i ∷ l) (tab-split (suc i) n a d (omega arith)) ∙ ap (λ (k : ℕ). f i ∷ (tab (suc i) a ++ tab k d)) {x = suc i + a} {y = i + suc a} (omega arith)
+  tab-split i (suc n) (suc a) d e = ap (λ (l : List A). f i ∷ l) (tab-split (suc i) n a d (omega arith))
+      ∙ ap (λ (k : ℕ). f i ∷ (tab (suc i) a ++ tab k d)) {x = suc i + a} {y = i + suc a} (omega arith)
 
   pub tab-at : (k i : ℕ) → i < k → tab 0 k ≡ tab 0 i ++ f i ∷ tab (suc i) (k - suc i)
   unfolding tab
@@ -61,13 +63,13 @@ tab-same f g i (suc d) h = ap₂ (λ x l. x ∷ l) (h i (omega arith) (omega ari
 
 -- ---- windows and setting
 
-take-pairs : (m : List ℕ) (i k n : ℕ) → k ≤ n → take k (ofPairs (pairsAt m (1120 + 2 * i) n)) ≡ tab (windowAt m) i k
+take-pairs : (m : List ℕ) (i k n : ℕ) → k ≤ n → take k (ofPairs (pairsAt m (windowLow i) n)) ≡ tab (windowAt m) i k
 unfolding pairsAt tab
 take-pairs m i zero n h = refl
 take-pairs m i (suc k) zero h = absurd (omega arith)
 take-pairs m i (suc k) (suc n) h = ap₂ (λ (w : Window) (ws : List Window). w ∷ ws)
-    (ap (λ (j : ℕ). to (toZ w32 (getD m (1120 + 2 * i) 0)) (toZ w32 (getD m j 0))) {x = 1120 + 2 * i + 1} {y = 1121 + 2 * i} (omega arith))
-    (ap (λ (j : ℕ). take k (ofPairs (pairsAt m j n))) {x = 1120 + 2 * i + 2} {y = 1120 + 2 * suc i} (omega arith) ∙ take-pairs m (suc i) k n (omega arith))
+    (ap (λ (j : ℕ). to (toZ w32 (getD m (windowLow i) 0)) (toZ w32 (getD m j 0))) {x = windowLow i + 1} {y = windowHigh i} (omega arith))
+    (ap (λ (j : ℕ). take k (ofPairs (pairsAt m j n))) {x = windowLow i + 2} {y = windowLow (suc i)} (omega arith) ∙ take-pairs m (suc i) k n (omega arith))
 
 pub windows-tab : (m : List ℕ) (k : ℕ) → k ≤ 8 → windowsIn m k ≡ tab (windowAt m) 0 k
 windows-tab m k h = take-pairs m 0 k 8 h
@@ -85,7 +87,8 @@ lowest-tab m i (suc d) = ap (λ (l : List ℤ). windowAt m i .low ∷ l) (lowest
 pub filled-first : (m : List ℕ) (k : ℕ) → k ≤ 8 → filled (windowsIn m k) ≡ filled (tab (windowAt m) 0 (k - 0))
 filled-first m k h = ap filled (windows-tab m k h) ∙ ap (λ (d : ℕ). filled (tab (windowAt m) 0 d)) {x = k} {y = k - 0} (omega arith)
 
-pub filled-one : (m : List ℕ) (k i : ℕ) (b : Bool) → i < k → leZ (windowAt m i .low) (windowAt m i .high) ≡ b → filled (tab (windowAt m) i (k - i)) ≡ b && filled (tab (windowAt m) (i + 1) (k - (i + 1)))
+pub filled-one : (m : List ℕ) (k i : ℕ) (b : Bool) → i < k → leZ (windowAt m i .low) (windowAt m i .high) ≡ b → filled (tab (windowAt m) i (k - i))
+    ≡ b && filled (tab (windowAt m) (i + 1) (k - (i + 1)))
 unfolding filled tab
 filled-one m k i b l e =
     ap (λ (d : ℕ). filled (tab (windowAt m) i d)) {x = k - i} {y = suc (k - (i + 1))} (omega arith)
@@ -134,23 +137,24 @@ follows-none m k h g = record {
 }
 
 module _ (m m₁ m₂ : List ℕ) (i k : ℕ) (small : k ≤ 8) (l : i < k) (below : T (ltZ (valueAt m i) (windowAt m i .high))) (tops : (j : ℕ) → i < j → j < k → Top m j)
-    (w : Wrote m m₁ (1136 + i) (sucℤ (valueAt m i))) (a : Anew m₁ m₂ (i + 1) k) where
+    (w : Wrote m m₁ (valuePlace i) (sucℤ (valueAt m i))) (a : Anew m₁ m₂ (i + 1) k) where
   before : tab (valueAt m₂) 0 i ≡ tab (valueAt m) 0 i
-  before = tab-same (valueAt m₂) (valueAt m) 0 i (λ j p q. ap (toZ w32) (a .other .outside (1136 + j) (λ x y. omega arith) ∙ w .other .outside (1136 + j) (λ x y. omega arith)))
+  before = tab-same (valueAt m₂) (valueAt m) 0 i (λ j p q. ap (toZ w32) (a .other .outside (valuePlace j) (λ x y. omega arith) ∙ w .other .outside (valuePlace j) (λ x y. omega arith)))
 
   here : valueAt m₂ i ≡ sucℤ (valueAt m i)
-  here = ap (toZ w32) (a .other .outside (1136 + i) (λ x y. omega arith)) ∙ w .is
+  here = ap (toZ w32) (a .other .outside (valuePlace i) (λ x y. omega arith)) ∙ w .is
 
   behind : tab (valueAt m₂) (suc i) (k - suc i) ≡ lowest (tab (windowAt m) (suc i) (k - suc i))
   behind =
       tab-same (valueAt m₂) (λ j. windowAt m j .low) (suc i) (k - suc i)
-      (λ j p q. a .low j (omega arith) (omega arith) ∙ ap (toZ w32) (w .other .outside (1120 + 2 * j) (λ x y. omega arith)))
+      (λ j p q. a .low j (omega arith) (omega arith) ∙ ap (toZ w32) (w .other .outside (windowLow j) (λ x y. omega arith)))
       ∙ sym (lowest-tab m (suc i) (k - suc i))
 
   goes : after (windowsIn m k) (settingIn m k) ≡ some (settingIn m₂ k)
   goes =
       ap₂ after (windows-tab m k small ∙ tab-at (windowAt m) k i l) (setting-tab m k ∙ tab-at (valueAt m) k i l)
-      ∙ after-up (tab (windowAt m) 0 i) (tab (valueAt m) 0 i) (tab-length (windowAt m) 0 i ∙ sym (tab-length (valueAt m) 0 i)) (windowAt m i) (tab (windowAt m) (suc i) (k - suc i)) (valueAt m i) (tab (valueAt m) (suc i) (k - suc i)) below
+      ∙ after-up (tab (windowAt m) 0 i) (tab (valueAt m) 0 i) (tab-length (windowAt m) 0 i ∙ sym (tab-length (valueAt m) 0 i)) (windowAt m i) (tab (windowAt m) (suc i) (k - suc i)) (valueAt m i)
+      (tab (valueAt m) (suc i) (k - suc i)) below
       (at-high m (suc i) (k - suc i) (λ j p q. tops j (omega arith) (omega arith)))
       ∙ ap some (sym (setting-tab m₂ k ∙ tab-at (valueAt m₂) k i l ∙ ap₂ (λ (x y : List ℤ). x ++ y) before (ap₂ (λ (x : ℤ) (y : List ℤ). x ∷ y) here behind)))
 

@@ -3,7 +3,7 @@ use mathlib.Core.Path.{_≡_}
 use mathlib.Core.Bool.{Bool, true, false}
 use mathlib.Core.Option.{Option, none, some}
 use mathlib.Core.List.{List}
-use Prim.Native.Nat.{ℕ, _+_, _*_, _≤_, _<_}
+use Prim.Native.Nat.{ℕ, _+_, _≤_, _<_}
 use lib.ListN.{getD}
 use lib.IntN.{ℤ, pos}
 use mir.Syntax.{w32}
@@ -13,6 +13,7 @@ use Rattle.semantics.specs.Run.{Window}
 use Rattle.semantics.specs.Search.{to}
 use Rattle.simulation.specs.Nodes.{node, numbers, numberIn}
 use Rattle.simulation.specs.Odometer.{lowest, after}
+use Rattle.machine.specs.Layout.{windowLow, windowHigh, settingPlace, valuePlace, settingEnd, numberPlace}
 use Rattle.machine.specs.Memory.{nodeAt, nodesIn, windowsIn, settingIn, numbersIn, testAt}
 use Rattle.machine.specs.Contracts.{Room, Other}
 
@@ -20,10 +21,10 @@ use Rattle.machine.specs.Contracts.{Room, Other}
 
 -- the window of free variable i, and its number under the present setting
 abbrev pub windowAt : List ℕ → ℕ → Window
-windowAt m i = to (toZ w32 (getD m (1120 + 2 * i) 0)) (toZ w32 (getD m (1121 + 2 * i) 0))
+windowAt m i = to (toZ w32 (getD m (windowLow i) 0)) (toZ w32 (getD m (windowHigh i) 0))
 
 abbrev pub valueAt : List ℕ → ℕ → ℤ
-valueAt m i = toZ w32 (getD m (1136 + i) 0)
+valueAt m i = toZ w32 (getD m (valuePlace i) 0)
 
 -- the number of node j under the setting of k free variables, from the numbers of those before it
 abbrev pub numberAt : List ℕ → ℕ → ℕ → ℤ
@@ -43,16 +44,16 @@ pub record Wrote (m m′ : List ℕ) (i : ℕ) (z : ℤ) : Type 0 where
 -- the n nodes have their numbers under the setting of k free variables, and no other word changed
 pub record Numbered (m m′ : List ℕ) (n k : ℕ) : Type 0 where
   pub is : numbersIn m′ n ≡ numbers (settingIn m k) (nodesIn m n)
-  pub other : (i : ℕ) → ((j : ℕ) → j < n → i ≡ 1207 + 12 * j → ⊥) → getD m′ i 0 ≡ getD m i 0
+  pub other : (i : ℕ) → ((j : ℕ) → j < n → i ≡ numberPlace j → ⊥) → getD m′ i 0 ≡ getD m i 0
 
 -- the free variables from i on, of k, start anew, each at its window's low end, and no other word changed
 pub record Anew (m m′ : List ℕ) (i k : ℕ) : Type 0 where
-  pub other : Other m m′ (1136 + i) (1136 + k)
+  pub other : Other m m′ (valuePlace i) (valuePlace k)
   pub low : (j : ℕ) → i ≤ j → j < k → valueAt m′ j ≡ windowAt m j .low
 
 -- the setting is the first one of k free variables, and no other word changed
 pub record First (m m′ : List ℕ) (k : ℕ) : Type 0 where
-  pub other : Other m m′ 1136 (1136 + k)
+  pub other : Other m m′ settingPlace (valuePlace k)
   pub is : settingIn m′ k ≡ lowest (windowsIn m k)
 
 -- there is a next setting, or none
@@ -62,16 +63,16 @@ nextAs false s = none
 
 -- the setting is the next one of k free variables, if there is one, and no other word changed
 pub record Follows (m m′ : List ℕ) (k : ℕ) (more : Bool) : Type 0 where
-  pub other : Other m m′ 1136 (1136 + k)
+  pub other : Other m m′ settingPlace (valuePlace k)
   pub is : after (windowsIn m k) (settingIn m k) ≡ nextAs more (settingIn m′ k)
 
 -- only the nodes' numbers may have changed
 pub record Renumbered (m m′ : List ℕ) : Type 0 where
-  pub other : (i : ℕ) → ((j : ℕ) → i ≡ 1207 + 12 * j → ⊥) → getD m′ i 0 ≡ getD m i 0
+  pub other : (i : ℕ) → ((j : ℕ) → i ≡ numberPlace j → ⊥) → getD m′ i 0 ≡ getD m i 0
 
 -- only the setting and the nodes' numbers may have changed
 pub record Steady (m m′ : List ℕ) : Type 0 where
-  pub other : (i : ℕ) → (1136 ≤ i → i < 1144 → ⊥) → ((j : ℕ) → i ≡ 1207 + 12 * j → ⊥) → getD m′ i 0 ≡ getD m i 0
+  pub other : (i : ℕ) → (settingPlace ≤ i → i < settingEnd → ⊥) → ((j : ℕ) → i ≡ numberPlace j → ⊥) → getD m′ i 0 ≡ getD m i 0
 
 -- ---- what must hold
 

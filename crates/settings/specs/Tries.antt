@@ -6,10 +6,13 @@ use lib.ListN.{getD}
 use lib.IntN.{ℤ, pos}
 use Rattle.semantics.specs.Search as search
 use Rattle.semantics.specs.Search.{full, spent}
-use Rattle.simulation.specs.Nodes.{testOf}
+use Rattle.simulation.specs.Nodes.{meaning, testOf}
 use Rattle.simulation.specs.Lister as lister
 use Rattle.simulation.specs.Lister.{Next, go, over, closed, tally}
-use Rattle.machine.specs.Memory.{nodesIn, testsIn}
+use Rattle.machine.specs.Memory.{nodesIn, windowsIn, settingIn, testsIn}
+use Rattle.machine.specs.Contracts.{cellOf}
+use Rattle.machine.specs.declared.Value.{Value}
+use Rattle.settings.specs.Table.{Renumbered, Steady}
 use Rattle.settings.specs.Rows.{rowsAt, rowAt, wordsFrom, wordsOf}
 use Rattle.settings.specs.declared.Tally.{Tally}
 use Rattle.settings.specs.declared.Tried.{Tried}
@@ -82,3 +85,21 @@ pub record Placing (rows rows′ : List ℤ) (t : Tally) (d : Next lister.Tally)
 pub record Trying (rows rows′ : List ℤ) (t : Tally) (d : Next lister.Tally) (r : Tried) : Type 0 where
   pub placed : Placing rows rows′ t d r
   pub moved : Moved (t .budget) r
+
+-- ---- settings of a path with n nodes, c tests and k windows, in the memory m, which then is m′
+
+-- at a return of v: the present setting was tried, and all of them
+abbrev pub OneTrial : List ℕ → List ℕ → ℕ → ℕ → ℕ → Value → List ℤ → List ℤ → Tally → Tried → Type 0
+OneTrial m m′ n c k v rows rows′ t r =
+    Trying rows rows′ t (lister.trial (meaning (nodesIn m n) (cellOf v)) (tests m n c) (settingIn m k) (tallyOf rows t)) r × Renumbered m m′
+
+abbrev pub AllTrials : List ℕ → List ℕ → ℕ → ℕ → ℕ → Value → List ℤ → List ℤ → Tally → Tried → Type 0
+AllTrials m m′ n c k v rows rows′ t r =
+    Placing rows rows′ t (lister.trials (meaning (nodesIn m n) (cellOf v)) (tests m n c) (search.settings (windowsIn m k)) (tallyOf rows t)) r × Steady m m′
+
+-- at a cut
+abbrev pub OneProbe : List ℕ → List ℕ → ℕ → ℕ → ℕ → Tally → Tried → Type 0
+OneProbe m m′ n c k t r = Charged t (λ rows. lister.probe (tests m n c) (settingIn m k) (tallyOf rows t)) r × Renumbered m m′
+
+abbrev pub AllProbes : List ℕ → List ℕ → ℕ → ℕ → ℕ → Tally → Tried → Type 0
+AllProbes m m′ n c k t r = Counted t (λ rows. lister.probes (tests m n c) (search.settings (windowsIn m k)) (tallyOf rows t)) r × Steady m m′

@@ -5,16 +5,18 @@ ghost use lib.Dec.{T};
 ghost use lib.ListN.{length, getD};
 ghost use lib.IntN.{pos, sucℤ};
 ghost use lib.Signed.{ltZ, leZ};
-ghost use Rattle.semantics.specs.Search.{settings as settingsS};
-ghost use Rattle.simulation.specs.Nodes.{numberIn, meaning, meetsIn};
+ghost use Rattle.simulation.specs.Nodes.{numberIn, meetsIn};
 ghost use Rattle.simulation.specs.Odometer.{filled as filledS};
-ghost use Rattle.simulation.specs.Lister.{charge as chargeS, place as placeS, trial as trialS, trials as trialsS, probe as probeS, probes as probesS};
-ghost use Rattle.machine.specs.Memory.{cellAs, nodesIn, windowsIn, settingIn, numbersIn, testsIn};
+ghost use Rattle.simulation.specs.Lister.{charge as chargeS, place as placeS};
+ghost use Rattle.machine.specs.Layout.{valuePlace, tablesPlace, numberPlace};
+ghost use Rattle.machine.specs.Memory.{cellAs, windowsIn, settingIn, numbersIn, testsIn};
 ghost use Rattle.machine.specs.Contracts.{Room, cellOf};
-ghost use Rattle.settings.specs.Table.{windowAt, valueAt, numberAt, holdsAt, Wrote, Numbered, Anew, First, Follows, Renumbered, Steady, Holding};
+ghost use Rattle.settings.specs.Table.{windowAt, valueAt, numberAt, holdsAt, Wrote, Numbered, Anew, First, Follows, Holding};
 ghost use Rattle.settings.specs.Rows.{wordsOf, rowWith, Written};
-ghost use Rattle.settings.specs.Tries.{tallyOf, spending, tests as testsS, Fair, Counted, Charged, Placing, Trying};
+ghost use Rattle.settings.specs.Tries.{tallyOf, spending, Fair, Charged, Placing, OneTrial, AllTrials, OneProbe, AllProbes};
 use machine::Value;
+use machine::kinds;
+use machine::layout;
 
 // What has been counted: the moves that the budget still allows, the rows still to be skipped, the places still free, the rows written, the moves made, and whether a cut run was found.
 pub struct Tally {
@@ -35,11 +37,11 @@ pub enum Tried {
 
 // The number of free variable i, of k, under the present setting; 0, where there is none.
 fn value(mem: &[u32], k: usize, i: usize) -> i32
-    requires { ⌜ (k ≤ 8) × (1200 ≤ length (now mem)) ⌝ }
+    requires { ⌜ (k ≤ 8) × (tablesPlace ≤ length (now mem)) ⌝ }
     ensures { λ r. ⌜ r ≡ getD (settingIn (now (mem .entry)) k) i (pos 0) ⌝ }
 {
     if i < k {
-        return ints::signed(mem[1136 + i]);
+        return ints::signed(mem[layout::SETTING + i]);
     }
     0
 }
@@ -54,7 +56,7 @@ fn number(mem: &[u32], n: usize, kind: u32, x: u32) -> i32
     }
     let i = x as usize;
     if i < n {
-        return ints::signed(mem[1207 + 12 * i]);
+        return ints::signed(mem[layout::NUMBERS + layout::STRIDE * i]);
     }
     0
 }
@@ -64,17 +66,17 @@ fn number_at(mem: &[u32], k: usize, j: usize) -> i32
     requires { ⌜ (k ≤ 8) × Room (now mem) (j + 1) ⌝ }
     ensures { λ r. ⌜ r ≡ numberAt (now (mem .entry)) k j ⌝ }
 {
-    let kind = mem[1202 + 12 * j];
-    let x = mem[1203 + 12 * j];
-    let y = mem[1204 + 12 * j];
-    let op = kind % 4;
-    if op == 0 {
+    let kind = mem[layout::NODES + layout::STRIDE * j];
+    let x = mem[layout::NODE_LEFTS + layout::STRIDE * j];
+    let y = mem[layout::NODE_RIGHTS + layout::STRIDE * j];
+    let op = kind % kinds::NODE_LEFT;
+    if op == kinds::FREE {
         return value(mem, k, x as usize);
     }
     ints::operate(
-        op - 1,
-        number(mem, j, kind / 4 % 2, x),
-        number(mem, j, kind / 8, y),
+        op - kinds::OPERATION,
+        number(mem, j, kind / kinds::NODE_LEFT % 2, x),
+        number(mem, j, kind / kinds::NODE_RIGHT, y),
     )
 }
 
@@ -83,46 +85,48 @@ fn holds_at(mem: &[u32], n: usize, j: usize) -> bool
     requires { ⌜ Room (now mem) n × Room (now mem) (j + 1) ⌝ }
     ensures { λ r. ⌜ r ≡ holdsAt (now (mem .entry)) n j ⌝ }
 {
-    let kind = mem[1208 + 12 * j];
-    let x = mem[1209 + 12 * j];
-    let y = mem[1210 + 12 * j];
+    let kind = mem[layout::TESTS + layout::STRIDE * j];
+    let x = mem[layout::TEST_LEFTS + layout::STRIDE * j];
+    let y = mem[layout::TEST_RIGHTS + layout::STRIDE * j];
     ints::holds(
-        kind % 8,
-        number(mem, n, kind / 8 % 2, x),
-        number(mem, n, kind / 16, y),
+        kind % kinds::TEST_LEFT,
+        number(mem, n, kind / kinds::TEST_LEFT % 2, x),
+        number(mem, n, kind / kinds::TEST_RIGHT, y),
     )
 }
 
 // Whether free variable i is below its window's high end.
 fn below(mem: &[u32], i: usize) -> bool
-    requires { ⌜ (i < 8) × (1200 ≤ length (now mem)) ⌝ }
+    requires { ⌜ (i < 8) × (tablesPlace ≤ length (now mem)) ⌝ }
     ensures { λ r. ⌜ r ≡ ltZ (valueAt (now (mem .entry)) i) (windowAt (now (mem .entry)) i .high) ⌝ }
 {
-    ints::signed(mem[1136 + i]) < ints::signed(mem[1121 + 2 * i])
+    ints::signed(mem[layout::SETTING + i])
+        < ints::signed(mem[layout::WINDOW_HIGHS + layout::WINDOW * i])
 }
 
 // Whether the window of free variable i has a number.
 fn has_number(mem: &[u32], i: usize) -> bool
-    requires { ⌜ (i < 8) × (1200 ≤ length (now mem)) ⌝ }
+    requires { ⌜ (i < 8) × (tablesPlace ≤ length (now mem)) ⌝ }
     ensures { λ r. ⌜ r ≡ leZ (windowAt (now (mem .entry)) i .low) (windowAt (now (mem .entry)) i .high) ⌝ }
 {
-    ints::signed(mem[1120 + 2 * i]) <= ints::signed(mem[1121 + 2 * i])
+    ints::signed(mem[layout::WINDOWS + layout::WINDOW * i])
+        <= ints::signed(mem[layout::WINDOW_HIGHS + layout::WINDOW * i])
 }
 
 // Free variable i, which is below its window's high end, goes up by one.
 fn raise(mem: &mut [u32], i: usize)
-    requires { ⌜ (i < 8) × (1200 ≤ length (now mem)) × T (ltZ (valueAt (now mem) i) (windowAt (now mem) i .high)) ⌝ }
-    ensures { λ _. ⌜ Wrote (now (mem .entry)) (now (mem .exit)) (1136 + i) (sucℤ (valueAt (now (mem .entry)) i)) ⌝ }
+    requires { ⌜ (i < 8) × (tablesPlace ≤ length (now mem)) × T (ltZ (valueAt (now mem) i) (windowAt (now mem) i .high)) ⌝ }
+    ensures { λ _. ⌜ Wrote (now (mem .entry)) (now (mem .exit)) (valuePlace i) (sucℤ (valueAt (now (mem .entry)) i)) ⌝ }
 {
-    mem[1136 + i] = ints::word(ints::signed(mem[1136 + i]) + 1);
+    mem[layout::SETTING + i] = ints::word(ints::signed(mem[layout::SETTING + i]) + 1);
 }
 
 // Node j gets its number.
 fn write_number(mem: &mut [u32], k: usize, j: usize)
     requires { ⌜ (k ≤ 8) × Room (now mem) (j + 1) ⌝ }
-    ensures { λ _. ⌜ Wrote (now (mem .entry)) (now (mem .exit)) (1207 + 12 * j) (numberAt (now (mem .entry)) k j) ⌝ }
+    ensures { λ _. ⌜ Wrote (now (mem .entry)) (now (mem .exit)) (numberPlace j) (numberAt (now (mem .entry)) k j) ⌝ }
 {
-    mem[1207 + 12 * j] = ints::word(number_at(mem, k, j));
+    mem[layout::NUMBERS + layout::STRIDE * j] = ints::word(number_at(mem, k, j));
 }
 
 // Every node gets its number under the present setting of k free variables, in one pass.
@@ -154,19 +158,19 @@ fn meets(mem: &[u32], n: usize, tests: usize) -> bool
 
 // The free variables from i on start anew, each at its window's low end.
 fn start_from(mem: &mut [u32], i: usize, k: usize)
-    requires { ⌜ (i ≤ k) × (k ≤ 8) × (1200 ≤ length (now mem)) ⌝ }
+    requires { ⌜ (i ≤ k) × (k ≤ 8) × (tablesPlace ≤ length (now mem)) ⌝ }
     ensures { λ _. ⌜ Anew (now (mem .entry)) (now (mem .exit)) i k ⌝ }
 {
     let mut j = i;
     while j < k {
-        mem[1136 + j] = mem[1120 + 2 * j];
+        mem[layout::SETTING + j] = mem[layout::WINDOWS + layout::WINDOW * j];
         j += 1;
     }
 }
 
 // Whether there is a setting of k free variables: each window has a number.
 fn filled(mem: &[u32], k: usize) -> bool
-    requires { ⌜ (k ≤ 8) × (1200 ≤ length (now mem)) ⌝ }
+    requires { ⌜ (k ≤ 8) × (tablesPlace ≤ length (now mem)) ⌝ }
     ensures { λ r. ⌜ r ≡ filledS (windowsIn (now (mem .entry)) k) ⌝ }
 {
     let mut i: usize = 0;
@@ -181,7 +185,7 @@ fn filled(mem: &[u32], k: usize) -> bool
 
 // The first setting of k free variables.
 fn first_setting(mem: &mut [u32], k: usize)
-    requires { ⌜ (k ≤ 8) × (1200 ≤ length (now mem)) ⌝ }
+    requires { ⌜ (k ≤ 8) × (tablesPlace ≤ length (now mem)) ⌝ }
     ensures { λ _. ⌜ First (now (mem .entry)) (now (mem .exit)) k ⌝ }
 {
     start_from(mem, 0, k);
@@ -189,7 +193,7 @@ fn first_setting(mem: &mut [u32], k: usize)
 
 // The next setting of k free variables, if there is one: the last variable that is below its window's high end goes up by one, and those behind it start anew.
 fn next_setting(mem: &mut [u32], k: usize) -> bool
-    requires { ⌜ (k ≤ 8) × (1200 ≤ length (now mem)) ⌝ }
+    requires { ⌜ (k ≤ 8) × (tablesPlace ≤ length (now mem)) ⌝ }
     ensures { λ r. ⌜ Follows (now (mem .entry)) (now (mem .exit)) k r ⌝ }
 {
     let mut i = k;
@@ -213,7 +217,7 @@ fn result(mem: &[u32], n: usize, v: Value) -> i32
         Value::Known(z) => z,
         Value::Open(j) => {
             if j < n {
-                return ints::signed(mem[1207 + 12 * j]);
+                return ints::signed(mem[layout::NUMBERS + layout::STRIDE * j]);
             }
             0
         }
@@ -222,7 +226,7 @@ fn result(mem: &[u32], n: usize, v: Value) -> i32
 
 // Word j of the row that the present setting of k free variables gives with this result.
 fn row_word(result: i32, mem: &[u32], k: usize, j: usize) -> i32
-    requires { ⌜ (k ≤ 8) × (1200 ≤ length (now mem)) × (j < 10) ⌝ }
+    requires { ⌜ (k ≤ 8) × (tablesPlace ≤ length (now mem)) × (j < 10) ⌝ }
     ensures { λ r. ⌜ r ≡ getD (wordsOf (rowWith result (settingIn (now (mem .entry)) k))) j (pos 0) ⌝ }
 {
     if j == 0 {
@@ -236,7 +240,7 @@ fn row_word(result: i32, mem: &[u32], k: usize, j: usize) -> i32
 
 // Writes a row after n others: the result, and the present setting of k free variables.
 fn write_row(rows: &mut [i32], n: usize, result: i32, mem: &[u32], k: usize)
-    requires { ⌜ (k ≤ 8) × (1200 ≤ length (now mem)) × (10 * n + 10 ≤ length (now rows)) ⌝ }
+    requires { ⌜ (k ≤ 8) × (tablesPlace ≤ length (now mem)) × (10 * n + 10 ≤ length (now rows)) ⌝ }
     ensures { λ _. ⌜ Written (now (rows .entry)) (now (rows .exit)) n (rowWith result (settingIn (now (mem .entry)) k)) ⌝ }
 {
     let mut j: usize = 0;
@@ -274,7 +278,7 @@ pub fn charge(t: Tally) -> Tried
 
 // A row found: it is skipped, or written, or has no place.
 fn place(rows: &mut [i32], t: Tally, result: i32, mem: &[u32], k: usize) -> Tried
-    requires { ⌜ (k ≤ 8) × (1200 ≤ length (now mem)) × (10 * (t .written + t .room) ≤ length (now rows)) ⌝ }
+    requires { ⌜ (k ≤ 8) × (tablesPlace ≤ length (now mem)) × (10 * (t .written + t .room) ≤ length (now rows)) ⌝ }
     ensures { λ r. ⌜ Placing (now (rows .entry)) (now (rows .exit)) t (placeS (rowWith result (settingIn (now (mem .entry)) k)) (tallyOf (now (rows .entry)) t)) r ⌝ }
 {
     if 0 < t.skip {
@@ -312,7 +316,7 @@ fn trial(
     rows: &mut [i32],
 ) -> Tried
     requires { ⌜ Holding (now mem) nodes tests k × Fair (length (now rows)) t ⌝ }
-    ensures { λ r. ⌜ Trying (now (rows .entry)) (now (rows .exit)) t (trialS (meaning (nodesIn (now (mem .entry)) nodes) (cellOf v)) (testsS (now (mem .entry)) nodes tests) (settingIn (now (mem .entry)) k) (tallyOf (now (rows .entry)) t)) r × Renumbered (now (mem .entry)) (now (mem .exit)) ⌝ }
+    ensures { λ r. ⌜ OneTrial (now (mem .entry)) (now (mem .exit)) nodes tests k v (now (rows .entry)) (now (rows .exit)) t r ⌝ }
 {
     if t.budget == 0 {
         return Tried::Spent(t);
@@ -328,7 +332,7 @@ fn trial(
 // The present setting tried at a cut: a cut run, if it meets the tests.
 fn probe(mem: &mut [u32], nodes: usize, tests: usize, k: usize, t: Tally) -> Tried
     requires { ⌜ Holding (now mem) nodes tests k × (t .moves + t .budget < 4294967296) ⌝ }
-    ensures { λ r. ⌜ Charged t (λ rows. probeS (testsS (now (mem .entry)) nodes tests) (settingIn (now (mem .entry)) k) (tallyOf rows t)) r × Renumbered (now (mem .entry)) (now (mem .exit)) ⌝ }
+    ensures { λ r. ⌜ OneProbe (now (mem .entry)) (now (mem .exit)) nodes tests k t r ⌝ }
 {
     if t.budget == 0 {
         return Tried::Spent(t);
@@ -356,7 +360,7 @@ pub fn trials(
     rows: &mut [i32],
 ) -> Tried
     requires { ⌜ Holding (now mem) nodes tests k × Fair (length (now rows)) t ⌝ }
-    ensures { λ r. ⌜ Placing (now (rows .entry)) (now (rows .exit)) t (trialsS (meaning (nodesIn (now (mem .entry)) nodes) (cellOf v)) (testsS (now (mem .entry)) nodes tests) (settingsS (windowsIn (now (mem .entry)) k)) (tallyOf (now (rows .entry)) t)) r × Steady (now (mem .entry)) (now (mem .exit)) ⌝ }
+    ensures { λ r. ⌜ AllTrials (now (mem .entry)) (now (mem .exit)) nodes tests k v (now (rows .entry)) (now (rows .exit)) t r ⌝ }
 {
     if !filled(mem, k) {
         return Tried::Go(t);
@@ -380,7 +384,7 @@ pub fn trials(
 // Settings of k free variables in their windows tried at a cut, until one meets the tests; none, where a cut run was found before.
 pub fn probes(mem: &mut [u32], nodes: usize, tests: usize, k: usize, t: Tally) -> Tried
     requires { ⌜ Holding (now mem) nodes tests k × (t .moves + t .budget < 4294967296) ⌝ }
-    ensures { λ r. ⌜ Counted t (λ rows. probesS (testsS (now (mem .entry)) nodes tests) (settingsS (windowsIn (now (mem .entry)) k)) (tallyOf rows t)) r × Steady (now (mem .entry)) (now (mem .exit)) ⌝ }
+    ensures { λ r. ⌜ AllProbes (now (mem .entry)) (now (mem .exit)) nodes tests k t r ⌝ }
 {
     if !filled(mem, k) {
         return Tried::Go(t);

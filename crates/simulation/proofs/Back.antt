@@ -1,4 +1,4 @@
--- A choice taken back, anywhere in a search, leaves variables, windows and tests as they were when it was made.
+-- The newest true choice; a path worked again with its outcomes forced; where a path made a choice; and that what stands at a choice depends on the outcomes before it alone.
 use Prim.Native.Nat.{ℕ, zero, suc}
 use mathlib.Core.Path.{_≡_, refl, sym, ap, _∙_, subst}
 use mathlib.Core.Bool.{Bool, true, false}
@@ -11,7 +11,7 @@ use Rattle.simulation.specs.Code.{Code}
 use Rattle.simulation.specs.Machine.{Machine, Doing, advance, start}
 use Rattle.simulation.specs.Path.{State, state, begins, outcome, later, holding, End, cut, Went, on, ended, stepped, siding, choosing, comparing, turning, turn}
 use Rattle.simulation.specs.Lister.{following, next}
-use Rattle.simulation.specs.Back.{standing, Passes, here, turned, ChoiceAt, TakenBack}
+use Rattle.simulation.specs.Back.{standing, Passes, here, turned, ChoiceAt}
 
 -- ---- the newest true choice
 
@@ -58,19 +58,19 @@ next-newest (o ∷ g) r f = ap (following o) (next-newest g r f)
 
 -- ---- lists of outcomes
 
-abbrev Some : List Bool → Type 0
+abbrev pub Some : List Bool → Type 0
 Some [] = ⊥
 Some (o ∷ l) = Unit {0}
 
-abbrev first : List Bool → Bool
+abbrev pub first : List Bool → Bool
 first [] = true
 first (o ∷ l) = o
 
-abbrev others : List Bool → List Bool
+abbrev pub others : List Bool → List Bool
 others [] = []
 others (o ∷ l) = l
 
-some-append : (g r : List Bool) (o : Bool) → Some (g ++ o ∷ r)
+pub some-append : (g r : List Bool) (o : Bool) → Some (g ++ o ∷ r)
 some-append [] r o = tt
 some-append (x ∷ g) r o = tt
 
@@ -104,16 +104,16 @@ forcing q s = state (s .steps) (s .frees) (s .windows) (s .tests) q (s .chosen)
 
 module _ (solver : Solver) (job : Window) (c : Code) where
   -- a turn without a choice, and a turn with one; each is made again with other outcomes forced after it
-  record Plain (m : Machine Value) (s : State) (m₂ : Machine Value) (s₂ : State) : Type 0 where
-    chosen : s₂ .chosen ≡ s .chosen
-    forced : s₂ .forced ≡ s .forced
-    again : (q : List Bool) → turn solver job c m (forcing q s) .went ≡ on m₂ (forcing q s₂)
+  pub record Plain (m : Machine Value) (s : State) (m₂ : Machine Value) (s₂ : State) : Type 0 where
+    pub chosen : s₂ .chosen ≡ s .chosen
+    pub forced : s₂ .forced ≡ s .forced
+    pub again : (q : List Bool) → turn solver job c m (forcing q s) .went ≡ on m₂ (forcing q s₂)
 
-  record Chosen (m : Machine Value) (s : State) (m₂ : Machine Value) (s₂ : State) : Type 0 where
-    choice : ChoiceAt solver job c m s
-    chosen : s₂ .chosen ≡ s .chosen ++ outcome (s .forced) ∷ []
-    forced : s₂ .forced ≡ later (s .forced)
-    again : (q : List Bool) → turn solver job c m (forcing (outcome (s .forced) ∷ q) s) .went ≡ on m₂ (forcing q s₂)
+  pub record Chosen (m : Machine Value) (s : State) (m₂ : Machine Value) (s₂ : State) : Type 0 where
+    pub choice : ChoiceAt solver job c m s
+    pub chosen : s₂ .chosen ≡ s .chosen ++ outcome (s .forced) ∷ []
+    pub forced : s₂ .forced ≡ later (s .forced)
+    pub again : (q : List Bool) → turn solver job c m (forcing (outcome (s .forced) ∷ q) s) .went ≡ on m₂ (forcing q s₂)
 
   -- a path that ends at a choice, at a side that is closed
   record Closed (m : Machine Value) (s : State) (s₂ : State) : Type 0 where
@@ -193,16 +193,16 @@ module _ (solver : Solver) (job : Window) (c : Code) where
 
   -- ---- a path with the outcomes of its choices
 
-  data Trace : Machine Value → State → List Bool → Machine Value → State → Type 0 where
+  pub data Trace : Machine Value → State → List Bool → Machine Value → State → Type 0 where
     nothing : {m : Machine Value} {s : State} → Trace m s [] m s
     plain : {m m₂ m₃ : Machine Value} {s s₂ s₃ : State} {d : List Bool} → turn solver job c m s .went ≡ on m₂ s₂ → Plain m s m₂ s₂ → Trace m₂ s₂ d m₃ s₃ → Trace m s d m₃ s₃
     chose : {m m₂ m₃ : Machine Value} {s s₂ s₃ : State} {d : List Bool} → turn solver job c m s .went ≡ on m₂ s₂ → Chosen m s m₂ s₂ → Trace m₂ s₂ d m₃ s₃ → Trace m s (outcome (s .forced) ∷ d) m₃ s₃
 
-  record Traced (m : Machine Value) (s : State) (m₂ : Machine Value) (s₂ : State) : Type 0 where
-    outcomes : List Bool
-    trace : Trace m s outcomes m₂ s₂
+  pub record Traced (m : Machine Value) (s : State) (m₂ : Machine Value) (s₂ : State) : Type 0 where
+    pub outcomes : List Bool
+    pub trace : Trace m s outcomes m₂ s₂
 
-  traced : {m m₂ : Machine Value} {s s₂ : State} → Passes solver job c m s m₂ s₂ → Traced m s m₂ s₂
+  pub traced : {m m₂ : Machine Value} {s s₂ : State} → Passes solver job c m s m₂ s₂ → Traced m s m₂ s₂
   traced here = record { outcomes = []; trace = nothing }
   traced (turned {m} {m₂} {m₃} {s} {s₂} {s₃} e r) = by (subst (Shape m s) e (shape m s)) (traced r)
     where
@@ -210,27 +210,27 @@ module _ (solver : Solver) (job : Window) (c : Code) where
       by (one p) t = record { outcomes = t .outcomes; trace = plain e p (t .trace) }
       by (two q) t = record { outcomes = outcome (s .forced) ∷ t .outcomes; trace = chose e q (t .trace) }
 
-  trace-chosen : {m m₂ : Machine Value} {s s₂ : State} {d : List Bool} → Trace m s d m₂ s₂ → s₂ .chosen ≡ s .chosen ++ d
+  pub trace-chosen : {m m₂ : Machine Value} {s s₂ : State} {d : List Bool} → Trace m s d m₂ s₂ → s₂ .chosen ≡ s .chosen ++ d
   trace-chosen (nothing {s = s}) = sym (append-nil (s .chosen))
   trace-chosen (plain {d = d} e p t) = trace-chosen t ∙ ap (λ h. h ++ d) (p .chosen)
   trace-chosen (chose {s = s} {d = d} e q t) = trace-chosen t ∙ ap (λ h. h ++ d) (q .chosen) ∙ append-assoc (s .chosen) (outcome (s .forced) ∷ []) d
 
   -- the same path again, with the outcomes forced that it had
-  replay : {m m₂ : Machine Value} {s s₂ : State} {d : List Bool} → Trace m s d m₂ s₂ → (q : List Bool) → Passes solver job c m (forcing (d ++ q) s) m₂ (forcing q s₂)
+  pub replay : {m m₂ : Machine Value} {s s₂ : State} {d : List Bool} → Trace m s d m₂ s₂ → (q : List Bool) → Passes solver job c m (forcing (d ++ q) s) m₂ (forcing q s₂)
   replay nothing q = here
   replay (plain {d = d} e p t) q = turned (p .again (d ++ q)) (replay t q)
   replay (chose {d = d} e p t) q = turned (p .again (d ++ q)) (replay t q)
 
   -- the point of a path at which a choice was made, with the outcomes g before it
-  record Found (m : Machine Value) (s : State) (g : List Bool) (o : Bool) : Type 0 where
-    machine : Machine Value
-    state : State
-    passes : Passes solver job c m s machine state
-    front : List Bool
-    trace : Trace m s front machine state
-    is : front ≡ g
-    choice : ChoiceAt solver job c machine state
-    went : outcome (state .forced) ≡ o
+  pub record Found (m : Machine Value) (s : State) (g : List Bool) (o : Bool) : Type 0 where
+    pub machine : Machine Value
+    pub state : State
+    pub passes : Passes solver job c m s machine state
+    pub front : List Bool
+    pub trace : Trace m s front machine state
+    pub is : front ≡ g
+    pub choice : ChoiceAt solver job c machine state
+    pub went : outcome (state .forced) ≡ o
 
   find : {m m₂ : Machine Value} {s s₂ : State} {d : List Bool} → Trace m s d m₂ s₂ → (g : List Bool) (o : Bool) → Inside d g o → Found m s g o
   find nothing g o i = absurd (subst Some (sym (i .split)) (some-append g (i .rest) o))
@@ -253,40 +253,19 @@ module _ (solver : Solver) (job : Window) (c : Code) where
         went = f .went;
       }
 
-  -- ---- taken back
-
+  -- a path that has ended has come to each of its choices
   module _ (most : ℕ) (p : List Bool) where
-    back-to : (g : List Bool) → Found (start known work c) (begins most p) g true → TakenBack solver job c most p (g ++ false ∷ [])
-    back-to g f = record {
-      machine = f .machine;
-      state = f .state;
-      made = f .passes;
-      choice = f .choice;
-      went = f .went;
-      place = ap (λ h. h ++ false ∷ []) (sym (trace-chosen (f .trace) ∙ f .is));
-      machine₂ = f .machine;
-      state₂ = forcing (false ∷ []) (f .state);
-      again = subst (λ h. Passes solver job c (start known work c) (begins most (h ++ false ∷ [])) (f .machine) (forcing (false ∷ []) (f .state))) (f .is) (replay (f .trace) (false ∷ []));
-      goes = refl;
-      same = refl;
-    }
-
-    -- Whenever a path has ended and a choice is taken back for the next one, what stands where that one comes to the choice is what stood when it was made.
-    pub taken-back : (m : Machine Value) (s : State) → Passes solver job c (start known work c) (begins most p) m s → (e : End) (s₂ : State) → turn solver job c m s .went ≡ ended e s₂
-        → (q : List Bool) → next (s₂ .chosen) ≡ some q → TakenBack solver job c most p q
-    taken-back m s r e s₂ x q n = by (traced r) (subst (Shape m s) x (shape m s)) (subst (Flips (s₂ .chosen)) n (flips (s₂ .chosen)))
+    pub came-to : {m : Machine Value} {s s₂ : State} {e : End} → Passes solver job c (start known work c) (begins most p) m s → turn solver job c m s .went ≡ ended e s₂
+        → (g rest : List Bool) (o : Bool) → s₂ .chosen ≡ g ++ o ∷ rest → Found (start known work c) (begins most p) g o
+    came-to {m} {s} {s₂} r x g rest o w = by (traced r) (subst (Shape m s) x (shape m s))
       where
-        from : (w : Newest (s₂ .chosen) q) → Found (start known work c) (begins most p) (w .front) true → TakenBack solver job c most p q
-        from w f = subst (TakenBack solver job c most p) (sym (w .flipped)) (back-to (w .front) f)
+        at-end : (t : Traced (start known work c) (begins most p) m s) → ChoiceAt solver job c m s → Either (Last (t .outcomes) g (outcome (s .forced)) o) (Inside (t .outcomes) g o) → Found (start known work c) (begins most p) g o
+        at-end t k (one l) = record { machine = m; state = s; passes = r; front = t .outcomes; trace = t .trace; is = sym (l .all); choice = k; went = l .is }
+        at-end t k (two i) = find (t .trace) g o i
 
-        at-end : (t : Traced (start known work c) (begins most p) m s) (w : Newest (s₂ .chosen) q) → ChoiceAt solver job c m s
-            → Either (Last (t .outcomes) (w .front) (outcome (s .forced)) true) (Inside (t .outcomes) (w .front) true) → Found (start known work c) (begins most p) (w .front) true
-        at-end t w k (one l) = record { machine = m; state = s; passes = r; front = t .outcomes; trace = t .trace; is = sym (l .all); choice = k; went = l .is }
-        at-end t w k (two i) = find (t .trace) (w .front) true i
-
-        by : Traced (start known work c) (begins most p) m s → Either (s₂ .chosen ≡ s .chosen) (Closed m s s₂) → Newest (s₂ .chosen) q → TakenBack solver job c most p q
-        by t (one k) w = from w (find (t .trace) (w .front) true (record { rest = w .rest; split = sym (trace-chosen (t .trace)) ∙ sym k ∙ w .split }))
-        by t (two k) w = from w (at-end t w (k .choice) (where-is (t .outcomes) (w .front) (w .rest) (outcome (s .forced)) true (ap (λ h. h ++ outcome (s .forced) ∷ []) (sym (trace-chosen (t .trace))) ∙ sym (k .chosen) ∙ w .split)))
+        by : Traced (start known work c) (begins most p) m s → Either (s₂ .chosen ≡ s .chosen) (Closed m s s₂) → Found (start known work c) (begins most p) g o
+        by t (one k) = find (t .trace) g o (record { rest = rest; split = sym (trace-chosen (t .trace)) ∙ sym k ∙ w })
+        by t (two k) = at-end t (k .choice) (where-is (t .outcomes) g rest (outcome (s .forced)) o (ap (λ h. h ++ outcome (s .forced) ∷ []) (sym (trace-chosen (t .trace))) ∙ sym (k .chosen) ∙ w))
 
   -- ---- both sides go on from what stands there: only the outcome, the narrowed windows and the test made differ
 
@@ -324,7 +303,7 @@ module _ (solver : Solver) (job : Window) (c : Code) where
       in-line p (subst (λ x. Passes solver job c x b m₂ s₂) (ap (machineIn a) (sym e₂ ∙ e)) (subst (λ x. Passes solver job c a₂ x m₂ s₂) (ap (stateIn b) (sym e₂ ∙ e)) p₂))
 
   -- no outcome is forced that was not
-  trace-none : {m m₂ : Machine Value} {s s₂ : State} {d : List Bool} → Trace m s d m₂ s₂ → s .forced ≡ [] → s₂ .forced ≡ []
+  pub trace-none : {m m₂ : Machine Value} {s s₂ : State} {d : List Bool} → Trace m s d m₂ s₂ → s .forced ≡ [] → s₂ .forced ≡ []
   trace-none nothing h = h
   trace-none (plain e p t) h = trace-none t (p .forced ∙ h)
   trace-none (chose e p t) h = trace-none t (p .forced ∙ ap later h)

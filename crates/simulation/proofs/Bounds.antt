@@ -65,7 +65,7 @@ module _ {X : Type 0} (num : ℤ → X) (work : Op → X → X → X) (c : Code)
 
   taken-le : (f ts : List X) (j : ℕ) → length (taken num work c f ts j .rest) ≤ length ts
   taken-le f ts zero = popped-le ts
-  taken-le f ts (suc r) = reading-le f ts (entryAt num work c r)
+  taken-le f ts (suc r) = reading-le f ts (entryAt c r)
 
   two-le : (f ts : List X) (j d : ℕ) → length (two num work c f ts j d .rest) ≤ length ts
   two-le f ts j d = le-trans (taken-le f (taken num work c f ts j .rest) (j - d)) (taken-le f ts j)
@@ -109,7 +109,7 @@ module _ {X : Type 0} (num : ℤ → X) (work : Op → X → X → X) (c : Code)
 
   pub sound-advance : (n : ℕ) (m : Machine X) → Sound n m → Sounds n (advance num work c m)
   unfolding advance
-  sound-advance n m s = sound-entry n (m .pc) (m .flag) (m .temps) (m .frame) (m .callers) (m .left) s (entryAt num work c (m .pc))
+  sound-advance n m s = sound-entry n (m .pc) (m .flag) (m .temps) (m .frame) (m .callers) (m .left) s (entryAt c (m .pc))
 
   -- ---- silent moves
 
@@ -165,6 +165,6 @@ module _ {X : Type 0} (num : ℤ → X) (work : Op → X → X → X) (c : Code)
   unfolding advance
   silent-falls m = go (decLt (m .pc) (length (c .entries)))
     where
-      go : Dec (m .pc < length (c .entries)) → Falls (silents m) (working num work c (m .pc) (m .flag) (m .temps) (m .frame) (m .callers) (m .left) (entryAt num work c (m .pc)))
-      go (yes h) = falls-entry (m .pc) (m .flag) (m .temps) (m .frame) (m .callers) (m .left) h (entryAt num work c (m .pc))
+      go : Dec (m .pc < length (c .entries)) → Falls (silents m) (working num work c (m .pc) (m .flag) (m .temps) (m .frame) (m .callers) (m .left) (entryAt c (m .pc)))
+      go (yes h) = falls-entry (m .pc) (m .flag) (m .temps) (m .frame) (m .callers) (m .left) h (entryAt c (m .pc))
       go (no h) = rw (List·getD-eq-default (c .entries) (act Act.fail) {n = m .pc} (omega arith)) tt

@@ -250,7 +250,7 @@ module _ (solver : Solver) (job : Window) (c : Code) where
       by g r (on m₂ s₂) a b = g r m₂ s₂ a (b .kept) (lt-of-lt-of-le (b .nearer) (le-of-suc-le-suc l))
       by g r (ended e s₂) a b = a
 
-  pub driven-ok : (most : ℕ) (p : Program) → Placed c p → (forced : List Bool) (n : ℕ) → most-turns c most ≤ n
+  driven-ok : (most : ℕ) (p : Program) → Placed c p → (forced : List Bool) (n : ℕ) → most-turns c most ≤ n
       → drive n (start known work c) (begins most forced) ≡ route solver job (does known work most p) most 8 [] [] forced
   driven-ok most p h forced n l = drive-ok most n _ _ _ (goes-start solver job c most p h forced) (kept-start c most forced) (lt-of-lt-of-le (turns-le c most _ _ (kept-start c most forced)) l)
 

@@ -1,14 +1,10 @@
--- On a program's code the machine never leaves the code.
+-- No entry of a program's code leads out of the code.
 use Prim.Native.Nat.{ℕ, zero, suc, _+_, _≤_, _<_}
-use mathlib.Core.Bool.{Bool, true, false}
 use mathlib.Core.List.{List, [], _∷_, _++_}
 use native.Mathlib.Omega.{arith}
 use lib.ListN.{length, getD, length-append}
-use lib.IntN.{ℤ}
-use Rattle.semantics.specs.Int.{Op}
 use Rattle.semantics.specs.Program.{Expr, Exprs, Cond, Stmt, Stmts, Program}
 use Rattle.simulation.specs.Code.{Act, Entry, leaf, argument, act, Code, codeE, codeEs, codeC, codeS, codeSs, codeB, entriesOf, startsOf, codeOf}
-use Rattle.simulation.specs.Machine.{Caller, Machine, Doing, Gathered, landing, entryAt, taken, gather, entering, leaving, working, advance}
 
 -- how many entries have to follow this one
 unfoldable pub needs : Entry → ℕ
@@ -108,62 +104,3 @@ closed p = record {
   entries = λ i h. omega (arith, fits-at (codeOf p .entries) 0 i h (omega arith, (omega arith, (omega arith, fits-bs (p .bodies)))));
   starts = starts-in _ (omega arith) (p .bodies) 3 (omega arith);
 }
-
--- ---- the machine stays inside
-
-module _ {X : Type 0} (num : ℤ → X) (work : Op → X → X → X) (c : Code) where
-  abbrev pub Returns : List (Caller X) → Type 0
-  Returns [] = Unit {0}
-  Returns (r ∷ cs) = (r .pc < length (c .entries)) × Returns cs
-
-  pub record Inside (m : Machine X) : Type 0 where
-    pub here : m .pc < length (c .entries)
-    pub there : Returns (m .callers)
-
-  abbrev pub Insides : Doing X → Type 0
-  Insides (Doing.silent m) = Inside m
-  Insides (Doing.step m) = Inside m
-  Insides (Doing.free k) = (v : X) → Inside (k v)
-  Insides (Doing.test o a b k) = (r : Bool) → Inside (k r)
-  Insides (Doing.returned v) = Unit {0}
-  Insides Doing.failed = Unit {0}
-  Insides Doing.cut = Unit {0}
-
-  module _ (closed : Closed c) where
-    inside-leaving : (cs : List (Caller X)) (v : X) (b : Bool) (d : ℕ) → Returns cs → Insides (leaving num work c cs v b d)
-    inside-leaving [] v b d h = tt
-    inside-leaving (r ∷ cs) v b d h = record { here = h .0; there = h .1 }
-
-    inside-entering : (d g : ℕ) (a : Gathered X) (i : ℕ) (b : Bool) (f : List X) (cs : List (Caller X)) → suc i < length (c .entries) → Returns cs → Insides (entering num work c d g a i b f cs)
-    inside-entering zero g a i b f cs h t = tt
-    inside-entering (suc d) g a i b f cs h t = record { here = closed .starts g; there = (h, t) }
-
-    landing-le : (o b : Bool) (n i : ℕ) → landing o b n i ≤ i + n
-    landing-le true true n i = omega arith
-    landing-le true false n i = omega arith
-    landing-le false true n i = omega arith
-    landing-le false false n i = omega arith
-
-    module _ (i : ℕ) (b : Bool) (ts f : List X) (cs : List (Caller X)) (d : ℕ) (here : i < length (c .entries)) (there : Returns cs) where
-      inside-entry : (x : Entry) → needs x + suc i ≤ length (c .entries) → Insides (working num work c i b ts f cs d x)
-      unfolding needs
-      inside-entry (leaf l) h = record { here = omega arith; there = there }
-      inside-entry (argument n) h = record { here = omega arith; there = there }
-      inside-entry (act (Act.operate o n)) h = record { here = omega arith; there = there }
-      inside-entry (act (Act.compare o n)) h = λ r. record { here = omega arith; there = there }
-      inside-entry (act (Act.call g n)) h = inside-entering d g (gather num work c f ts n i []) i b f cs (omega arith) there
-      inside-entry (act (Act.constant o)) h = record { here = omega arith; there = there }
-      inside-entry (act (Act.jump o n)) h = record { here = omega (arith, landing-le o b n (suc i)); there = there }
-      inside-entry (act (Act.skip n)) h = record { here = omega arith; there = there }
-      inside-entry (act (Act.again n)) h = record { here = omega arith; there = there }
-      inside-entry (act Act.begin) h = record { here = omega arith; there = there }
-      inside-entry (act (Act.clear a)) h = record { here = omega arith; there = there }
-      inside-entry (act (Act.ask a)) h = λ v. record { here = omega arith; there = there }
-      inside-entry (act (Act.store a)) h = record { here = omega arith; there = there }
-      inside-entry (act Act.return) h = inside-leaving cs (taken num work c f ts i .value) b d there
-      inside-entry (act Act.fail) h = tt
-
-    pub inside-advance : (m : Machine X) → Inside m → Insides (advance num work c m)
-    unfolding advance
-    inside-advance m h =
-        inside-entry (m .pc) (m .flag) (m .temps) (m .frame) (m .callers) (m .left) (h .here) (h .there) (entryAt num work c (m .pc)) (closed .entries (m .pc) (h .here))

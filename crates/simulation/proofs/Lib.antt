@@ -8,15 +8,9 @@ pub mod Drive
 pub mod Spending
 pub mod Listing
 pub mod Back
+pub mod First
 pub mod Nodes
 pub mod Odometer
 pub mod Inside
-pub mod Emitted
 pub mod Size
 pub mod Words
-pub mod Mapped
-pub mod Held
-pub mod Cells
-pub mod Windows
-pub mod Bounded
-pub mod Going

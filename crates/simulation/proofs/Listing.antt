@@ -12,14 +12,13 @@ use Rattle.semantics.specs.Does.{does, within}
 use Rattle.semantics.specs.Run.{Window, Row, Job}
 use Rattle.semantics.specs.Search as search
 use Rattle.semantics.specs.Search.{Value, known, work, under, Solver, Test, meets, settings, Kind, missed, Move, plain, found, tried, probed, Paths, paths, moves, probedOnce, Close, Answer, answer, listed}
-use Rattle.simulation.specs.Code.{Code, codeOf}
+use Rattle.simulation.specs.Code.{Code}
 use Rattle.simulation.specs.Machine.{Machine, start}
 use Rattle.simulation.specs.Path.{State, begins, End, returned, failed, cut, Went, on, ended, turn}
 use Rattle.simulation.specs.Lister.{Tally, tally, Next, go, over, then, closed, closing, charge, charged, place, trial, trials, probe, probes, finish, next, Start, back, path, searching, opening}
 use Rattle.simulation.proofs.Replay.{Has, ahead, replayed, one-path, take-back, onwards, has-chosen, HasSome, has-next, chosen}
 use Rattle.simulation.proofs.Route.{Route, of, route-of}
 use Rattle.simulation.specs.Placed.{Placed}
-use Rattle.simulation.proofs.Placed.{placed}
 use Rattle.simulation.proofs.Spending.{Fewer, path-fewer}
 use Rattle.simulation.proofs.Drive.{last, moving, Goes, GoesOn, turn-keeps, goes-start, turns-left, Kept, Nears, turn-nears, kept-start, most-turns, turns-le}
 
@@ -73,12 +72,12 @@ module _ (a : Answer) where
   trial-at true x t ms e = place-at x (t .budget) (t .skip) (t .room) (t .rows) (t .moves) (t .cut) ms e
   trial-at false x t ms e = gives-then a ms ms (charge t) go (charge-ok missed t ms e) (λ u h. h)
 
-  pub trial-ok : (v : Value) (ts : List Test) (s : List ℤ) (t : Tally) (ms : List Move)
+  trial-ok : (v : Value) (ts : List Test) (s : List ℤ) (t : Tally) (ms : List Move)
       → outlook t (cond (meets ts s) (found (record { result = under s v; values = s })) (plain missed) ∷ ms) ≡ a → Gives a ms (trial v ts s t)
   unfolding trial
   trial-ok v ts s t ms e = trial-at (meets ts s) _ t ms e
 
-  pub trials-ok : (v : Value) (ts : List Test) (ss : List (List ℤ)) (t : Tally) (ms : List Move) → outlook t (tried v ts ss ++ ms) ≡ a → Gives a ms (trials v ts ss t)
+  trials-ok : (v : Value) (ts : List Test) (ss : List (List ℤ)) (t : Tally) (ms : List Move) → outlook t (tried v ts ss ++ ms) ≡ a → Gives a ms (trials v ts ss t)
   unfolding trials tried
   trials-ok v ts [] t ms e = e
   trials-ok v ts (s ∷ ss) t ms e = gives-then a (tried v ts ss ++ ms) ms (trial v ts s t) (trials v ts ss) (trial-ok v ts s t (tried v ts ss ++ ms) e) (λ u h. trials-ok v ts ss u ms h)
@@ -102,7 +101,7 @@ module _ (a : Answer) where
   probe-at true (suc b) s r rs n ms ns e q = ap (λ l. onto (tally b s r rs (suc n) true) (answer (closing true) l s r b)) (sym q) ∙ answer-eq refl (omega arith) ∙ e
   probe-at false (suc b) s r rs n ms ns e q = ap (λ l. onto (tally b s r rs (suc n) false) (answer (closing false) l s r b)) (sym q) ∙ answer-eq refl (omega arith) ∙ e
 
-  pub probe-ok : (ts : List Test) (s : List ℤ) (ss : List (List ℤ)) (b k r : ℕ) (rs : List Row) (n : ℕ) (ms : List Move) → outlook (tally b k r rs n false) (probed ts (s ∷ ss) ++ ms) ≡ a
+  probe-ok : (ts : List Test) (s : List ℤ) (ss : List (List ℤ)) (b k r : ℕ) (rs : List Row) (n : ℕ) (ms : List Move) → outlook (tally b k r rs n false) (probed ts (s ∷ ss) ++ ms) ≡ a
       → Gives a (probed ts ss ++ ms) (probe ts s (tally b k r rs n false))
   unfolding probe probed
   probe-ok ts s ss b k r rs n ms e = by (meets ts s) e
@@ -118,43 +117,14 @@ module _ (a : Answer) where
   probes-at true ts s ss b k r rs n ms g e = ap (λ l. onto (tally b k r rs n true) (answer (closing true) l k r b)) (sym (settled-true ts (s ∷ ss) ms)) ∙ e
   probes-at false ts s ss b k r rs n ms g e = gives-then a (probed ts ss ++ ms) ms (probe ts s (tally b k r rs n false)) (probes ts ss) (probe-ok ts s ss b k r rs n ms e) g
 
-  pub probes-ok : (ts : List Test) (ss : List (List ℤ)) (t : Tally) (ms : List Move) → outlook t (probed ts ss ++ ms) ≡ a → Gives a ms (probes ts ss t)
+  probes-ok : (ts : List Test) (ss : List (List ℤ)) (t : Tally) (ms : List Move) → outlook t (probed ts ss ++ ms) ≡ a → Gives a ms (probes ts ss t)
   unfolding probes probed
   probes-ok ts [] t ms e = e
   probes-ok ts (s ∷ ss) t ms e = probes-at (t .cut) ts s ss (t .budget) (t .skip) (t .room) (t .rows) (t .moves) ms (λ u h. probes-ok ts ss u ms h) e
 
-  -- one setting after another
-
-  pub tried-one : (v : Value) (ts : List Test) (s : List ℤ) (ss : List (List ℤ)) (t : Tally) (ms : List Move) → outlook t (tried v ts (s ∷ ss) ++ ms) ≡ a → Gives a (tried v ts ss ++ ms) (trial v ts s t)
-  unfolding tried
-  tried-one v ts s ss t ms e = trial-ok v ts s t (tried v ts ss ++ ms) e
-
-  pub tried-none : (v : Value) (ts : List Test) (t : Tally) (ms : List Move) → outlook t (tried v ts [] ++ ms) ≡ a → outlook t ms ≡ a
-  unfolding tried
-  tried-none v ts t ms e = e
-
-  pub probed-one : (ts : List Test) (s : List ℤ) (ss : List (List ℤ)) (t : Tally) (ms : List Move) → t .cut ≡ false → outlook t (probed ts (s ∷ ss) ++ ms) ≡ a → Gives a (probed ts ss ++ ms) (probe ts s t)
-  probed-one ts s ss t ms h e = by (t .cut) h e
-    where
-      by : (o : Bool) → o ≡ false → outlook (tally (t .budget) (t .skip) (t .room) (t .rows) (t .moves) o) (probed ts (s ∷ ss) ++ ms) ≡ a → Gives a (probed ts ss ++ ms) (probe ts s (tally (t .budget) (t .skip) (t .room) (t .rows) (t .moves) o))
-      by false h e = probe-ok ts s ss (t .budget) (t .skip) (t .room) (t .rows) (t .moves) ms e
-      by true h e = absurd (subst (λ o. elim o as (λ o. Type 0) [ true ↦ Unit {0} | false ↦ ⊥ ]) h tt)
-
-  pub probed-end : (ts : List Test) (t : Tally) (ms : List Move) → outlook t (probed ts [] ++ ms) ≡ a → outlook t ms ≡ a
-  unfolding probed
-  probed-end ts t ms e = e
-
-  -- none, once a cut run was found
-  pub probed-none : (ts : List Test) (ss : List (List ℤ)) (t : Tally) (ms : List Move) → t .cut ≡ true → outlook t (probed ts ss ++ ms) ≡ a → outlook t ms ≡ a
-  probed-none ts ss t ms h e = by (t .cut) h e
-    where
-      by : (o : Bool) → o ≡ true → outlook (tally (t .budget) (t .skip) (t .room) (t .rows) (t .moves) o) (probed ts ss ++ ms) ≡ a → outlook (tally (t .budget) (t .skip) (t .room) (t .rows) (t .moves) o) ms ≡ a
-      by true h e = ap (λ l. onto (tally (t .budget) (t .skip) (t .room) (t .rows) (t .moves) true) (answer (closing true) l (t .skip) (t .room) (t .budget))) (sym (settled-true ts ss ms)) ∙ e
-      by false h e = absurd (subst (λ o. elim o as (λ o. Type 0) [ true ↦ ⊥ | false ↦ Unit {0} ]) h tt)
-
   -- ---- a path's end, and what follows it
 
-  pub finish-ok : (e : End) (s : State) (t : Tally) (ms : List Move) → outlook t (last e s ++ ms) ≡ a → Gives a ms (finish e s t)
+  finish-ok : (e : End) (s : State) (t : Tally) (ms : List Move) → outlook t (last e s ++ ms) ≡ a → Gives a ms (finish e s t)
   unfolding finish last
   finish-ok (returned v) s t ms h = trials-ok v (s .tests) (settings (s .windows)) t ms h
   finish-ok failed s t ms h = h
@@ -181,7 +151,7 @@ module _ (a : Answer) where
         charged (over r) e = e
 
     -- the newest true choice is taken back, or the search has ended
-    pub back-ok : (h : List Bool) (t : Tally) → Has tree h → outlook t (onwards tree (next h)) ≡ a → OpensNext (back h t)
+    back-ok : (h : List Bool) (t : Tally) → Has tree h → outlook t (onwards tree (next h)) ≡ a → OpensNext (back h t)
     unfolding back
     back-ok h t x e = back-at (next h) t (has-next tree h x) e
 
@@ -190,7 +160,7 @@ module _ (a : Answer) where
       pub has : Has tree (s .chosen)
       pub gives : outlook t (last e s ++ onwards tree (next (s .chosen))) ≡ a
 
-    pub ends-ok : (e : End) (s : State) (t : Tally) → Ends e s t → OpensNext (then (finish e s t) (back (s .chosen)))
+    ends-ok : (e : End) (s : State) (t : Tally) → Ends e s t → OpensNext (then (finish e s t) (back (s .chosen)))
     ends-ok e s t h = by (finish e s t) (finish-ok e s t _ (h .gives))
       where
         by : (x : Next Tally) → Gives a (onwards tree (next (s .chosen))) x → OpensNext (then x (back (s .chosen)))
@@ -230,7 +200,7 @@ module _ (a : Answer) where
           by (over q) e = e
 
       -- after a turn the answer is still a
-      pub turn-leads : (m : Machine Value) (s : State) (t : Tally) → Leads m s t → LeadsNext (turn solver job c m s .went) (charged (turn solver job c m s .move) t)
+      turn-leads : (m : Machine Value) (s : State) (t : Tally) → Leads m s t → LeadsNext (turn solver job c m s .went) (charged (turn solver job c m s .move) t)
       turn-leads m s t h =
           let k = turn-keeps solver job c (h .route) m s (h .goes) in
           leads-paid (turn solver job c m s .move) (k .rest) (turn solver job c m s .went) (k .goes) (subst (λ r. Has tree (r .choices)) (sym (k .first)) (h .has)) t
@@ -268,7 +238,7 @@ module _ (a : Answer) where
           gives = ap (outlook (b .tally)) (sym (one-path t (b .forced) (o .has) ∙ ap (λ l. replayed t (b .forced) ++ l) (take-back t (chosen t (b .forced)) (has-chosen t (b .forced) (o .has))))) ∙ o .gives;
         }
 
-    pub searching-ok : (k n : ℕ) → most-turns c most ≤ n → (b : Start) → Opens (treeOf solver job most p) b → b .tally .budget < k → searching solver job c most k n b ≡ a
+    searching-ok : (k n : ℕ) → most-turns c most ≤ n → (b : Start) → Opens (treeOf solver job most p) b → b .tally .budget < k → searching solver job c most k n b ≡ a
     unfolding searching
     searching-ok zero n l b o g = absurd (omega arith)
     searching-ok (suc k) n l b o g =
@@ -292,7 +262,3 @@ pub placed-lists : (solver : Solver) (j : Job) (c : Code) → Placed c (j .progr
     → searching solver (j .window) c (j .steps) k n (opening skip room budget) ≡ listed solver j skip room budget
 placed-lists solver j c h skip room budget k n g l =
     searching-ok (listed solver j skip room budget) solver (j .window) c (j .steps) (j .program) h k n l (opening skip room budget) (opens-start solver j skip room budget) g
-
-pub machine-lists : (solver : Solver) (j : Job) (skip room budget : ℕ) (k n : ℕ) → budget < k → most-turns (codeOf (j .program)) (j .steps) ≤ n
-    → searching solver (j .window) (codeOf (j .program)) (j .steps) k n (opening skip room budget) ≡ listed solver j skip room budget
-machine-lists solver j skip room budget k n g l = placed-lists solver j (codeOf (j .program)) (placed (j .program)) skip room budget k n g l

@@ -9,31 +9,31 @@ use lib.ListN.{getD, length, length-append, List·getD-eq-default, List·getD-ap
 use lib.Seq.{getD-at}
 use lib.IntN.{ℤ, pos}
 use Rattle.semantics.specs.Int as int
-use Rattle.semantics.specs.Int.{Op, Cmp, holds}
+use Rattle.semantics.specs.Int.{Op, holds}
 use Rattle.semantics.specs.Run.{Window}
 use Rattle.semantics.specs.Search as search
-use Rattle.semantics.specs.Search.{Value, known, open′, work, under, range, meets, to, all32, span, fitted, mirrored, clipped, narrowed, byRanges}
-use Rattle.simulation.specs.Nodes.{Cell, Known, Open, Node, unknown, operation, cell, node, pass, values, meaning, ranges, rangeIn, numbers, numberIn, Within, working, Noted, testOf, meetsIn, decidedIn, freeBy, freeIn, clippedBy, narrowedIn}
+use Rattle.semantics.specs.Search.{Value, known, open′, work, under, range, meets, to, all32, span, fitted}
+use Rattle.simulation.specs.Nodes.{Cell, Known, Open, Node, unknown, operation, cell, node, pass, values, meaning, ranges, rangeIn, numbers, numberIn, Within, working, Noted, testOf, meetsIn}
 
 -- ---- a pass
 
 module _ {A : Type 0} (num : ℤ → A) (free : ℕ → A) (op : Op → A → A → A) where
-  pub pass-append : (l : List A) (ms ns : List Node) → pass num free op l (ms ++ ns) ≡ pass num free op (pass num free op l ms) ns
+  pass-append : (l : List A) (ms ns : List Node) → pass num free op l (ms ++ ns) ≡ pass num free op (pass num free op l ms) ns
   unfolding pass
   pass-append l [] ns = refl
   pass-append l (m ∷ ms) ns = pass-append (l ++ node num free op l m ∷ []) ms ns
 
   -- the table with one more node: nothing is worked anew but the new one
-  pub pass-last : (ns : List Node) (n : Node) → pass num free op [] (ns ++ n ∷ []) ≡ pass num free op [] ns ++ node num free op (pass num free op [] ns) n ∷ []
+  pass-last : (ns : List Node) (n : Node) → pass num free op [] (ns ++ n ∷ []) ≡ pass num free op [] ns ++ node num free op (pass num free op [] ns) n ∷ []
   unfolding pass
   pass-last ns n = pass-append [] ns (n ∷ [])
 
-  pub length-pass : (l : List A) (ns : List Node) → length (pass num free op l ns) ≡ length l + length ns
+  length-pass : (l : List A) (ns : List Node) → length (pass num free op l ns) ≡ length l + length ns
   unfolding pass
   length-pass l [] = omega arith
   length-pass l (n ∷ ns) = length-pass (l ++ node num free op l n ∷ []) ns ∙ omega (arith, length-append l (node num free op l n ∷ []))
 
-  pub pass-kept : (l : List A) (ns : List Node) (j : ℕ) (d : A) → j < length l → getD (pass num free op l ns) j d ≡ getD l j d
+  pass-kept : (l : List A) (ns : List Node) (j : ℕ) (d : A) → j < length l → getD (pass num free op l ns) j d ≡ getD l j d
   unfolding pass
   pass-kept l [] j d h = refl
   pass-kept l (n ∷ ns) j d h = pass-kept (l ++ node num free op l n ∷ []) ns j d (omega (arith, length-append l (node num free op l n ∷ []))) ∙ List·getD-append l _ d j h
@@ -94,7 +94,7 @@ unfolding range
 range-op ws o a b = refl
 
 -- the table of ranges holds the range of each node's value
-pub ranges-ok : (ws : List Window) (ns : List Node) → ranges ws ns ≡ map (range ws) (values ns)
+ranges-ok : (ws : List Window) (ns : List Node) → ranges ws ns ≡ map (range ws) (values ns)
 unfolding ranges values
 ranges-ok ws ns = sym (pass-map _ _ _ (range ws) (range-num ws) (range-free ws) (range-op ws) [] ns)
 
@@ -135,7 +135,7 @@ unfolding under
 under-op s o a b = refl
 
 -- one pass says what each node is under a setting
-pub numbers-ok : (s : List ℤ) (ns : List Node) → numbers s ns ≡ map (under s) (values ns)
+numbers-ok : (s : List ℤ) (ns : List Node) → numbers s ns ≡ map (under s) (values ns)
 unfolding numbers values
 numbers-ok s ns = sym (pass-map _ _ _ (under s) (under-num s) (under-free s) (under-op s) [] ns)
 
@@ -225,37 +225,3 @@ unfolding working
 working-grows o (Known x) (Known y) ns = record { more = []; is = sym (append-nil ns); one = omega arith; within = tt }
 working-grows o (Known x) (Open j) ns = record { more = operation o (Known x) (Open j) ∷ []; is = refl; one = omega arith; within = omega (arith, length-append ns (operation o (Known x) (Open j) ∷ [])) }
 working-grows o (Open i) b ns = record { more = operation o (Open i) b ∷ []; is = refl; one = omega arith; within = omega (arith, length-append ns (operation o (Open i) b ∷ [])) }
-
--- ---- deciding and narrowing by the table are those of ranges
-
-pub decided-ok : (ws : List Window) (ns : List Node) (c : Cmp) (a b : Cell) → decidedIn (ranges ws ns) c a b ≡ byRanges .decide c (meaning ns a) (meaning ns b) ws
-unfolding decidedIn
-decided-ok ws ns c a b = ap₂ (search.decided c) (range-ok ws ns a) (range-ok ws ns b)
-
--- a cell that is just a free variable stands for it, and no other does
-abbrev clippedAt : Cmp → Window → List Window → Option Node → Value → Type 0
-clippedAt c r ws none v = clipped c v r ws ≡ ws
-clippedAt c r ws (some n) v = clipped c v r ws ≡ clippedBy c (freeBy n) r ws
-
-free-by : (c : Cmp) (r : Window) (ws : List Window) (l : List Value) (n : Node) → clippedAt c r ws (some n) (node known search.unknown open′ l n)
-unfolding clipped
-free-by c r ws l (unknown i) = refl
-free-by c r ws l (operation o a b) = refl
-
-free-there : (c : Cmp) (r : Window) (ws : List Window) (ns : List Node) (j : ℕ) (v : Value) → clippedAt c r ws (getD (map some ns) j none) v
-    → clipped c v r ws ≡ clippedBy c (freeBy (getD ns j (operation Op.add (Known (pos 0)) (Known (pos 0))))) r ws
-free-there c r ws [] j v e = e
-free-there c r ws (n ∷ ns) zero v e = e
-free-there c r ws (n ∷ ns) (suc j) v e = free-there c r ws ns j v e
-
-clipped-ok : (c : Cmp) (r : Window) (ws : List Window) (ns : List Node) (v : Cell) → clippedBy c (freeIn ns v) r ws ≡ clipped c (meaning ns v) r ws
-unfolding clipped meaning values
-clipped-ok c r ws ns (Known z) = refl
-clipped-ok c r ws ns (Open j) = sym (free-there c r ws ns j _
-    (subst (λ k. clippedAt c r ws (getD (map some ns) j none) (getD (values ns) k (known (pos 0)))) (omega arith) (pass-at known search.unknown open′ (clippedAt c r ws) (known (pos 0)) (free-by c r ws) refl [] ns j)))
-
-pub narrowed-ok : (ws : List Window) (ns : List Node) (c : Cmp) (a b : Cell) → narrowedIn ns (ranges ws ns) c a b ws ≡ narrowed c (meaning ns a) (meaning ns b) ws
-unfolding narrowedIn narrowed
-narrowed-ok ws ns c a b =
-    ap₂ (λ r us. clippedBy (mirrored c) (freeIn ns b) r us) (range-ok ws ns a) (ap (λ r. clippedBy c (freeIn ns a) r ws) (range-ok ws ns b) ∙ clipped-ok c (range ws (meaning ns b)) ws ns a)
-    ∙ clipped-ok (mirrored c) (range ws (meaning ns a)) (clipped c (meaning ns a) (range ws (meaning ns b)) ws) ns b

@@ -1,5 +1,5 @@
 -- The odometer goes through all settings in their order.
-use Prim.Native.Nat.{ℕ, suc, _+_, _-_}
+use Prim.Native.Nat.{ℕ, zero, suc, _+_, _-_}
 use mathlib.Core.Path.{_≡_, refl, ap, _∙_}
 use mathlib.Core.Bool.{Bool, true, false, not, _&&_}
 use mathlib.Core.Option.{Option, none, some}
@@ -12,6 +12,7 @@ use lib.Signed.{ltZ, leZ}
 use Rattle.semantics.specs.Run.{Window, counting, clamp, numbers, each}
 use Rattle.semantics.specs.Search.{settings, to}
 use Rattle.semantics.proofs.Order.{up, down, _≼_, _≺_, leZ→, →leZ, ltZ→, nltZ→, nleZ→, of-minus, of-suc}
+use Rattle.semantics.proofs.Filled.{AllFilled}
 use Rattle.simulation.specs.Odometer.{filled, lowest, carried, after}
 
 -- ---- the numbers of a window
@@ -71,6 +72,16 @@ and-right : (a b : Bool) → T (a && b) → T b
 and-right true b t = t
 and-right false b t = absurd t
 
+and-both : (a b : Bool) → T a → T b → T (a && b)
+and-both true b t u = u
+and-both false b t u = absurd t
+
+-- windows of which none is empty, as the odometer asks for them
+pub filled-of : (ws : List Window) → AllFilled ws → T (filled ws)
+unfolding filled
+filled-of [] h = tt
+filled-of (w ∷ ws) h = and-both (leZ (w .low) (w .high)) (filled ws) (→leZ (w .low) (w .high) (h zero)) (filled-of ws (λ i. h (suc i)))
+
 -- where a window is empty there is no setting
 each-none : (ws : List Window) (xs : List ℤ) → settings ws ≡ [] → each (λ v. map (λ s. v ∷ s) (settings ws)) xs ≡ []
 unfolding each
@@ -123,11 +134,7 @@ unfolding filled
 lies-filled [] [] h = tt
 lies-filled [] (v ∷ s) h = absurd h
 lies-filled (w ∷ ws) [] h = absurd h
-lies-filled (w ∷ ws) (v ∷ s) h = both (leZ (w .low) (w .high)) (filled ws) (→leZ (w .low) (w .high) (omega (arith, leZ→ (w .low) v (h .0), leZ→ v (w .high) (h .1)))) (lies-filled ws s (h .2))
-  where
-    both : (a b : Bool) → T a → T b → T (a && b)
-    both true b t u = u
-    both false b t u = absurd t
+lies-filled (w ∷ ws) (v ∷ s) h = and-both (leZ (w .low) (w .high)) (filled ws) (→leZ (w .low) (w .high) (omega (arith, leZ→ (w .low) v (h .0), leZ→ v (w .high) (h .1)))) (lies-filled ws s (h .2))
 
 -- from each setting on: that one, and then those from the next one on
 pub from-next : (ws : List Window) (s : List ℤ) → Lies ws s → from ws s ≡ s ∷ onward ws (after ws s)

@@ -1,15 +1,12 @@
 -- The parts of a program stand in its code as `Placed` says.
 use Prim.Native.Nat.{ℕ, zero, suc, _+_, _-_}
 use mathlib.Core.Path.{_≡_, refl, subst}
-use mathlib.Core.Bool.{Bool, true, false}
 use mathlib.Core.List.{List, [], _∷_, _++_, append-assoc}
 use native.Mathlib.Omega.{arith}
 use lib.ListN.{length, getD, length-append}
 use lib.Seq.{getD-at}
-use lib.IntN.{ℤ}
-use Rattle.semantics.specs.Int.{Op, Cmp}
-use Rattle.semantics.specs.Program.{Address, Expr, Exprs, Cond, Stmt, Stmts, Program}
-use Rattle.simulation.specs.Code.{Leaf, Act, Entry, leaf, argument, act, Code, count, codeE, codeEs, codeC, codeS, codeSs, codeB, entriesOf, startsOf, codeOf}
+use Rattle.semantics.specs.Program.{Expr, Exprs, Cond, Stmt, Stmts, Program}
+use Rattle.simulation.specs.Code.{Act, Entry, act, codeE, codeEs, codeC, codeS, codeSs, codeB, entriesOf, startsOf, codeOf}
 use Rattle.simulation.specs.Placed.{at, InE, InEs, InC, InS, InSs, InB, Placed}
 
 module _ (l : List Entry) where

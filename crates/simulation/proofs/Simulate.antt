@@ -45,7 +45,7 @@ module _ {X : Type 0} (num : ℤ → X) (work : Op → X → X → X) (c : Code)
     makes-fewer cut k h = cut
 
   -- what the entry at i makes, where it is known
-  by : {n i : ℕ} {b : Bool} {ts f : List X} {cs : List (Caller X)} {d : ℕ} {t : Does X} (x : Entry) → entryAt num work c i ≡ x → Makes n (working num work c i b ts f cs d x) t → Runs n (machine i b ts f cs d) t
+  by : {n i : ℕ} {b : Bool} {ts f : List X} {cs : List (Caller X)} {d : ℕ} {t : Does X} (x : Entry) → entryAt c i ≡ x → Makes n (working num work c i b ts f cs d x) t → Runs n (machine i b ts f cs d) t
   unfolding advance
   by {n} {i} {b} {ts} {f} {cs} {d} {t} x e r = runs (subst (λ y. Makes n (working num work c i b ts f cs d y) t) (sym e) r)
 
@@ -58,7 +58,7 @@ module _ {X : Type 0} (num : ℤ → X) (work : Op → X → X → X) (c : Code)
   record Takes (f ts₁ : List X) (j : ℕ) (v : X) (ts : List X) : Type 0 where
     takes : taken num work c f ts₁ j ≡ record { value = v; rest = ts }
 
-  takes-at : {f ts₁ : List X} {i : ℕ} (x : Entry) → entryAt num work c i ≡ x → Takes f ts₁ (suc i) (reading num work c f ts₁ x .value) (reading num work c f ts₁ x .rest)
+  takes-at : {f ts₁ : List X} {i : ℕ} (x : Entry) → entryAt c i ≡ x → Takes f ts₁ (suc i) (reading num work c f ts₁ x .value) (reading num work c f ts₁ x .rest)
   takes-at {f} {ts₁} x e = record { takes = ap (reading num work c f ts₁) e }
 
   two-ok : {f ts₂ ts₁ ts : List X} {v w : X} {j m : ℕ} (d : ℕ) → Takes f ts₂ j w ts₁ → j - d ≡ m → Takes f ts₁ m v ts → two num work c f ts₂ j d ≡ record { first = v; second = w; rest = ts }
@@ -74,7 +74,7 @@ module _ {X : Type 0} (num : ℤ → X) (work : Op → X → X → X) (c : Code)
   unfolding count
   gathers-none = record { gathers = λ n us. refl }
 
-  gathers-more : {e : Expr} {es : Exprs} {f ts₂ ts₁ ts vs : List X} {v : X} {i j m d : ℕ} → entryAt num work c m ≡ argument d → m - d ≡ i → Takes f ts₁ m v ts
+  gathers-more : {e : Expr} {es : Exprs} {f ts₂ ts₁ ts vs : List X} {v : X} {i j m d : ℕ} → entryAt c m ≡ argument d → m - d ≡ i → Takes f ts₁ m v ts
       → Gathers es f ts₂ (suc m) j vs ts₁ → Gathers (Exprs.more e es) f ts₂ i j (v ∷ vs) ts
   unfolding gather count
   gathers-more {e} {es} {f} {ts₂} {ts₁} {ts} {vs} {v} {i} {j} {m} {d} p q r h =
@@ -142,7 +142,7 @@ module _ {X : Type 0} (num : ℤ → X) (work : Op → X → X → X) (c : Code)
     Leaves n cs r = (v : X) (b : Bool) → Makes n (leaving num work c cs v b d) (r v)
 
     -- a while has more turns left than the steps that count
-    loop-runs : (j : ℕ) {top bottom e : ℕ} → entryAt num work c bottom ≡ act (Act.again e) → bottom - e ≡ top → (cs : List (Caller X)) (turn : List X → (List X → Does X) → Does X) (n : ℕ) → n < j
+    loop-runs : (j : ℕ) {top bottom e : ℕ} → entryAt c bottom ≡ act (Act.again e) → bottom - e ≡ top → (cs : List (Caller X)) (turn : List X → (List X → Does X) → Does X) (n : ℕ) → n < j
         → ((i : ℕ) → i ≤ n → (f ts : List X) (b : Bool) (a : List X → Does X) → Follows i bottom cs a → Runs i (machine top b ts f cs d) (turn f a))
         → (f ts : List X) (b : Bool) → Runs n (machine top b ts f cs d) (loop num work call j turn f)
     unfolding loop

@@ -39,7 +39,7 @@ unfolding charge
 less-at zero s r rs n h = tt
 less-at (suc b) s r rs n h = le-refl _
 
-pub charge-less : (t : Tally) → Less (t .budget) (charge t)
+charge-less : (t : Tally) → Less (t .budget) (charge t)
 charge-less t = less-at (t .budget) (t .skip) (t .room) (t .rows) (t .moves) (t .cut)
 
 less-left : (n : ℕ) (x : Next Tally) → Less n x → Left n x
@@ -82,13 +82,13 @@ probes-left ts (s ∷ ss) t = by (t .cut) (λ u. probes-left ts ss u)
     by true g = le-refl _
     by false g = left-then _ _ (probe ts s t) (probes ts ss) (le-refl _) (probe-left ts s t) g
 
-pub finish-left : (e : End) (s : State) (t : Tally) → Left (t .budget) (finish e s t)
+finish-left : (e : End) (s : State) (t : Tally) → Left (t .budget) (finish e s t)
 unfolding finish
 finish-left (returned v) s t = trials-left v (s .tests) (settings (s .windows)) t
 finish-left failed s t = le-refl _
 finish-left cut s t = probes-left (s .tests) (settings (s .windows)) t
 
-pub back-fewer : (h : List Bool) (t : Tally) → Fewer (t .budget) (back h t)
+back-fewer : (h : List Bool) (t : Tally) → Fewer (t .budget) (back h t)
 unfolding back
 back-fewer h t = by (next h)
   where

@@ -29,7 +29,7 @@ entry-in ws i (suc n) zero h = ap (λ k. entryOf (getD ws k 0) (getD ws (suc k) 
 entry-in ws i (suc n) (suc j) h = entry-in ws (suc (suc i)) n j (le-of-suc-le-suc h) ∙ ap (λ k. entryOf (getD ws k 0) (getD ws (suc k) 0)) (omega arith)
 
 -- an entry is read back from its words
-pub read-back : (x : Entry) → Plain x → entryOf (kindOf x) (wordOf x) ≡ x
+read-back : (x : Entry) → Plain x → entryOf (kindOf x) (wordOf x) ≡ x
 unfolding entryOf kindOf wordOf
 read-back (leaf (number z)) h = ap (λ y. leaf (number y)) h
 read-back (leaf (name (slot i))) h = ap (λ k. leaf (name (slot k))) (omega arith)
@@ -77,10 +77,6 @@ words-at (x ∷ xs) h ws before rest i e n =
     (ap (λ l. getD l (suc i) 0) (e ∙ sym (append-assoc before (kindOf x ∷ []) (wordOf x ∷ (wordsOf xs ++ rest)))) ∙ getD-at (before ++ kindOf x ∷ []) (wordOf x) (wordsOf xs ++ rest) 0 (suc i) (omega (arith, length-append before (kindOf x ∷ []))))
     ∙ read-back x (h .0))
     (words-at xs (h .1) ws (before ++ kindOf x ∷ wordOf x ∷ []) rest (suc (suc i)) (e ∙ sym (append-assoc before (kindOf x ∷ wordOf x ∷ []) (wordsOf xs ++ rest))) (omega (arith, length-append before (kindOf x ∷ wordOf x ∷ []))))
-
--- entries are read back from their words, wherever they stand
-pub words-back : (l : List Entry) → AllPlain l → (before rest : List ℕ) → entriesIn (before ++ (wordsOf l ++ rest)) (length before) (length l) ≡ l
-words-back l h before rest = words-at l h _ before rest (length before) refl refl
 
 -- ---- a program that fits has such entries
 
@@ -132,7 +128,7 @@ unfolding entriesOf codeB
 plain-bs [] h = tt
 plain-bs (b ∷ bs) h = plain-append (codeB b) _ (plain-append (codeSs b) _ (plain-ss b (h .0)) (tt, tt)) (plain-bs bs (h .1))
 
-pub plain-code : (p : Program) → Fits p → AllPlain (codeOf p .entries)
+plain-code : (p : Program) → Fits p → AllPlain (codeOf p .entries)
 unfolding codeOf
 plain-code p h = (h .main, (tt, (tt, plain-bs (p .bodies) (h .bodies))))
 
@@ -155,7 +151,7 @@ frame-getD d (suc n) (v ∷ vs) h zero = refl
 frame-getD d (suc n) (v ∷ vs) h (suc i) = frame-getD d n vs (le-of-suc-le-suc h) i
 
 -- the words of a code, and whatever follows them, are that code
-pub code-back : (c : Code) → AllPlain (c .entries) → (rest : List ℕ) → codeIn (wordsIn c ++ rest) (length (c .entries)) ≡ record { entries = c .entries; starts = frame 2 16 (c .starts) }
+code-back : (c : Code) → AllPlain (c .entries) → (rest : List ℕ) → codeIn (wordsIn c ++ rest) (length (c .entries)) ≡ record { entries = c .entries; starts = frame 2 16 (c .starts) }
 unfolding wordsIn
 code-back c h rest = λ i. record { entries = entries i; starts = starts i }
   where

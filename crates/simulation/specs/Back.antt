@@ -1,15 +1,17 @@
--- What it means that a choice is taken back: "What stands when a choice is taken back is what these rules give, worked from the start of main up to that choice, with the outcomes of the choices before it: the same variables, windows and tests."
+-- What it means that a choice is taken back, in a search that goes path after path on a code: "What stands when a choice is taken back is what these rules give, worked from the start of main up to that choice, with the outcomes of the choices before it: the same variables, windows and tests."
 use Prim.Native.Nat.{ℕ, suc}
 use mathlib.Core.Path.{_≡_}
 use mathlib.Core.Bool.{Bool, true, false}
-use mathlib.Core.Option.{none}
+use mathlib.Core.Option.{none, some}
 use mathlib.Core.List.{List, [], _∷_, _++_, map}
 use Rattle.semantics.specs.Int.{Cmp}
 use Rattle.semantics.specs.Run.{Window}
 use Rattle.semantics.specs.Search.{Value, known, work, Solver, Test}
 use Rattle.simulation.specs.Code.{Code}
 use Rattle.simulation.specs.Machine.{Machine, Doing, advance, start}
-use Rattle.simulation.specs.Path.{State, begins, outcome, on, turn}
+use Rattle.semantics.specs.Demand.{_∈_}
+use Rattle.simulation.specs.Path.{State, begins, End, on, ended, turn}
+use Rattle.simulation.specs.Lister.{next}
 
 -- what stands at a point of a path
 pub record Standing : Type 0 where
@@ -52,18 +54,28 @@ module _ (solver : Solver) (job : Window) (c : Code) where
     pub within : s .steps ≡ suc steps
     pub undecided : solver .decide compare left right (s .windows) ≡ none
 
-  -- The path with the forced outcomes p made a choice true, at `machine` and `state`, and the path with the forced outcomes q takes it back:
-  -- from the start of main it comes to the choice again, where it has only to go false, and what stands there is what stood when the choice was made.
-  pub record TakenBack (most : ℕ) (p q : List Bool) : Type 0 where
-    pub machine : Machine Value
-    pub state : State
-    pub made : Passes (start known work c) (begins most p) machine state
-    pub choice : ChoiceAt machine state
-    pub went : outcome (state .forced) ≡ true
-    -- the outcomes before it stay, and it goes false
-    pub place : q ≡ state .chosen ++ false ∷ []
-    pub machine₂ : Machine Value
-    pub state₂ : State
-    pub again : Passes (start known work c) (begins most q) machine₂ state₂
-    pub goes : state₂ .forced ≡ false ∷ []
-    pub same : standing machine₂ state₂ ≡ standing machine state
+  module _ (most : ℕ) where
+    -- The paths of a search: q are the forced outcomes of one, and `earlier` those of the paths before it, the newest first. The first path has none; when a path has ended, "the newest choice is taken back and goes false" for the next.
+    pub data Searched : (earlier : List (List Bool)) (q : List Bool) → Type 0 where
+      opens : Searched [] []
+      follows : {earlier : List (List Bool)} {p q : List Bool} {m : Machine Value} {s s₂ : State} {e : End} → Searched earlier p → Passes (start known work c) (begins most p) m s
+          → turn solver job c m s .went ≡ ended e s₂ → next (s₂ .chosen) ≡ some q → Searched (p ∷ earlier) q
+
+    -- The choice that the path with the forced outcomes q takes back was made on one of the earlier paths, at `machine` and `state`; and what stands where it is taken back is what stood when it was made.
+    pub record TakenBack (earlier : List (List Bool)) (q : List Bool) : Type 0 where
+      pub path : List Bool
+      pub before : path ∈ earlier
+      pub machine : Machine Value
+      pub state : State
+      pub made : Passes (start known work c) (begins most path) machine state
+      pub choice : ChoiceAt machine state
+      -- no outcome was forced any more, so that it was made there and not worked again
+      pub new : state .forced ≡ []
+      -- the outcomes before it stay, and it goes false
+      pub place : q ≡ state .chosen ++ false ∷ []
+      -- from the start of main the path comes to the choice again, where it has only to go false
+      pub machine₂ : Machine Value
+      pub state₂ : State
+      pub again : Passes (start known work c) (begins most q) machine₂ state₂
+      pub goes : state₂ .forced ≡ false ∷ []
+      pub same : standing machine₂ state₂ ≡ standing machine state

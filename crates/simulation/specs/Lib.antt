@@ -1,4 +1,5 @@
--- Flat code, the machine that works it, a path of the search, the search as the machine makes it, and what it means to take a choice back.
+-- Flat code and where a program's parts stand in it, the machine that works it, a path of the search, the search as the machine makes it, and what it means to take a choice back.
+-- Then how memory holds this: open values as nodes of one table, the settings one after another, and code as words.
 pub mod Code
 pub mod Placed
 pub mod Machine
@@ -8,4 +9,3 @@ pub mod Back
 pub mod Nodes
 pub mod Odometer
 pub mod Words
-pub mod Cells

@@ -76,11 +76,11 @@ landing true false d i = i
 landing false true d i = i
 landing false false d i = i + d
 
-module _ {X : Type 0} (num : ℤ → X) (work : Op → X → X → X) (c : Code) where
-  -- beside the code the run fails
-  abbrev pub entryAt : ℕ → Entry
-  entryAt i = getD (c .entries) i (act Act.fail)
+-- the entry at i; beside the code the run fails
+abbrev pub entryAt : Code → ℕ → Entry
+entryAt c i = getD (c .entries) i (act Act.fail)
 
+module _ {X : Type 0} (num : ℤ → X) (work : Op → X → X → X) (c : Code) where
   -- the newest temporary
   abbrev pub popped : List X → Taken X
   popped [] = record { value = num (pos 0); rest = [] }
@@ -96,7 +96,7 @@ module _ {X : Type 0} (num : ℤ → X) (work : Op → X → X → X) (c : Code)
   -- the operand that ends just before entry j
   abbrev pub taken : List X → List X → ℕ → Taken X
   taken f ts zero = popped ts
-  taken f ts (suc r) = reading f ts (entryAt r)
+  taken f ts (suc r) = reading f ts (entryAt c r)
 
   -- two operands, the right one of which ends just before entry j and has d entries
   abbrev pub two : List X → List X → ℕ → ℕ → Two X
@@ -105,7 +105,7 @@ module _ {X : Type 0} (num : ℤ → X) (work : Op → X → X → X) (c : Code)
   -- n arguments, the last of which ends just before entry j, in front of the arguments vs
   unfoldable pub gather : List X → List X → ℕ → ℕ → List X → Gathered X
   gather f ts zero j vs = record { values = vs; rest = ts }
-  gather f ts (suc n) j vs = let r = taken f ts (before j) in gather f (r .rest) n (before j - extent (entryAt (before j))) (r .value ∷ vs)
+  gather f ts (suc n) j vs = let r = taken f ts (before j) in gather f (r .rest) n (before j - extent (entryAt c (before j))) (r .value ∷ vs)
 
   -- a call entered, which is cut where no more calls may nest
   abbrev pub entering : ℕ → ℕ → Gathered X → ℕ → Bool → List X → List (Caller X) → Doing X
@@ -140,7 +140,7 @@ module _ {X : Type 0} (num : ℤ → X) (work : Op → X → X → X) (c : Code)
 
   -- one entry worked
   unfoldable pub advance : Machine X → Doing X
-  advance m = working (m .pc) (m .flag) (m .temps) (m .frame) (m .callers) (m .left) (entryAt (m .pc))
+  advance m = working (m .pc) (m .flag) (m .temps) (m .frame) (m .callers) (m .left) (entryAt c (m .pc))
 
   -- where a run starts
   abbrev pub start : Machine X

@@ -1,14 +1,13 @@
 -- Open values as nodes of one table: each operation on an open value is written once, at the table's end, and whoever holds the value holds its place. So nothing is copied, and whatever is worked for all nodes costs one pass over the table, however often a node is used.
 use Prim.Native.Nat.{ℕ, _<_}
-use mathlib.Core.Bool.{Bool, true, cond, _&&_}
-use mathlib.Core.Option.{Option, none, some}
+use mathlib.Core.Bool.{Bool, true, _&&_}
 use mathlib.Core.List.{List, [], _∷_, _++_}
-use lib.ListN.{getD, set, length}
+use lib.ListN.{getD, length}
 use lib.IntN.{ℤ, pos}
-use Rattle.semantics.specs.Int.{Op, Cmp, arith, eqZ, holds}
+use Rattle.semantics.specs.Int.{Op, Cmp, arith, holds}
 use Rattle.semantics.specs.Run.{Window}
 use Rattle.semantics.specs.Search as search
-use Rattle.semantics.specs.Search.{Value, known, open′, Test, asTest, to, all32, span, fitted, decided, clip, mirrored}
+use Rattle.semantics.specs.Search.{Value, known, open′, Test, asTest, to, all32, span, fitted}
 
 -- "A value is known, or open with the expression it stands for": as it is held, a number or the place of a node
 pub data Cell : Type 0 where
@@ -83,7 +82,7 @@ working o (Known a) (Known b) ns = record { cell = Known (arith o a b); nodes = 
 working o (Known a) (Open j) ns = adding (operation o (Known a) (Open j)) ns
 working o (Open i) b ns = adding (operation o (Open i) b) ns
 
--- ---- tests, deciding and narrowing by the table
+-- ---- tests by the table
 
 -- a test made, on cells
 pub record Noted : Type 0 where
@@ -98,24 +97,3 @@ testOf ns t = asTest (t .compare) (meaning ns (t .left)) (meaning ns (t .right))
 unfoldable pub meetsIn : List ℤ → List Noted → Bool
 meetsIn zs [] = true
 meetsIn zs (t ∷ ts) = holds (t .compare) (numberIn zs (t .left)) (numberIn zs (t .right)) && meetsIn zs ts
-
--- a comparison decided from the nodes' ranges
-unfoldable pub decidedIn : List Window → Cmp → Cell → Cell → Option Bool
-decidedIn rs c a b = decided c (rangeIn rs a) (rangeIn rs b)
-
--- the free variable that a cell just is, if it is one
-abbrev pub freeBy : Node → Option ℕ
-freeBy (unknown i) = some i
-freeBy (operation o a b) = none
-
-abbrev pub freeIn : List Node → Cell → Option ℕ
-freeIn ns (Known z) = none
-freeIn ns (Open j) = freeBy (getD ns j (operation Op.add (Known (pos 0)) (Known (pos 0))))
-
--- the windows where a cell compares so with a number of the range r
-abbrev pub clippedBy : Cmp → Option ℕ → Window → List Window → List Window
-clippedBy c none r ws = ws
-clippedBy c (some i) r ws = cond (eqZ (r .low) (r .high)) (set ws i (clip c (r .low) (getD ws i all32))) ws
-
-unfoldable pub narrowedIn : List Node → List Window → Cmp → Cell → Cell → List Window → List Window
-narrowedIn ns rs c a b ws = clippedBy (mirrored c) (freeIn ns b) (rangeIn rs a) (clippedBy c (freeIn ns a) (rangeIn rs b) ws)

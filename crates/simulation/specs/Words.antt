@@ -11,9 +11,78 @@ use Rattle.semantics.specs.Program.{Address, slot, Expr, Exprs, Cond, Stmt, Stm
 use Rattle.semantics.specs.Does.{frame}
 use Rattle.simulation.specs.Code.{number, name, operate, compare, call, constant, jump, skip, again, begin, clear, ask, store, return, fail, Entry, leaf, argument, act, Code}
 
+-- ---- the kinds of entries; a comparison has the kind `cCompare` and its number, 0 to 5
+
+abbrev pub cFail : ℕ
+cFail = 0
+
+abbrev pub cNumber : ℕ
+cNumber = 1
+
+abbrev pub cName : ℕ
+cName = 2
+
+abbrev pub cArgument : ℕ
+cArgument = 3
+
+abbrev pub cAdd : ℕ
+cAdd = 4
+
+abbrev pub cSub : ℕ
+cSub = 5
+
+abbrev pub cMul : ℕ
+cMul = 6
+
+abbrev pub cCompare : ℕ
+cCompare = 7
+
+abbrev pub cCall : ℕ
+cCall = 13
+
+abbrev pub cNever : ℕ
+cNever = 14
+
+abbrev pub cAlways : ℕ
+cAlways = 15
+
+abbrev pub cJump : ℕ
+cJump = 16
+
+abbrev pub cJumpTrue : ℕ
+cJumpTrue = 17
+
+abbrev pub cSkip : ℕ
+cSkip = 18
+
+abbrev pub cAgain : ℕ
+cAgain = 19
+
+abbrev pub cBegin : ℕ
+cBegin = 20
+
+abbrev pub cClear : ℕ
+cClear = 21
+
+abbrev pub cAsk : ℕ
+cAsk = 22
+
+abbrev pub cStore : ℕ
+cStore = 23
+
+abbrev pub cReturn : ℕ
+cReturn = 24
+
+-- the words of an entry: its kind, then its number
+abbrev pub entryWords : ℕ
+entryWords = 2
+
+abbrev pub entryNumber : ℕ
+entryNumber = 1
+
 -- ---- how words are read
 
--- what each kind means with the number w, from kind 0 on
+-- what each kind means with the number w, from kind 0 on, in the order above
 abbrev pub kinds : ℕ → List Entry
 kinds w = act fail
     ∷ leaf (number (toZ w32 w)) ∷ leaf (name (slot (w % 16))) ∷ argument w
@@ -34,37 +103,37 @@ entriesIn ws i (suc n) = entryOf (getD ws i 0) (getD ws (suc i) 0) ∷ entriesIn
 
 -- the code in these words, which has n entries
 abbrev pub codeIn : List ℕ → ℕ → Code
-codeIn ws n = record { entries = entriesIn ws 0 n; starts = take 16 (drop (2 * n) ws) }
+codeIn ws n = record { entries = entriesIn ws 0 n; starts = take 16 (drop (entryWords * n) ws) }
 
 -- ---- how words are written
 
 -- the kind of an entry
 unfoldable pub kindOf : Entry → ℕ
-kindOf (leaf (number z)) = 1
-kindOf (leaf (name a)) = 2
-kindOf (argument d) = 3
-kindOf (act (operate add d)) = 4
-kindOf (act (operate sub d)) = 5
-kindOf (act (operate mul d)) = 6
-kindOf (act (compare lt d)) = 7
-kindOf (act (compare le d)) = 8
-kindOf (act (compare gt d)) = 9
-kindOf (act (compare ge d)) = 10
-kindOf (act (compare eq d)) = 11
-kindOf (act (compare ne d)) = 12
-kindOf (act (call g n)) = 13
-kindOf (act (constant false)) = 14
-kindOf (act (constant true)) = 15
-kindOf (act (jump false d)) = 16
-kindOf (act (jump true d)) = 17
-kindOf (act (skip d)) = 18
-kindOf (act (again d)) = 19
-kindOf (act begin) = 20
-kindOf (act (clear a)) = 21
-kindOf (act (ask a)) = 22
-kindOf (act (store a)) = 23
-kindOf (act return) = 24
-kindOf (act fail) = 0
+kindOf (leaf (number z)) = cNumber
+kindOf (leaf (name a)) = cName
+kindOf (argument d) = cArgument
+kindOf (act (operate add d)) = cAdd
+kindOf (act (operate sub d)) = cSub
+kindOf (act (operate mul d)) = cMul
+kindOf (act (compare lt d)) = cCompare
+kindOf (act (compare le d)) = cCompare + 1
+kindOf (act (compare gt d)) = cCompare + 2
+kindOf (act (compare ge d)) = cCompare + 3
+kindOf (act (compare eq d)) = cCompare + 4
+kindOf (act (compare ne d)) = cCompare + 5
+kindOf (act (call g n)) = cCall
+kindOf (act (constant false)) = cNever
+kindOf (act (constant true)) = cAlways
+kindOf (act (jump false d)) = cJump
+kindOf (act (jump true d)) = cJumpTrue
+kindOf (act (skip d)) = cSkip
+kindOf (act (again d)) = cAgain
+kindOf (act begin) = cBegin
+kindOf (act (clear a)) = cClear
+kindOf (act (ask a)) = cAsk
+kindOf (act (store a)) = cStore
+kindOf (act return) = cReturn
+kindOf (act fail) = cFail
 
 abbrev pub placeOf : Address → ℕ
 placeOf (slot i) = i

@@ -1,18 +1,17 @@
 -- What a written row leaves: its own node, and every other node.
-use Prim.Native.Nat.{ℕ, suc, _+_, _*_, _≤_, _<_}
-use mathlib.Core.Path.{_≡_, refl, sym, ap, _∙_, subst}
+use Prim.Native.Nat.{ℕ, _+_, _*_, _≤_, _<_}
+use mathlib.Core.Path.{_≡_, refl, _∙_}
 use mathlib.Core.List.{List}
 use mathlib.Core.Logic.{_⊎_, inl, inr}
 use native.Mathlib.Omega.{arith}
 use lib.ListN.{length, getD, set, length-set}
 use lib.Seq.{getD-set-same, getD-set-other}
-use Rattle.syntax.specs.Ast as A
 use Rattle.syntax.specs.Ast.{Sort, Ast}
-use Rattle.syntax.specs.Table.{row, Row, At, Holds, at-number, at-negative, at-name, at-call, at-bracket, at-times, at-plus, at-minus, at-no-args, at-more-args, at-always, at-never, at-compare, at-both, at-either, at-empty, at-declare, at-declare-free, at-assign, at-eval, at-block, at-if-else, at-while, at-return, at-fail, at-no-stmts, at-more-stmts, at-braced, at-no-params, at-more-params, at-function, at-no-funs, at-more-funs}
+use Rattle.syntax.specs.Table.{nodeFirst, nodeSecond, nodeThird, nodeToken, nodeWords, row, Row, At, at-number, at-negative, at-name, at-call, at-bracket, at-times, at-plus, at-minus, at-no-args, at-more-args, at-always, at-never, at-compare, at-both, at-either, at-empty, at-declare, at-declare-free, at-assign, at-eval, at-block, at-if-else, at-while, at-return, at-fail, at-no-stmts, at-more-stmts, at-braced, at-no-params, at-more-params, at-function, at-no-funs, at-more-funs}
 
 -- l and m have the same nodes below n
 pub record Same (n : ℕ) (l m : List ℕ) : Type 0 where
-  pub same : (j : ℕ) → j < 5 * n → getD m j 0 ≡ getD l j 0
+  pub same : (j : ℕ) → j < nodeWords * n → getD m j 0 ≡ getD l j 0
 
 pub same-refl : (n : ℕ) (l : List ℕ) → Same n l l
 same-refl n l = record { same = λ j h. refl }
@@ -25,11 +24,11 @@ same-less h p = record { same = λ j i. p .same j (omega arith) }
 
 pub kept-row : {n i k t a b c : ℕ} {l m : List ℕ} → i < n → Same n l m → Row l i k t a b c → Row m i k t a b c
 kept-row {n} {i} h s r = record {
-  kind = s .same (5 * i) (omega arith) ∙ r .kind;
-  token = s .same (5 * i + 1) (omega arith) ∙ r .token;
-  first = s .same (5 * i + 2) (omega arith) ∙ r .first;
-  second = s .same (5 * i + 3) (omega arith) ∙ r .second;
-  third = s .same (5 * i + 4) (omega arith) ∙ r .third;
+  kind = s .same (nodeWords * i) (omega arith) ∙ r .kind;
+  token = s .same (nodeWords * i + nodeToken) (omega arith) ∙ r .token;
+  first = s .same (nodeWords * i + nodeFirst) (omega arith) ∙ r .first;
+  second = s .same (nodeWords * i + nodeSecond) (omega arith) ∙ r .second;
+  third = s .same (nodeWords * i + nodeThird) (omega arith) ∙ r .third;
 }
 
 -- a tree below n stands in both
@@ -75,34 +74,34 @@ module _ (l : List ℕ) (i k t a b c : ℕ) where
   length-row = simp length-set
 
   abbrev l₁ : List ℕ
-  l₁ = set l (5 * i) k
+  l₁ = set l (nodeWords * i) k
 
   abbrev l₂ : List ℕ
-  l₂ = set l₁ (5 * i + 1) t
+  l₂ = set l₁ (nodeWords * i + nodeToken) t
 
   abbrev l₃ : List ℕ
-  l₃ = set l₂ (5 * i + 2) a
+  l₃ = set l₂ (nodeWords * i + nodeFirst) a
 
   abbrev l₄ : List ℕ
-  l₄ = set l₃ (5 * i + 3) b
+  l₄ = set l₃ (nodeWords * i + nodeSecond) b
 
-  at₄ : (j : ℕ) → (j ≡ 5 * i + 4 → ⊥) → getD (row l i k t a b c) j 0 ≡ getD l₄ j 0
-  at₄ j h = getD-set-other l₄ (5 * i + 4) j c 0 h
+  at₄ : (j : ℕ) → (j ≡ nodeWords * i + nodeThird → ⊥) → getD (row l i k t a b c) j 0 ≡ getD l₄ j 0
+  at₄ j h = getD-set-other l₄ (nodeWords * i + nodeThird) j c 0 h
 
-  at₃ : (j : ℕ) → (j ≡ 5 * i + 3 → ⊥) → getD l₄ j 0 ≡ getD l₃ j 0
-  at₃ j h = getD-set-other l₃ (5 * i + 3) j b 0 h
+  at₃ : (j : ℕ) → (j ≡ nodeWords * i + nodeSecond → ⊥) → getD l₄ j 0 ≡ getD l₃ j 0
+  at₃ j h = getD-set-other l₃ (nodeWords * i + nodeSecond) j b 0 h
 
-  at₂ : (j : ℕ) → (j ≡ 5 * i + 2 → ⊥) → getD l₃ j 0 ≡ getD l₂ j 0
-  at₂ j h = getD-set-other l₂ (5 * i + 2) j a 0 h
+  at₂ : (j : ℕ) → (j ≡ nodeWords * i + nodeFirst → ⊥) → getD l₃ j 0 ≡ getD l₂ j 0
+  at₂ j h = getD-set-other l₂ (nodeWords * i + nodeFirst) j a 0 h
 
-  at₁ : (j : ℕ) → (j ≡ 5 * i + 1 → ⊥) → getD l₂ j 0 ≡ getD l₁ j 0
-  at₁ j h = getD-set-other l₁ (5 * i + 1) j t 0 h
+  at₁ : (j : ℕ) → (j ≡ nodeWords * i + nodeToken → ⊥) → getD l₂ j 0 ≡ getD l₁ j 0
+  at₁ j h = getD-set-other l₁ (nodeWords * i + nodeToken) j t 0 h
 
-  at₀ : (j : ℕ) → (j ≡ 5 * i → ⊥) → getD l₁ j 0 ≡ getD l j 0
-  at₀ j h = getD-set-other l (5 * i) j k 0 h
+  at₀ : (j : ℕ) → (j ≡ nodeWords * i → ⊥) → getD l₁ j 0 ≡ getD l j 0
+  at₀ j h = getD-set-other l (nodeWords * i) j k 0 h
 
   -- the words of other nodes are kept
-  pub row-other : (j : ℕ) → (j < 5 * i) ⊎ (5 * i + 5 ≤ j) → getD (row l i k t a b c) j 0 ≡ getD l j 0
+  pub row-other : (j : ℕ) → (j < nodeWords * i) ⊎ (nodeWords * i + nodeWords ≤ j) → getD (row l i k t a b c) j 0 ≡ getD l j 0
   row-other j (inl h) = at₄ j (λ e. omega arith) ∙ at₃ j (λ e. omega arith) ∙ at₂ j (λ e. omega arith) ∙ at₁ j (λ e. omega arith) ∙ at₀ j (λ e. omega arith)
   row-other j (inr h) = at₄ j (λ e. omega arith) ∙ at₃ j (λ e. omega arith) ∙ at₂ j (λ e. omega arith) ∙ at₁ j (λ e. omega arith) ∙ at₀ j (λ e. omega arith)
 
@@ -110,16 +109,16 @@ module _ (l : List ℕ) (i k t a b c : ℕ) where
   row-same = record { same = λ j h. row-other j (inl h) }
 
   -- the node itself has what was written
-  pub row-is : 5 * i + 5 ≤ length l → Row (row l i k t a b c) i k t a b c
+  pub row-is : nodeWords * i + nodeWords ≤ length l → Row (row l i k t a b c) i k t a b c
   row-is h =
       let e₁ : length l₁ ≡ length l = simp length-set in
       let e₂ : length l₂ ≡ length l = simp length-set in
       let e₃ : length l₃ ≡ length l = simp length-set in
       let e₄ : length l₄ ≡ length l = simp length-set in
       record {
-        kind = at₄ (5 * i) (λ e. omega arith) ∙ at₃ (5 * i) (λ e. omega arith) ∙ at₂ (5 * i) (λ e. omega arith) ∙ at₁ (5 * i) (λ e. omega arith) ∙ getD-set-same l (5 * i) k 0 (omega arith);
-        token = at₄ (5 * i + 1) (λ e. omega arith) ∙ at₃ (5 * i + 1) (λ e. omega arith) ∙ at₂ (5 * i + 1) (λ e. omega arith) ∙ getD-set-same l₁ (5 * i + 1) t 0 (omega arith);
-        first = at₄ (5 * i + 2) (λ e. omega arith) ∙ at₃ (5 * i + 2) (λ e. omega arith) ∙ getD-set-same l₂ (5 * i + 2) a 0 (omega arith);
-        second = at₄ (5 * i + 3) (λ e. omega arith) ∙ getD-set-same l₃ (5 * i + 3) b 0 (omega arith);
-        third = getD-set-same l₄ (5 * i + 4) c 0 (omega arith);
+        kind = at₄ (nodeWords * i) (λ e. omega arith) ∙ at₃ (nodeWords * i) (λ e. omega arith) ∙ at₂ (nodeWords * i) (λ e. omega arith) ∙ at₁ (nodeWords * i) (λ e. omega arith) ∙ getD-set-same l (nodeWords * i) k 0 (omega arith);
+        token = at₄ (nodeWords * i + nodeToken) (λ e. omega arith) ∙ at₃ (nodeWords * i + nodeToken) (λ e. omega arith) ∙ at₂ (nodeWords * i + nodeToken) (λ e. omega arith) ∙ getD-set-same l₁ (nodeWords * i + nodeToken) t 0 (omega arith);
+        first = at₄ (nodeWords * i + nodeFirst) (λ e. omega arith) ∙ at₃ (nodeWords * i + nodeFirst) (λ e. omega arith) ∙ getD-set-same l₂ (nodeWords * i + nodeFirst) a 0 (omega arith);
+        second = at₄ (nodeWords * i + nodeSecond) (λ e. omega arith) ∙ getD-set-same l₃ (nodeWords * i + nodeSecond) b 0 (omega arith);
+        third = getD-set-same l₄ (nodeWords * i + nodeThird) c 0 (omega arith);
       }

@@ -1,5 +1,4 @@
 -- The abstract syntax tree of a concrete one.
-use Prim.Native.Nat.{ℕ}
 use Rattle.syntax.specs.Tree as T
 use Rattle.syntax.specs.Ast as A
 use Rattle.syntax.specs.Tree.{Cat, Tree}

@@ -1,7 +1,6 @@
 -- Abstract syntax trees: the concrete ones without the grammar's ranks. The rules of a text speak of these.
 -- A number in a tree is that of a token in the token list; a comment says of which.
 use Prim.Native.Nat.{ℕ}
-use mathlib.Core.List.{List}
 use Rattle.syntax.specs.Tree.{Cmp}
 
 pub data Sort : Type 0 where

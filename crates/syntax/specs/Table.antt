@@ -1,8 +1,8 @@
 -- The table that holds an abstract syntax tree: five words for each node, its kind, a token's number and three more. A node's children have smaller numbers.
-use Prim.Native.Nat.{ℕ, _+_, _*_, _≤_, _<_}
+use Prim.Native.Nat.{ℕ, _+_, _*_, _<_}
 use mathlib.Core.Path.{_≡_}
 use mathlib.Core.List.{List}
-use lib.ListN.{length, getD, set}
+use lib.ListN.{getD, set}
 use Rattle.syntax.specs.Tree.{Cmp, less, lessEq, greater, greaterEq, equal, unequal}
 use Rattle.syntax.specs.Ast as A
 use Rattle.syntax.specs.Ast.{Sort, Ast}
@@ -119,17 +119,33 @@ cmpNumber unequal = 5
 
 -- ---- rows
 
+-- the words of a node: its kind, then these
+abbrev pub nodeWords : ℕ
+nodeWords = 5
+
+abbrev pub nodeToken : ℕ
+nodeToken = 1
+
+abbrev pub nodeFirst : ℕ
+nodeFirst = 2
+
+abbrev pub nodeSecond : ℕ
+nodeSecond = 3
+
+abbrev pub nodeThird : ℕ
+nodeThird = 4
+
 -- node i is written: its kind, its token and three words
 abbrev pub row : List ℕ → ℕ → ℕ → ℕ → ℕ → ℕ → ℕ → List ℕ
-row l i k t a b c = set (set (set (set (set l (5 * i) k) (5 * i + 1) t) (5 * i + 2) a) (5 * i + 3) b) (5 * i + 4) c
+row l i k t a b c = set (set (set (set (set l (nodeWords * i) k) (nodeWords * i + nodeToken) t) (nodeWords * i + nodeFirst) a) (nodeWords * i + nodeSecond) b) (nodeWords * i + nodeThird) c
 
 -- node i has the kind k, the token t and the words a, b and c
 pub record Row (l : List ℕ) (i k t a b c : ℕ) : Type 0 where
-  pub kind : getD l (5 * i) 0 ≡ k
-  pub token : getD l (5 * i + 1) 0 ≡ t
-  pub first : getD l (5 * i + 2) 0 ≡ a
-  pub second : getD l (5 * i + 3) 0 ≡ b
-  pub third : getD l (5 * i + 4) 0 ≡ c
+  pub kind : getD l (nodeWords * i) 0 ≡ k
+  pub token : getD l (nodeWords * i + nodeToken) 0 ≡ t
+  pub first : getD l (nodeWords * i + nodeFirst) 0 ≡ a
+  pub second : getD l (nodeWords * i + nodeSecond) 0 ≡ b
+  pub third : getD l (nodeWords * i + nodeThird) 0 ≡ c
 
 -- ---- trees
 

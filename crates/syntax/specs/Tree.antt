@@ -3,7 +3,7 @@
 use Prim.Native.Nat.{ℕ, _+_}
 use mathlib.Core.List.{List, [], _∷_}
 use lib.ListN.{length}
-use Rattle.syntax.specs.Token.{kEnd, kName, kNumber, kInt, kFree, kIf, kElse, kWhile, kReturn, kFail, kTrue, kFalse, kOpen, kClose, kLbrace, kRbrace, kSemi, kComma, kAssign, kLess, kLessEq, kGreater, kGreaterEq, kEqual, kUnequal, kAnd, kOr, kPlus, kMinus, kTimes}
+use Rattle.syntax.specs.Token.{kName, kNumber, kInt, kFree, kIf, kElse, kWhile, kReturn, kFail, kTrue, kFalse, kOpen, kClose, kLbrace, kRbrace, kSemi, kComma, kAssign, kLess, kLessEq, kGreater, kGreaterEq, kEqual, kUnequal, kAnd, kOr, kPlus, kMinus, kTimes}
 
 -- what the grammar has a rule for
 pub data Cat : Type 0 where

@@ -1,5 +1,5 @@
 -- Laws of the rules.
 pub mod Collects
+pub mod Counts
 pub mod Functions
-pub mod Items
 pub mod Scans

@@ -1,16 +1,15 @@
 -- One law for every rule: to go through the events with the least token so far is to take the least of all that the rule gives.
-use Prim.Native.Nat.{ℕ, zero, suc, _+_, _-_, _*_, _≤_, _<_}
+use Prim.Native.Nat.{ℕ, suc, _+_, _-_, _≤_, _<_}
 use mathlib.Core.Path.{_≡_, refl, sym, ap, _∙_}
 use mathlib.Core.Bool.{Bool, true, false, cond}
 use mathlib.Core.List.{List, [], _∷_, _++_}
 use mathlib.Core.Option.{Option, none, some}
 use native.Mathlib.Omega.{arith}
 use native.Mathlib.Numerals.{add-one}
-use lib.ListN.{getD}
 use lib.Dec.{leb}
 use borrow.Author.Tests.{leb-true, leb-false}
 use Rattle.events.specs.Event.{Event}
-use Rattle.events.specs.Stored.{eventOf, from, stored}
+use Rattle.events.specs.Stored.{eventAt, from, stored}
 use Rattle.text_rules.specs.Scan.{scan, on, lesser, least}
 use Rattle.text_rules.specs.Answers.{leastWith}
 
@@ -48,7 +47,7 @@ unfolding lesser
 lesser-turn i j none = ap some (less-swap i j)
 lesser-turn i j (some k) = ap some (less-turn i j k)
 
-lesser-with : (i : ℕ) (l : List ℕ) (p : Option ℕ) → lesser i (leastWith l p) ≡ leastWith l (lesser i p)
+pub lesser-with : (i : ℕ) (l : List ℕ) (p : Option ℕ) → lesser i (leastWith l p) ≡ leastWith l (lesser i p)
 unfolding leastWith
 lesser-with i [] p = refl
 lesser-with i (j ∷ l) p = lesser-turn i j (leastWith l p) ∙ ap (lesser j) (lesser-with i l p)
@@ -68,9 +67,6 @@ pub least-append : (a b : List ℕ) → least (a ++ b) ≡ leastWith b (least a)
 least-append a b = sym (with-none (a ++ b)) ∙ with-append a b none ∙ ap (leastWith b) (with-none a)
 
 -- ---- events from a place on
-
-abbrev pub eventAt : List ℕ → ℕ → Event
-eventAt l k = eventOf (getD l (3 * k) 0) (getD l (3 * k + 1) 0) (getD l (3 * k + 2) 0)
 
 -- what is left of n events from event i on
 abbrev pub rest : List ℕ → ℕ → ℕ → List Event

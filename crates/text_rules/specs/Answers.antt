@@ -4,28 +4,13 @@ use mathlib.Core.Path.{_≡_}
 use mathlib.Core.List.{List, [], _∷_}
 use mathlib.Core.Option.{Option, none, some}
 use lib.ListN.{getD}
-use Rattle.events.specs.Event.{Event, function, parameter, thing, opens, closes, declares, uses, calls, ends}
 use Rattle.events.specs.Stored.{stored}
 use Rattle.text_rules.specs.Scan.{lesser}
 use Rattle.text_rules.specs.Rules.{Head, heads}
 use Rattle.text_rules.specs.declared.heads.Found.{Found}
 use Rattle.text_rules.specs.declared.heads.Found.the-variants.{Nothing, Number}
-use Rattle.text_rules.specs.declared.item.Item.{Item}
-use Rattle.text_rules.specs.declared.item.Item.the-variants.{Function, Parameter, Thing, Opens, Closes, Declares, Uses, Calls, Ends}
 use Rattle.text_rules.specs.declared.broken.Broken.{Broken}
 use Rattle.text_rules.specs.declared.broken.Broken.the-variants.{Nowhere, At}
-
--- the event that an item is
-abbrev pub event : Item → Event
-event (Function i) = function i
-event (Parameter i) = parameter i
-event (Thing d i) = thing d i
-event Opens = opens
-event Closes = closes
-event (Declares i) = declares i
-event (Uses i) = uses i
-event (Calls i n) = calls i n
-event (Ends i b) = ends i b
 
 -- the token that breaks a rule, if one does
 abbrev pub place : Broken → Option ℕ
@@ -43,12 +28,22 @@ found Nothing = none
 found (Number n) = some n
 
 -- functions in a lent slice: two words for each, its name and how many parameters it has
+abbrev pub headWords : ℕ
+headWords = 2
+
+abbrev pub headArity : ℕ
+headArity = 1
+
 abbrev pub head : ℕ → ℕ → Head
 head i n = record { name = i; arity = n }
 
+-- function k
+abbrev pub headAt : List ℕ → ℕ → Head
+headAt l k = head (getD l (headWords * k) 0) (getD l (headWords * k + headArity) 0)
+
 unfoldable pub headsFrom : List ℕ → ℕ → ℕ → List Head
 headsFrom l k zero = []
-headsFrom l k (suc m) = head (getD l (2 * k) 0) (getD l (2 * k + 1) 0) ∷ headsFrom l (suc k) m
+headsFrom l k (suc m) = headAt l k ∷ headsFrom l (suc k) m
 
 -- the first h functions
 abbrev pub storedHeads : List ℕ → ℕ → List Head
@@ -57,4 +52,4 @@ storedHeads l h = headsFrom l 0 h
 -- the functions of n events are written, h of them; the words after them are as they were
 pub record Collected (events : List ℕ) (n : ℕ) (before after : List ℕ) (h : ℕ) : Type 0 where
   pub written : storedHeads after h ≡ heads (stored events n)
-  pub kept : (j : ℕ) → 2 * h ≤ j → getD after j 0 ≡ getD before j 0
+  pub kept : (j : ℕ) → headWords * h ≤ j → getD after j 0 ≡ getD before j 0

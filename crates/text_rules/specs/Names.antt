@@ -1,11 +1,11 @@
 -- Rule 6 of a text (document 01, "Check" and "The text"): names. And what each name means.
-use Prim.Native.Nat.{ℕ, zero, suc}
-use mathlib.Core.Bool.{Bool, true, false, not, cond}
+use Prim.Native.Nat.{ℕ, suc}
+use mathlib.Core.Bool.{Bool, cond}
 use mathlib.Core.List.{List, [], _∷_, _++_}
 use mathlib.Core.Option.{Option, none, some}
 use lib.Dec.{eqb}
 use Rattle.events.specs.Event.{Event, function, parameter, thing, opens, closes, declares, uses, calls, ends}
-use Rattle.text_rules.specs.Scan.{scan, on, when}
+use Rattle.text_rules.specs.Scan.{scan, on}
 use Rattle.text_rules.specs.Rules.{Head, heads, functionOf}
 
 -- a declared variable: its name's token, and its slot: its declaration's number in its function, parameters first
@@ -61,6 +61,15 @@ unfoldable pub meant : (ℕ → ℕ) → List Meaning → ℕ → ℕ
 meant f [] i = f i
 meant f (m ∷ ms) i = meant (λ j. cond (eqb (m .token) j) (m .means) (f j)) ms i
 
+-- the token i, unless something was found, and if something was
+abbrev pub unlessFound : Option ℕ → ℕ → List ℕ
+unlessFound none i = i ∷ []
+unlessFound (some n) i = []
+
+abbrev pub ifFound : Option ℕ → ℕ → List ℕ
+ifFound none i = []
+ifFound (some n) i = i ∷ []
+
 -- `same i j`: the tokens i and j spell the same name
 module _ (same : ℕ → ℕ → Bool) where
   -- "A name is sought from the innermost block outwards, and within a block among its earlier declarations": the slot found
@@ -73,14 +82,6 @@ module _ (same : ℕ → ℕ → Bool) where
   sought (b ∷ bs) i = elim (inBlock b i) [ none ↦ sought bs i | some n ↦ some n ]
 
   -- ---- "6 a name not found, or declared while the same name of its kind can be seen (for a function: while an earlier one has the name)"
-
-  abbrev pub unlessFound : Option ℕ → ℕ → List ℕ
-  unlessFound none i = i ∷ []
-  unlessFound (some n) i = []
-
-  abbrev pub ifFound : Option ℕ → ℕ → List ℕ
-  ifFound none i = []
-  ifFound (some n) i = i ∷ []
 
   unfoldable pub misnamed : Scope → Event → List ℕ
   misnamed s (function i) = []

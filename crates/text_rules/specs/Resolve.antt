@@ -1,8 +1,8 @@
 -- The program of a syntax tree, with names resolved: every variable an Address, every call a function's number.
-use Prim.Native.Nat.{ℕ, zero, suc, _+_}
+use Prim.Native.Nat.{ℕ, suc, _+_}
 use mathlib.Core.Bool.{Bool, true, false, cond}
 use mathlib.Core.List.{List, [], _∷_}
-use lib.IntN.{ℤ, pos, _-ℤ_}
+use lib.IntN.{pos, _-ℤ_}
 use Rattle.syntax.specs.Tree.{less, lessEq, greater, greaterEq, equal, unequal}
 use Rattle.syntax.specs.Ast.{Sort, Ast}
 use Rattle.syntax.specs.Ast as A

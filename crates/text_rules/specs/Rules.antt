@@ -1,18 +1,32 @@
 -- The rules 5 and 7 to 10 of a text (document 01, "Check"): the tokens that break each, by the events of the text.
-use Prim.Native.Nat.{ℕ, zero, suc}
-use mathlib.Core.Bool.{Bool, true, false, not, cond, _||_}
+use Prim.Native.Nat.{ℕ, suc}
+use mathlib.Core.Bool.{Bool, not, cond, _||_}
 use mathlib.Core.List.{List, [], _∷_, _++_}
 use mathlib.Core.Option.{Option, none, some}
 use lib.Dec.{eqb, leb, ltb}
 use Rattle.events.specs.Event.{Event, function, parameter, thing, opens, closes, declares, uses, calls, ends}
 use Rattle.text_rules.specs.Scan.{scan, on, when}
 
+-- ---- what a text may have at most: depth, functions, and in one function parameters and declarations
+
+abbrev pub mostDepth : ℕ
+mostDepth = 24
+
+abbrev pub mostFunctions : ℕ
+mostFunctions = 16
+
+abbrev pub mostParameters : ℕ
+mostParameters = 4
+
+abbrev pub mostDeclarations : ℕ
+mostDeclarations = 16
+
 -- ---- "5 depth over 24, at the first token of the deeper thing"
 
 unfoldable pub deep : Event → List ℕ
 deep (function i) = []
 deep (parameter i) = []
-deep (thing d i) = when (ltb 24 d) i
+deep (thing d i) = when (ltb mostDepth d) i
 deep opens = []
 deep closes = []
 deep (declares i) = []
@@ -54,6 +68,11 @@ heads (uses i ∷ es) = heads es
 heads (calls i n ∷ es) = heads es
 heads (ends i b ∷ es) = heads es
 
+-- the token i, where a call with n arguments should have another count
+unfoldable pub wrong : Option ℕ → ℕ → ℕ → List ℕ
+wrong none i n = []
+wrong (some m) i n = when (not (eqb m n)) i
+
 -- `same i j`: the tokens i and j spell the same name
 module _ (same : ℕ → ℕ → Bool) where
   -- the number of the first function with the name of token i
@@ -67,10 +86,6 @@ module _ (same : ℕ → ℕ → Bool) where
   arityOf (h ∷ hs) i = cond (same (h .name) i) (some (h .arity)) (arityOf hs i)
 
   -- ---- "7 a call with a wrong count of arguments, at the called name"
-
-  unfoldable pub wrong : Option ℕ → ℕ → ℕ → List ℕ
-  wrong none i n = []
-  wrong (some m) i n = when (not (eqb m n)) i
 
   unfoldable pub miscounted : List Head → Event → List ℕ
   miscounted hs (function i) = []
@@ -88,19 +103,20 @@ module _ (same : ℕ → ℕ → Bool) where
 
 -- ---- "8 no function main (place: the text's length) or a main with parameters, at its name"
 
--- `isMain i`: the token i spells main; `end`: the number of the end's token, which stands at the text's length
+unfoldable pub withParameters : List Head → List ℕ
+withParameters [] = []
+withParameters (h ∷ hs) = when (ltb 0 (h .arity)) (h .name) ++ withParameters hs
+
+-- `end`: the number of the end's token, which stands at the text's length
+unfoldable pub badMain : ℕ → List Head → List ℕ
+badMain end [] = end ∷ []
+badMain end (h ∷ hs) = withParameters (h ∷ hs)
+
+-- `isMain i`: the token i spells main
 module _ (isMain : ℕ → Bool) where
   unfoldable pub mains : List Head → List Head
   mains [] = []
   mains (h ∷ hs) = cond (isMain (h .name)) (h ∷ mains hs) (mains hs)
-
-  unfoldable pub withParameters : List Head → List ℕ
-  withParameters [] = []
-  withParameters (h ∷ hs) = when (ltb 0 (h .arity)) (h .name) ++ withParameters hs
-
-  unfoldable pub badMain : ℕ → List Head → List ℕ
-  badMain end [] = end ∷ []
-  badMain end (h ∷ hs) = withParameters (h ∷ hs)
 
   abbrev pub mainless : ℕ → List Event → List ℕ
   mainless end es = badMain end (mains (heads es))
@@ -144,12 +160,12 @@ counted c (calls i n) = c
 counted c (ends i b) = c
 
 unfoldable pub over : Tally → Event → List ℕ
-over c (function i) = when (leb 16 (c .functions)) i
-over c (parameter i) = when (leb 4 (c .parameters) || leb 16 (c .declarations)) i
+over c (function i) = when (leb mostFunctions (c .functions)) i
+over c (parameter i) = when (leb mostParameters (c .parameters) || leb mostDeclarations (c .declarations)) i
 over c (thing d i) = []
 over c opens = []
 over c closes = []
-over c (declares i) = when (leb 16 (c .declarations)) i
+over c (declares i) = when (leb mostDeclarations (c .declarations)) i
 over c (uses i) = []
 over c (calls i n) = []
 over c (ends i b) = []

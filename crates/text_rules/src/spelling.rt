@@ -1,7 +1,7 @@
 // How the tokens of a text are spelled: a token by its number, the slices of the tokens' places and values (of a name, its size).
 ghost use mathlib.Core.Path.{_≡_};
 ghost use Prim.Native.Nat.{min, _+_, _≤_};
-ghost use lib.ListN.{length, getD};
+ghost use lib.ListN.{getD};
 ghost use Rattle.text_rules.specs.Spelling.{spelled, sameName, isMain};
 
 // The word at i, 0 past the end.

@@ -16,7 +16,8 @@ use Rattle.intervals.specs.Meaning.{ofPair, ofPairs}
 use Rattle.window_memory.specs.Memory.{pairAt, pairsAt, putPair, putPairs}
 
 -- the eight pairs, by their places
-pub eight : (m : List ℕ) (k : ℕ) → pairsAt m k 8 ≡ pairAt m k ∷ pairAt m (k + 2) ∷ pairAt m (k + 4) ∷ pairAt m (k + 6) ∷ pairAt m (k + 8) ∷ pairAt m (k + 10) ∷ pairAt m (k + 12) ∷ pairAt m (k + 14) ∷ []
+pub eight : (m : List ℕ) (k : ℕ) → pairsAt m k 8 ≡ pairAt m k ∷ pairAt m (k + 2) ∷ pairAt m (k + 4) ∷ pairAt m (k + 6) ∷ pairAt m (k + 8) ∷ pairAt m (k + 10)
+    ∷ pairAt m (k + 12) ∷ pairAt m (k + 14) ∷ []
 unfolding pairsAt
 eight m k =
     let e₄ : k + 2 + 2 ≡ k + 4 = omega arith in
@@ -27,7 +28,7 @@ eight m k =
     let e₁₄ : k + 12 + 2 ≡ k + 14 = omega arith in
     rw (e₄, e₆, e₈, e₁₀, e₁₂, e₁₄)
 
-pub length-pair : (m : List ℕ) (k : ℕ) (p : List ℤ) → length (putPair m k p) ≡ length m
+length-pair : (m : List ℕ) (k : ℕ) (p : List ℤ) → length (putPair m k p) ≡ length m
 length-pair m k p = simp length-set
 
 pub length-put : (m : List ℕ) (k : ℕ) (ps : List (List ℤ)) → length (putPairs m k ps) ≡ length m
@@ -65,7 +66,8 @@ pub record Ends (ws : List (List ℤ)) : Type 0 where
   pub high : (i : ℕ) → SFits w32 (getD (getD ws i []) 1 (pos 0))
 
 -- the pair at k, where so many pairs are put after it
-first : (m : List ℕ) (k : ℕ) (p : List ℤ) (ps : List (List ℤ)) → k + 1 < length m → SFits w32 (getD p 0 (pos 0)) → SFits w32 (getD p 1 (pos 0)) → ofPair (pairAt (putPairs (putPair m k p) (k + 2) ps) k) ≡ ofPair p
+first : (m : List ℕ) (k : ℕ) (p : List ℤ) (ps : List (List ℤ)) → k + 1 < length m → SFits w32 (getD p 0 (pos 0)) → SFits w32 (getD p 1 (pos 0))
+    → ofPair (pairAt (putPairs (putPair m k p) (k + 2) ps) k) ≡ ofPair p
 first m k p ps h f g =
     let l = ofZ w32 (getD p 0 (pos 0)) in
     let u = ofZ w32 (getD p 1 (pos 0)) in

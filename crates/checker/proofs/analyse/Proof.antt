@@ -1,15 +1,8 @@
 use native.Mathlib.Omega.{arith}
-use lib.ListN.{length}
-use mathlib.Core.Path.{_≡_, refl, sym, ap, _∙_, subst}
-use Rattle.checker.specs.Analysis.{Lent, Slices, Settles}
 use Rattle.checker.proofs.Analysing.{into, as-long, kinds-long, places-long, values-long, few-tokens, token-list, few-listed, analysed, refused-so}
 use borrow.Author.Needs.{needs}
 use Rattle.checker.proofs.analyse.Statement.{statement}
 use Rattle.checker.proofs.analyse.Tie as tie
-use Rattle.checker.proofs.analyse.Reads as reads
-use Rattle.checker.proofs.analyse.Lts as lts
-use Rattle.checker.proofs.settle.Reads as settle-reads
-use Rattle.lexer.proofs.lex.Reads as lex-reads
 
 lex-requires : tie.Need-lex-requires
 lex-requires c κs = search needs

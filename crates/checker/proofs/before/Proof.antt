@@ -1,8 +1,6 @@
 use borrow.Author.Needs.{needs}
 use Rattle.checker.proofs.before.Statement.{statement}
 use Rattle.checker.proofs.before.Tie as tie
-use Rattle.checker.proofs.before.Reads as reads
-use Rattle.checker.proofs.before.Lts as lts
 
 enum-told : tie.Need-enum-told
 enum-told c = search needs

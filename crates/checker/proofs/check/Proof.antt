@@ -1,11 +1,7 @@
-use mathlib.Core.Path.{_≡_, refl, sym, ap, _∙_, subst}
 use Rattle.checker.proofs.Analysing.{says-refused, says-accepted}
 use borrow.Author.Needs.{needs}
 use Rattle.checker.proofs.check.Statement.{statement}
 use Rattle.checker.proofs.check.Tie as tie
-use Rattle.checker.proofs.check.Reads as reads
-use Rattle.checker.proofs.check.Lts as lts
-use Rattle.checker.proofs.analyse.Reads as analyse-reads
 
 slice-aggregate-analyse : tie.Need-slice-aggregate-analyse
 slice-aggregate-analyse c = search needs

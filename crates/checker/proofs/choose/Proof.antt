@@ -1,10 +1,6 @@
 use borrow.Author.Needs.{needs}
-use Rattle.checker.specs.Judge.{unless, chosen}
 use Rattle.checker.proofs.choose.Statement.{statement}
 use Rattle.checker.proofs.choose.Tie as tie
-use Rattle.checker.proofs.choose.Reads as reads
-use Rattle.checker.proofs.choose.Lts as lts
-use Rattle.checker.proofs.before.Reads as before-reads
 
 before-requires : tie.Need-before-requires
 before-requires c κs = search needs

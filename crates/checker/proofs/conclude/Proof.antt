@@ -1,10 +1,6 @@
 use borrow.Author.Needs.{needs}
-use mathlib.Core.Path.{_≡_, refl, sym, ap, _∙_}
 use Rattle.checker.proofs.conclude.Statement.{statement}
 use Rattle.checker.proofs.conclude.Tie as tie
-use Rattle.checker.proofs.conclude.Reads as reads
-use Rattle.checker.proofs.conclude.Lts as lts
-use Rattle.text_rules.proofs.spelling.word.Reads as word-reads
 
 enum-known-judged : tie.Need-enum-known-judged
 enum-known-judged c = search needs

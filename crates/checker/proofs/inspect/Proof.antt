@@ -1,16 +1,8 @@
 use native.Mathlib.Omega.{arith}
-use lib.ListN.{length}
-use mathlib.Core.Path.{_≡_, refl, sym, ap, _∙_, subst}
-use Rattle.checker.specs.Analysis.{Inspected}
 use Rattle.checker.proofs.Inspecting.{inspected, few-events}
 use borrow.Author.Needs.{needs}
 use Rattle.checker.proofs.inspect.Statement.{statement}
 use Rattle.checker.proofs.inspect.Tie as tie
-use Rattle.checker.proofs.inspect.Reads as reads
-use Rattle.checker.proofs.inspect.Lts as lts
-use Rattle.checker.proofs.conclude.Reads as conclude-reads
-use Rattle.checker.proofs.judge.Reads as judge-reads
-use Rattle.events.proofs.walk.Reads as walk-reads
 
 walk-requires : tie.Need-walk-requires
 walk-requires c κs = search needs

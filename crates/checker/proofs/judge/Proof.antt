@@ -1,18 +1,9 @@
 use native.Mathlib.Omega.{arith}
-use lib.ListN.{length}
-use mathlib.Core.Path.{_≡_, refl, sym, ap, _∙_}
-use Rattle.text_rules.specs.Spelling.{sameName, isMain}
-use Rattle.events.specs.Stored.{stored}
 use Rattle.names.proofs.Walks.{as-many}
 use Rattle.checker.proofs.Faults.{judges}
 use borrow.Author.Needs.{needs}
 use Rattle.checker.proofs.judge.Statement.{statement}
 use Rattle.checker.proofs.judge.Tie as tie
-use Rattle.checker.proofs.judge.Reads as reads
-use Rattle.checker.proofs.judge.Lts as lts
-use Rattle.checker.proofs.rule_all.Reads as rule-all-reads
-use Rattle.text_rules.proofs.heads.collect_heads.Reads as collect-heads-reads
-use Rattle.names.proofs.resolve.Reads as resolve-reads
 
 collect-heads-requires : tie.Need-collect-heads-requires
 collect-heads-requires c κs = search needs

@@ -1,16 +1,7 @@
-use native.Mathlib.Omega.{arith}
-use lib.ListN.{length}
-use mathlib.Core.Path.{_≡_, refl, sym, ap, _∙_, subst}
-use Rattle.checker.specs.Analysis.{Lent, Settles}
-use Rattle.checker.proofs.Settling.{can-parse, is-bad, is-tree, can-walk, settles-bad, settles-tree}
+use Rattle.checker.proofs.Settling.{is-bad, is-tree, can-walk, settles-bad, settles-tree}
 use borrow.Author.Needs.{needs}
 use Rattle.checker.proofs.settle.Statement.{statement}
 use Rattle.checker.proofs.settle.Tie as tie
-use Rattle.checker.proofs.settle.Reads as reads
-use Rattle.checker.proofs.settle.Lts as lts
-use Rattle.checker.proofs.inspect.Reads as inspect-reads
-use Rattle.grammar.proofs.parse.Reads as parse-reads
-use Rattle.text_rules.proofs.spelling.word.Reads as word-reads
 
 parse-requires : tie.Need-parse-requires
 parse-requires c κs = search needs

@@ -10,7 +10,7 @@ use Rattle.text_rules.specs.Resolve.{part}
 use Rattle.simulation.specs.Code.{fail, act, entriesOf, startsOf}
 use Rattle.simulation.specs.Words.{kindOf, wordOf}
 use Rattle.compiler.specs.Coded.{word}
-use Rattle.compiler.proofs.Laws.{grown-none, grown-then, grown-as, said, grown-size, emitted-size, due-as, due-room, due-front, due-after, rooted-child, room}
+use Rattle.compiler.proofs.Laws.{grown-none, grown-then, grown-as, said, grown-size, emitted-size, due-as, due-room, due-front, due-after, room}
 use Rattle.compiler.proofs.Parts.{starts-length}
 use Rattle.compiler.proofs.Programs.{funs-node, none-node, function-node, started, built-size}
 use borrow.Fn.Kinds.{In}
@@ -24,6 +24,7 @@ use Rattle.compiler.proofs.statement.Reads as statement-reads
 use Rattle.syntax.proofs.fetch.Reads as fetch-reads
 use Rattle.compiler.proofs.+program.{statement}
 use Rattle.compiler.proofs.+program.Tie.{close}
+use Rattle.events.proofs.Laws.{rooted-child}
 
 abbrev μ-program : Measures 5 program-kinds.ps ℕ
 μ-program κs a = a .1 .0

@@ -7,6 +7,7 @@ use native.Mathlib.Omega.{arith}
 use lib.ListN.{length-set}
 use Rattle.compiler.proofs.emit.Statement.{statement}
 use Rattle.compiler.proofs.emit.Tie as tie
+use Rattle.simulation.specs.Words.{entryWords}
 
 mul-code : tie.Need-mul-code
 mul-code c = search needs
@@ -39,7 +40,7 @@ same-length : tie.Need-same-length
 same-length c = search needs
 
 returns : tie.Need-returns
-returns c = record { total = refl; words = rw (add-one (2 * c .args .n)) }
+returns c = record { total = refl; words = rw (add-one (entryWords * c .args .n)) }
 
 pub emit-spec : {M : Type 1} → statement M
 emit-spec =

@@ -1,14 +1,12 @@
 use native.Mathlib.Omega.{arith}
 use borrow.Author.Tests.{ne-eqb}
 use Rattle.lexer.proofs.Bytes.{class-range, class-low}
-use Prim.Native.Nat.{ℕ, _≤_, _<_}
+use Prim.Native.Nat.{ℕ, _<_}
 use mathlib.Core.Path.{_≡_}
 use native.Mathlib.Decide.{decLt}
 use Rattle.lexer.specs.Parts.{classOf}
 use Rattle.lexer.proofs.class.Statement.{statement}
 use Rattle.lexer.proofs.class.Tie as tie
-use Rattle.lexer.proofs.class.Reads as reads
-use Rattle.lexer.proofs.class.Lts as lts
 
 -- between the capitals and the small letters, but for the underscore
 between : (b : ℕ) → 90 < b → (b ≡ 95 → ⊥) → b < 97 → 0 ≡ classOf b

@@ -1,12 +1,9 @@
-use mathlib.Core.Path.{_≡_, refl, sym, _∙_, ap}
+use mathlib.Core.Path.{sym, _∙_}
 use borrow.Author.Needs.{needs}
 use borrow.Author.Tests.{lt-ltb, le-ltb}
 use Rattle.lexer.specs.Parts.{firstLarge}
 use Rattle.lexer.proofs.first_large.Statement.{statement}
 use Rattle.lexer.proofs.first_large.Tie as tie
-use Rattle.lexer.proofs.first_large.Reads as reads
-use Rattle.lexer.proofs.first_large.Lts as lts
-use Rattle.lexer.proofs.is_large.Reads as is-large-reads
 
 returns : tie.Need-returns
 unfolding firstLarge

@@ -1,11 +1,9 @@
-use mathlib.Core.Path.{_≡_, refl, sym, _∙_, ap}
+use mathlib.Core.Path.{sym, _∙_, ap}
 use Rattle.lexer.proofs.Bytes.{large-name, large-number, large-other}
 use Rattle.lexer.specs.Parts.{largeAs}
 use Prim.Native.Nat.{ℕ}
 use Rattle.lexer.proofs.is_large.Statement.{statement}
 use Rattle.lexer.proofs.is_large.Tie as tie
-use Rattle.lexer.proofs.is_large.Reads as reads
-use Rattle.lexer.proofs.is_large.Lts as lts
 
 returns : tie.Need-returns
 returns c = sym (ap (λ (k : ℕ). largeAs k (c .before .args .value)) (c .if1 .taken) ∙ large-name (c .before .args .value))

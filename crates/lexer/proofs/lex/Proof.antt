@@ -1,15 +1,11 @@
-use Prim.Native.Nat.{ℕ, suc, _+_, _-_, _≤_, _<_}
+use Prim.Native.Nat.{_-_, _<_}
 use native.Mathlib.Omega.{arith}
 use borrow.Author.Needs.{needs}
-use mathlib.Core.Path.{_≡_, refl, sym, _∙_, ap}
+use mathlib.Core.Path.{sym, _∙_}
 use lib.ListN.{length, length-set}
 use Rattle.lexer.proofs.Turns.{Turn, turn-start, too-long, turn-blank, turn-nothing, turn-size, turn-token, turn-large, turn-tokens}
 use Rattle.lexer.proofs.lex.Statement.{statement}
 use Rattle.lexer.proofs.lex.Tie as tie
-use Rattle.lexer.proofs.lex.Reads as reads
-use Rattle.lexer.proofs.lex.Lts as lts
-use Rattle.lexer.proofs.first_large.Reads as first-large-reads
-use Rattle.lexer.proofs.piece_at.Reads as piece-at-reads
 
 abbrev Inv-loop : tie.InvT-loop
 Inv-loop text kinds₀ places₀ values₀ at₀ n₀ large₀ kinds places values at n large = Turn text kinds₀ places₀ values₀ kinds places values at n large

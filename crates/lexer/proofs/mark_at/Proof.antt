@@ -1,4 +1,4 @@
-use mathlib.Core.Path.{_≡_, refl, sym, _∙_, ap}
+use mathlib.Core.Path.{sym, _∙_}
 use Prim.Native.Nat.{_+_}
 use mathlib.Core.Logic.{⊎-elim}
 use lib.ListN.{getD}
@@ -7,10 +7,6 @@ use borrow.Author.Needs.{needs}
 use Rattle.lexer.proofs.Fronts.{pair-here, pair-past, pair-piece, single-piece, no-piece}
 use Rattle.lexer.proofs.mark_at.Statement.{statement}
 use Rattle.lexer.proofs.mark_at.Tie as tie
-use Rattle.lexer.proofs.mark_at.Reads as reads
-use Rattle.lexer.proofs.mark_at.Lts as lts
-use Rattle.lexer.proofs.pair.Reads as pair-reads
-use Rattle.lexer.proofs.single.Reads as single-reads
 
 shared-slice-read-b : tie.Need-shared-slice-read-b
 shared-slice-read-b c = search needs

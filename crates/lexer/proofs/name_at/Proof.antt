@@ -3,10 +3,6 @@ use borrow.Author.Needs.{needs}
 use Rattle.lexer.proofs.Fronts.{name-piece}
 use Rattle.lexer.proofs.name_at.Statement.{statement}
 use Rattle.lexer.proofs.name_at.Tie as tie
-use Rattle.lexer.proofs.name_at.Reads as reads
-use Rattle.lexer.proofs.name_at.Lts as lts
-use Rattle.lexer.proofs.run_end.Reads as run-end-reads
-use Rattle.lexer.proofs.word_kind.Reads as word-kind-reads
 
 add-run-end : tie.Need-add-run-end
 add-run-end c = search needs

@@ -3,10 +3,6 @@ use borrow.Author.Needs.{needs}
 use Rattle.lexer.proofs.Fronts.{number-digits, number-piece}
 use Rattle.lexer.proofs.number_at.Statement.{statement}
 use Rattle.lexer.proofs.number_at.Tie as tie
-use Rattle.lexer.proofs.number_at.Reads as reads
-use Rattle.lexer.proofs.number_at.Lts as lts
-use Rattle.lexer.proofs.number_value.Reads as number-value-reads
-use Rattle.lexer.proofs.run_end.Reads as run-end-reads
 
 add-run-end : tie.Need-add-run-end
 add-run-end c = search needs

@@ -1,15 +1,12 @@
-use Prim.Native.Nat.{ℕ, _+_, _-_, _≤_, _<_, min}
+use Prim.Native.Nat.{ℕ, _+_, _-_, _≤_, min}
 use native.Mathlib.Omega.{arith}
 use mathlib.Core.Path.{_≡_, refl, sym, _∙_, ap}
-use lib.ListN.{length, drop, getD}
+use lib.ListN.{length, drop}
 use Rattle.lexer.specs.Lex.{isDigit, decimal}
 use Rattle.lexer.specs.Parts.{limit}
 use Rattle.lexer.proofs.Bytes.{all-at, decimal-more, decimal-end}
 use Rattle.lexer.proofs.number_value.Statement.{statement}
 use Rattle.lexer.proofs.number_value.Tie as tie
-use Rattle.lexer.proofs.number_value.Reads as reads
-use Rattle.lexer.proofs.number_value.Lts as lts
-use Rattle.lexer.proofs.with_digit.Reads as with-digit-reads
 
 abbrev Inv-loop : tie.InvT-loop
 Inv-loop digits value₀ i₀ value i = (i ≤ length digits) × (value ≤ limit) × (min (decimal 0 digits) limit ≡ min (decimal value (drop i digits)) limit)

@@ -1,4 +1,4 @@
-use mathlib.Core.Path.{_≡_, refl, sym, _∙_, ap}
+use mathlib.Core.Path.{sym, _∙_}
 use native.Mathlib.Omega.{arith}
 use borrow.Author.Needs.{needs}
 use borrow.Author.Tests.{eq-eqb}
@@ -7,12 +7,6 @@ use Rattle.lexer.proofs.Bytes.{class-letter, class-digit, class-four}
 use Rattle.lexer.proofs.Fronts.{blank-piece}
 use Rattle.lexer.proofs.piece_at.Statement.{statement}
 use Rattle.lexer.proofs.piece_at.Tie as tie
-use Rattle.lexer.proofs.piece_at.Reads as reads
-use Rattle.lexer.proofs.piece_at.Lts as lts
-use Rattle.lexer.proofs.class.Reads as class-reads
-use Rattle.lexer.proofs.mark_at.Reads as mark-at-reads
-use Rattle.lexer.proofs.name_at.Reads as name-at-reads
-use Rattle.lexer.proofs.number_at.Reads as number-at-reads
 
 shared-slice-read-class : tie.Need-shared-slice-read-class
 shared-slice-read-class c = search needs

@@ -1,16 +1,13 @@
-use Prim.Native.Nat.{ℕ, _+_, _-_, _≤_, _<_}
+use Prim.Native.Nat.{_+_, _-_, _≤_}
 use native.Mathlib.Omega.{arith}
 use mathlib.Core.Path.{_≡_, refl, sym, _∙_, ap}
-use lib.ListN.{length, drop, getD}
+use lib.ListN.{length, drop}
 use lib.Dec.{leb}
 use borrow.Author.Tests.{lt-leb, le-leb}
-use Rattle.lexer.specs.Parts.{classOf, atLeast, span}
+use Rattle.lexer.specs.Parts.{atLeast, span}
 use Rattle.lexer.proofs.Bytes.{span-more, span-stop, span-end}
 use Rattle.lexer.proofs.run_end.Statement.{statement}
 use Rattle.lexer.proofs.run_end.Tie as tie
-use Rattle.lexer.proofs.run_end.Reads as reads
-use Rattle.lexer.proofs.run_end.Lts as lts
-use Rattle.lexer.proofs.class.Reads as class-reads
 
 abbrev Inv-loop : tie.InvT-loop
 Inv-loop text at least end₀ end = (end ≤ length text) × (at + span (atLeast least) (drop at text) ≡ end + span (atLeast least) (drop end text))

@@ -1,13 +1,11 @@
-use Prim.Native.Nat.{ℕ, _+_, _-_, _≤_, _<_}
+use Prim.Native.Nat.{_-_, _≤_, _<_}
 use native.Mathlib.Omega.{arith}
-use mathlib.Core.Path.{_≡_, refl, sym, _∙_, ap}
-use lib.ListN.{length, drop, getD}
+use mathlib.Core.Path.{_≡_, refl, sym, _∙_}
+use lib.ListN.{length, drop}
 use Rattle.lexer.specs.Lex.{same}
 use Rattle.lexer.proofs.Bytes.{same-more, same-not, same-end, same-sizes}
 use Rattle.lexer.proofs.same_bytes.Statement.{statement}
 use Rattle.lexer.proofs.same_bytes.Tie as tie
-use Rattle.lexer.proofs.same_bytes.Reads as reads
-use Rattle.lexer.proofs.same_bytes.Lts as lts
 
 abbrev Inv-loop : tie.InvT-loop
 Inv-loop a b i₀ i = (i ≤ length a) × (same a b ≡ same (drop i a) (drop i b))

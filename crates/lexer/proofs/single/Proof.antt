@@ -1,13 +1,11 @@
-use mathlib.Core.Path.{_≡_, refl, sym, _∙_, ap}
+use mathlib.Core.Path.{sym, _∙_}
 use mathlib.Core.List.{[], _∷_}
-use borrow.Author.Tests.{eq-eqb, ne-eqb}
+use borrow.Author.Tests.{ne-eqb}
 use Rattle.lexer.specs.Lex.{same, marks, kindIn}
 use Rattle.lexer.proofs.Bytes.{and-false, kindIn-chain}
 use Rattle.syntax.specs.Token.{kEnd}
 use Rattle.lexer.proofs.single.Statement.{statement}
 use Rattle.lexer.proofs.single.Tie as tie
-use Rattle.lexer.proofs.single.Reads as reads
-use Rattle.lexer.proofs.single.Lts as lts
 
 returns : tie.Need-returns
 unfolding kindIn same

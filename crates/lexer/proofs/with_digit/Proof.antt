@@ -3,8 +3,6 @@ use native.Mathlib.Omega.{arith}
 use Rattle.lexer.proofs.Bytes.{digit-bounds}
 use Rattle.lexer.proofs.with_digit.Statement.{statement}
 use Rattle.lexer.proofs.with_digit.Tie as tie
-use Rattle.lexer.proofs.with_digit.Reads as reads
-use Rattle.lexer.proofs.with_digit.Lts as lts
 
 mul-more : tie.Need-mul-more
 mul-more c = search needs

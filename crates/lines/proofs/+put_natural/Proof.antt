@@ -1,9 +1,7 @@
-use Prim.Native.Nat.{ℕ, _+_, _/_, _%_, _≤_, _<_}
+use Prim.Native.Nat.{ℕ, _+_, _<_}
 use native.Mathlib.Omega.{arith}
-use mathlib.Core.Path.{_≡_, refl, sym, _∙_, ap}
-use mathlib.Core.List.{List}
-use lib.ListN.{length, length-append, length-set, set}
-use Rattle.lines.specs.Print.{natural}
+use mathlib.Core.Path.{_∙_, ap}
+use lib.ListN.{length, length-set}
 use Rattle.lines.proofs.Decimal.{natural-one, more-length, put-one, put-last}
 use Rattle.lines.proofs.Puts.{put-length}
 use borrow.Fn.Kinds.{In}

@@ -1,14 +1,11 @@
 use Prim.Native.Nat.{ℕ, _+_, _-_, _*_, _^_, _≤_, _<_}
 use native.Mathlib.Omega.{arith}
 use mathlib.Core.Path.{_≡_, refl, sym, _∙_, ap}
-use lib.ListN.{length, drop, getD}
+use lib.ListN.{length, drop}
 use Rattle.lines.specs.Parts.{valued}
 use Rattle.lines.proofs.Words.{digit, no-digit-low, no-digit-high, valued-more, valued-stop, valued-end, more-digits, ten-digits}
 use Rattle.lines.proofs.digits_value.Statement.{statement}
 use Rattle.lines.proofs.digits_value.Tie as tie
-use Rattle.lines.proofs.digits_value.Reads as reads
-use Rattle.lines.proofs.digits_value.Lts as lts
-use Rattle.lines.proofs.wide.Reads as wide-reads
 
 abbrev Inv-loop : tie.InvT-loop
 Inv-loop digits value₀ i₀ value i = (i ≤ length digits) × (value < 10 ^ i) × (valued 0 digits ≡ valued value (drop i digits))

@@ -6,9 +6,6 @@ use lib.ListN.{take}
 use Rattle.lines.specs.JobLine.{place}
 use Rattle.lines.proofs.front.Statement.{statement}
 use Rattle.lines.proofs.front.Tie as tie
-use Rattle.lines.proofs.front.Reads as reads
-use Rattle.lines.proofs.front.Lts as lts
-use Rattle.lines.proofs.place.Reads as place-reads
 
 place-requires : tie.Need-place-requires
 place-requires c κs = search needs

@@ -1,19 +1,11 @@
-use native.Mathlib.Omega.{arith}
 use mathlib.Core.List.{List}
 use Prim.Native.Nat.{ℕ}
-use mathlib.Core.Path.{_≡_, ap, _∙_, sym}
+use mathlib.Core.Path.{ap, _∙_, sym}
 use borrow.Author.Needs.{needs}
 use Rattle.lexer.specs.Lex.{same, bytes}
 use Rattle.lines.proofs.Words.{no-job, read-line}
 use Rattle.lines.proofs.job_in.Statement.{statement}
 use Rattle.lines.proofs.job_in.Tie as tie
-use Rattle.lines.proofs.job_in.Reads as reads
-use Rattle.lines.proofs.job_in.Lts as lts
-use Rattle.lexer.proofs.same_bytes.Reads as same-bytes-reads
-use Rattle.lines.proofs.front.Reads as front-reads
-use Rattle.lines.proofs.job_with.Reads as job-with-reads
-use Rattle.lines.proofs.number.Reads as number-reads
-use Rattle.lines.proofs.tail.Reads as tail-reads
 
 front-requires : tie.Need-front-requires
 front-requires c κs = search needs

@@ -7,10 +7,6 @@ use Rattle.lines.specs.JobLine.{place, jobIn}
 use Rattle.lines.proofs.Words.{no-line, a-line}
 use Rattle.lines.proofs.job_line.Statement.{statement}
 use Rattle.lines.proofs.job_line.Tie as tie
-use Rattle.lines.proofs.job_line.Reads as reads
-use Rattle.lines.proofs.job_line.Lts as lts
-use Rattle.lines.proofs.job_in.Reads as job-in-reads
-use Rattle.lines.proofs.place.Reads as place-reads
 
 place-requires : tie.Need-place-requires
 place-requires c κs = search needs

@@ -3,15 +3,12 @@ use mir.Syntax.{w32}
 use mir.Val.{toZ, ofZ, Fits}
 use mir.ValLaws.{toZ-fits}
 use mir.Facts.{toZ-ofZ}
-use mathlib.Core.Path.{_≡_, refl, sym, _∙_, ap}
+use mathlib.Core.Path.{_≡_, sym, _∙_, ap}
 use borrow.Author.Needs.{needs}
 use Rattle.lines.specs.Parts.{read}
 use Rattle.lines.proofs.Words.{read-none, read-signed, read-plain, no-high, no-steps}
 use Rattle.lines.proofs.job_with.Statement.{statement}
 use Rattle.lines.proofs.job_with.Tie as tie
-use Rattle.lines.proofs.job_with.Reads as reads
-use Rattle.lines.proofs.job_with.Lts as lts
-use Rattle.ints.proofs.signed.Reads as signed-reads
 
 returns : tie.Need-returns
 returns c = rw (read-none (c .before .args .low) (c .if1 .taken))

@@ -1,16 +1,8 @@
-use Prim.Native.Nat.{ℕ}
-use mathlib.Core.Path.{_≡_, refl, sym, ap, _∙_}
-use mathlib.Core.Bool.{Bool, _||_}
-use lib.ListN.{length}
-use lib.Dec.{ltb, leb}
 use borrow.Author.Tests.{le-leb, lt-leb}
 use Rattle.lines.specs.JobLine.{place}
 use borrow.Author.Needs.{needs}
 use Rattle.lines.proofs.line_settled.Statement.{statement}
 use Rattle.lines.proofs.line_settled.Tie as tie
-use Rattle.lines.proofs.line_settled.Reads as reads
-use Rattle.lines.proofs.line_settled.Lts as lts
-use Rattle.lines.proofs.place.Reads as place-reads
 
 returns : tie.Need-returns
 returns c = rw (le-leb _ _ (c .if1 .taken))

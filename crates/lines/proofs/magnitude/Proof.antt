@@ -1,14 +1,11 @@
 use native.Mathlib.Omega.{arith}
-use mathlib.Core.Path.{_≡_, refl, sym, _∙_, ap}
+use mathlib.Core.Path.{sym, _∙_}
 use borrow.Author.Needs.{needs}
 use borrow.Author.Tests.{le-leb, lt-leb}
 use lib.ListN.{length}
 use Rattle.lines.proofs.Words.{no-magnitude, a-magnitude}
 use Rattle.lines.proofs.magnitude.Statement.{statement}
 use Rattle.lines.proofs.magnitude.Tie as tie
-use Rattle.lines.proofs.magnitude.Reads as reads
-use Rattle.lines.proofs.magnitude.Lts as lts
-use Rattle.lines.proofs.digits_value.Reads as digits-value-reads
 
 returns : tie.Need-returns
 returns c = sym (no-magnitude (c .before .before .args .digits .now) (rw (lt-leb 1 (length (c .before .before .args .digits .now)) (omega (arith, c .if1 .taken)))))

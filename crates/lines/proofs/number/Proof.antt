@@ -1,14 +1,10 @@
-use native.Mathlib.Omega.{arith}
-use mathlib.Core.Path.{_≡_, ap, _∙_, sym}
+use mathlib.Core.Path.{ap, _∙_}
 use borrow.Author.Needs.{needs}
 use lib.ListN.{drop}
 use Rattle.lines.specs.Parts.{magnitudeOf}
 use Rattle.lines.proofs.Words.{whole-rest, no-number, with-minus, without-minus, minus-zero, minus-good, minus-none, plain-good, plain-none}
 use Rattle.lines.proofs.number.Statement.{statement}
 use Rattle.lines.proofs.number.Tie as tie
-use Rattle.lines.proofs.number.Reads as reads
-use Rattle.lines.proofs.number.Lts as lts
-use Rattle.lines.proofs.magnitude.Reads as magnitude-reads
 
 returns : tie.Need-returns
 returns c = no-number (c .before .before .args .word .now) (c .if1 .taken)

@@ -1,4 +1,4 @@
-use Prim.Native.Nat.{ℕ, _+_, _-_, _≤_, _<_}
+use Prim.Native.Nat.{_+_, _-_, _≤_}
 use native.Mathlib.Omega.{arith}
 use mathlib.Core.Path.{_≡_}
 use lib.ListN.{length, drop}
@@ -6,8 +6,6 @@ use Rattle.lines.specs.JobLine.{place}
 use Rattle.lines.proofs.Words.{place-here, place-later, place-end}
 use Rattle.lines.proofs.place.Statement.{statement}
 use Rattle.lines.proofs.place.Tie as tie
-use Rattle.lines.proofs.place.Reads as reads
-use Rattle.lines.proofs.place.Lts as lts
 
 abbrev Inv-loop : tie.InvT-loop
 Inv-loop s b i₀ i = (i ≤ length s) × (place b s ≡ i + place b (drop i s))

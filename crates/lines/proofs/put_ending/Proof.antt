@@ -1,17 +1,13 @@
-use Prim.Native.Nat.{ℕ, _+_, _-_, _*_, _≤_, _<_}
+use Prim.Native.Nat.{ℕ, _-_}
 use native.Mathlib.Omega.{arith}
-use mathlib.Core.Path.{_≡_, refl, sym, _∙_, ap}
-use mathlib.Core.List.{List, _++_}
+use mathlib.Core.Path.{sym, ap}
 use borrow.Author.Needs.{needs}
-use Rattle.lines.proofs.Puts.{and-then, put-as, put-length, put-none}
+use Rattle.lines.proofs.Puts.{put-as}
 use Rattle.lines.specs.Print.{ending}
 use Rattle.lines.specs.Written.{endingAt}
 use Rattle.lines.proofs.Lines.{last-ending}
 use Rattle.lines.proofs.put_ending.Statement.{statement}
 use Rattle.lines.proofs.put_ending.Tie as tie
-use Rattle.lines.proofs.put_ending.Reads as reads
-use Rattle.lines.proofs.put_ending.Lts as lts
-use Rattle.lines.proofs.put_bytes.Reads as put-bytes-reads
 
 slice-aggregate-put-bytes : tie.Need-slice-aggregate-put-bytes
 slice-aggregate-put-bytes c = search needs

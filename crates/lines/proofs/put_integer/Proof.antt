@@ -1,19 +1,13 @@
-use Prim.Native.Nat.{ℕ, _+_, _-_, _*_, _≤_, _<_}
-use native.Mathlib.Omega.{arith}
-use mathlib.Core.Path.{_≡_, refl, sym, _∙_, ap}
-use mathlib.Core.List.{List, _++_}
+use Prim.Native.Nat.{_-_}
+use mathlib.Core.Path.{_≡_}
 use borrow.Author.Needs.{needs}
-use Rattle.lines.proofs.Puts.{and-then, put-as, put-length, put-none}
+use Rattle.lines.proofs.Puts.{put-as}
 use mir.Syntax.{w32}
 use mir.Val.{toZ}
 use mir.Facts.{toZ-ofZ}
 use Rattle.lines.specs.Print.{integer}
 use Rattle.lines.proofs.put_integer.Statement.{statement}
 use Rattle.lines.proofs.put_integer.Tie as tie
-use Rattle.lines.proofs.put_integer.Reads as reads
-use Rattle.lines.proofs.put_integer.Lts as lts
-use Rattle.ints.proofs.word.Reads as word-reads
-use Rattle.lines.proofs.put_word.Reads as put-word-reads
 
 word-requires : tie.Need-word-requires
 word-requires c κs = search needs

@@ -1,20 +1,15 @@
-use Prim.Native.Nat.{ℕ, _+_, _-_, _*_, _≤_, _<_}
+use Prim.Native.Nat.{_+_, _-_}
 use native.Mathlib.Omega.{arith}
-use mathlib.Core.Path.{_≡_, refl, sym, _∙_, ap}
-use mathlib.Core.List.{List, _++_, append-assoc}
+use mathlib.Core.Path.{sym}
+use mathlib.Core.List.{_++_, append-assoc}
 use Rattle.lexer.specs.Lex.{bytes}
 use borrow.Author.Needs.{needs}
-use Rattle.lines.proofs.Puts.{and-then, put-as, put-length, put-none}
+use Rattle.lines.proofs.Puts.{and-then, put-as, put-length}
 use Rattle.lines.specs.Print.{lastLine, lineEnd, ending, natural}
 use Rattle.lines.specs.Written.{endingAt}
 use Rattle.lines.proofs.Decimal.{word-length}
 use Rattle.lines.proofs.put_last_line.Statement.{statement}
 use Rattle.lines.proofs.put_last_line.Tie as tie
-use Rattle.lines.proofs.put_last_line.Reads as reads
-use Rattle.lines.proofs.put_last_line.Lts as lts
-use Rattle.lines.proofs.put_bytes.Reads as put-bytes-reads
-use Rattle.lines.proofs.put_ending.Reads as put-ending-reads
-use Rattle.lines.proofs.put_natural.Reads as put-natural-reads
 
 put-ending-requires : tie.Need-put-ending-requires
 put-ending-requires c κs = search needs

@@ -1,24 +1,17 @@
-use Prim.Native.Nat.{ℕ, _+_, _-_, _*_, _≤_, _<_}
+use Prim.Native.Nat.{_+_, _-_}
 use native.Mathlib.Omega.{arith}
-use mathlib.Core.Path.{_≡_, refl, sym, _∙_, ap}
+use mathlib.Core.Path.{_≡_, _∙_, ap}
 use borrow.Author.Needs.{needs}
-use lib.ListN.{length, drop, getD}
-use lib.IntN.{ℤ, pos}
+use lib.ListN.{getD}
+use lib.IntN.{pos}
 use mir.Syntax.{w32}
-use mir.Val.{toZ, ofZ, SFits}
+use mir.Val.{SFits}
 use mir.Facts.{toZ-ofZ}
 use Rattle.lines.specs.Written.{countOf}
-use Rattle.lines.proofs.Puts.{and-then, put-as, put-length, put-none}
+use Rattle.lines.proofs.Puts.{and-then, put-as}
 use Rattle.lines.proofs.Lines.{row-line}
 use Rattle.lines.proofs.put_row.Statement.{statement}
 use Rattle.lines.proofs.put_row.Tie as tie
-use Rattle.lines.proofs.put_row.Reads as reads
-use Rattle.lines.proofs.put_row.Lts as lts
-use Rattle.ints.proofs.word.Reads as word-reads
-use Rattle.lines.proofs.put_bytes.Reads as put-bytes-reads
-use Rattle.lines.proofs.put_integer.Reads as put-integer-reads
-use Rattle.lines.proofs.put_values.Reads as put-values-reads
-use Rattle.lines.proofs.value_count.Reads as value-count-reads
 
 mul-put-integer : tie.Need-mul-put-integer
 mul-put-integer c = search needs

@@ -1,16 +1,13 @@
-use Prim.Native.Nat.{ℕ, _+_, _-_, _*_, _≤_, _<_}
+use Prim.Native.Nat.{ℕ, _+_, _-_, _*_, _≤_}
 use native.Mathlib.Omega.{arith}
-use mathlib.Core.Path.{_≡_, refl, sym, _∙_, ap}
-use lib.ListN.{length, drop}
+use mathlib.Core.Path.{_≡_, ap}
+use lib.ListN.{drop}
 use Rattle.lines.specs.Print.{rowLines}
 use Rattle.lines.specs.Written.{Put, rowsFrom}
 use Rattle.lines.proofs.Puts.{and-then, put-as, put-length, put-none}
 use Rattle.lines.proofs.Lines.{rows-more}
 use Rattle.lines.proofs.put_rows.Statement.{statement}
 use Rattle.lines.proofs.put_rows.Tie as tie
-use Rattle.lines.proofs.put_rows.Reads as reads
-use Rattle.lines.proofs.put_rows.Lts as lts
-use Rattle.lines.proofs.put_row.Reads as put-row-reads
 
 abbrev Inv-loop : tie.InvT-loop
 Inv-loop out₀ at rows from n p₀ k₀ out p k = (k ≤ n) × Put out₀ at (rowLines (rowsFrom k (drop (10 * from) rows))) out p × (p ≤ at + 110 * k)

@@ -1,16 +1,10 @@
-use Prim.Native.Nat.{ℕ, _+_, _-_, _*_, _≤_, _<_}
+use Prim.Native.Nat.{_-_}
 use native.Mathlib.Omega.{arith}
-use mathlib.Core.Path.{_≡_, refl, sym, _∙_, ap}
-use mathlib.Core.List.{List, _++_}
 use borrow.Author.Needs.{needs}
-use Rattle.lines.proofs.Puts.{and-then, put-as, put-length, put-none}
+use Rattle.lines.proofs.Puts.{and-then}
 use mir.Facts.{toZ-ofZ}
 use Rattle.lines.proofs.put_value.Statement.{statement}
 use Rattle.lines.proofs.put_value.Tie as tie
-use Rattle.lines.proofs.put_value.Reads as reads
-use Rattle.lines.proofs.put_value.Lts as lts
-use Rattle.lines.proofs.put_bytes.Reads as put-bytes-reads
-use Rattle.lines.proofs.put_integer.Reads as put-integer-reads
 
 slice-aggregate-put-bytes : tie.Need-slice-aggregate-put-bytes
 slice-aggregate-put-bytes c = search needs

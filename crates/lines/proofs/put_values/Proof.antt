@@ -1,10 +1,8 @@
-use Prim.Native.Nat.{ℕ, _+_, _-_, _*_, _≤_, _<_}
+use Prim.Native.Nat.{ℕ, _+_, _-_, _*_, _≤_}
 use native.Mathlib.Omega.{arith}
-use mathlib.Core.Path.{_≡_, refl, sym, _∙_, ap}
-use mathlib.Core.List.{List, _++_}
-use borrow.Author.Needs.{needs}
+use mathlib.Core.Path.{_≡_, ap}
 use Rattle.lines.proofs.Puts.{and-then, put-as, put-length, put-none}
-use lib.ListN.{length, take, drop, getD}
+use lib.ListN.{take, drop, getD}
 use lib.IntN.{pos}
 use mir.Syntax.{w32}
 use mir.Val.{SFits}
@@ -14,9 +12,6 @@ use Rattle.lines.specs.Written.{Put}
 use Rattle.lines.proofs.Lines.{spaced-more}
 use Rattle.lines.proofs.put_values.Statement.{statement}
 use Rattle.lines.proofs.put_values.Tie as tie
-use Rattle.lines.proofs.put_values.Reads as reads
-use Rattle.lines.proofs.put_values.Lts as lts
-use Rattle.lines.proofs.put_value.Reads as put-value-reads
 
 abbrev Inv-loop : tie.InvT-loop
 Inv-loop out₀ at rows from n p₀ k₀ out p k = (k ≤ n) × Put out₀ at (spaced (take k (drop from rows))) out p × (p ≤ at + 12 * k)

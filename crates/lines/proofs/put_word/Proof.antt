@@ -1,16 +1,11 @@
-use Prim.Native.Nat.{ℕ, _+_, _-_, _*_, _≤_, _<_}
+use Prim.Native.Nat.{_-_}
 use native.Mathlib.Omega.{arith}
-use mathlib.Core.Path.{_≡_, refl, sym, _∙_, ap}
-use mathlib.Core.List.{List, _++_}
+use mathlib.Core.Path.{sym}
 use borrow.Author.Needs.{needs}
-use Rattle.lines.proofs.Puts.{and-then, put-as, put-length, put-none}
+use Rattle.lines.proofs.Puts.{and-then, put-as, put-length}
 use Rattle.lines.proofs.Decimal.{word-length, integer-plain, integer-minus}
 use Rattle.lines.proofs.put_word.Statement.{statement}
 use Rattle.lines.proofs.put_word.Tie as tie
-use Rattle.lines.proofs.put_word.Reads as reads
-use Rattle.lines.proofs.put_word.Lts as lts
-use Rattle.lines.proofs.put_bytes.Reads as put-bytes-reads
-use Rattle.lines.proofs.put_natural.Reads as put-natural-reads
 
 put-natural-requires : tie.Need-put-natural-requires
 put-natural-requires c κs = omega (arith, c .before .before .before .pre, word-length (c .before .before .before .args .w) (c .before .before .before .fits .w .fits))

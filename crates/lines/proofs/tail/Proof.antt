@@ -1,15 +1,12 @@
 use Prim.Native.Nat.{ℕ, _+_}
 use native.Mathlib.Omega.{arith}
-use mathlib.Core.Path.{_≡_, ap, _∙_, sym}
+use mathlib.Core.Path.{ap, _∙_, sym}
 use borrow.Author.Needs.{needs}
 use lib.ListN.{drop, drop-of-length-le}
 use Rattle.lines.specs.JobLine.{place}
 use Rattle.lines.proofs.Words.{whole-rest}
 use Rattle.lines.proofs.tail.Statement.{statement}
 use Rattle.lines.proofs.tail.Tie as tie
-use Rattle.lines.proofs.tail.Reads as reads
-use Rattle.lines.proofs.tail.Lts as lts
-use Rattle.lines.proofs.place.Reads as place-reads
 
 place-requires : tie.Need-place-requires
 place-requires c κs = search needs

@@ -1,14 +1,9 @@
-use Prim.Native.Nat.{ℕ, _+_, _-_, _*_, _≤_, _<_}
+use Prim.Native.Nat.{_-_}
 use native.Mathlib.Omega.{arith}
-use mathlib.Core.Path.{_≡_, refl, sym, _∙_, ap}
-use mathlib.Core.List.{List, _++_}
-use borrow.Author.Needs.{needs}
-use Rattle.lines.proofs.Puts.{and-then, put-as, put-length, put-none}
+use mathlib.Core.Path.{sym, _∙_}
 use Rattle.lines.proofs.Lines.{count-plain, count-minus}
 use Rattle.lines.proofs.value_count.Statement.{statement}
 use Rattle.lines.proofs.value_count.Tie as tie
-use Rattle.lines.proofs.value_count.Reads as reads
-use Rattle.lines.proofs.value_count.Lts as lts
 
 returns : tie.Need-returns
 returns c = sym (count-minus (c .before .args .w) (c .if1 .taken) (c .before .fits .w .fits))

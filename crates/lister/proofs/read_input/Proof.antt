@@ -6,11 +6,6 @@ use lib.ListN.{length}
 use lib.Seq.{length-take-le}
 use Rattle.lister.proofs.read_input.Statement.{statement}
 use Rattle.lister.proofs.read_input.Tie as tie
-use Rattle.lister.proofs.read_input.Reads as reads
-use Rattle.lister.proofs.read_input.Lts as lts
-use Rattle.io.proofs.count.Reads as count-reads
-use Rattle.libc.proofs.read.Reads as read-reads
-use Rattle.respond.proofs.is_enough.Reads as is-enough-reads
 
 abbrev Inv-loop : tie.InvT-loop
 Inv-loop buffer₀ n₀ buffer n = (n ≤ length buffer) × (length buffer ≡ length buffer₀)

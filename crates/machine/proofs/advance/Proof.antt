@@ -1,4 +1,4 @@
-use Prim.Native.Nat.{ℕ, _+_, _*_}
+use Prim.Native.Nat.{_+_, _*_}
 use mathlib.Core.Path.{refl}
 use native.Mathlib.Omega.{arith}
 use lib.ListN.{getD}
@@ -6,20 +6,6 @@ use Rattle.machine.proofs.Entries.{past-all, goes-run, goes-from, adv-o
 use borrow.Author.Needs.{needs}
 use Rattle.machine.proofs.advance.Statement.{statement}
 use Rattle.machine.proofs.advance.Tie as tie
-use Rattle.machine.proofs.advance.Reads as reads
-use Rattle.machine.proofs.advance.Lts as lts
-use Rattle.machine.proofs.ask.Reads as ask-reads
-use Rattle.machine.proofs.clear.Reads as clear-reads
-use Rattle.machine.proofs.enter.Reads as enter-reads
-use Rattle.machine.proofs.flagged.Reads as flagged-reads
-use Rattle.machine.proofs.landing.Reads as landing-reads
-use Rattle.machine.proofs.leave.Reads as leave-reads
-use Rattle.machine.proofs.less.Reads as less-reads
-use Rattle.machine.proofs.moved.Reads as moved-reads
-use Rattle.machine.proofs.operate.Reads as operate-reads
-use Rattle.machine.proofs.pair.Reads as pair-reads
-use Rattle.machine.proofs.store.Reads as store-reads
-use Rattle.machine.proofs.take.Reads as take-reads
 
 returns : tie.Need-returns
 returns c =
@@ -93,8 +79,8 @@ add-moved-2 c =
 moved-requires-3 : tie.Need-moved-requires-3
 moved-requires-3 c κs = search needs
 
-less-requires : tie.Need-less-requires
-less-requires c κs = search needs
+monus-requires : tie.Need-monus-requires
+monus-requires c κs = search needs
 
 moved-requires-4 : tie.Need-moved-requires-4
 moved-requires-4 c κs = search needs
@@ -123,7 +109,8 @@ same-length c = search needs
 returns-3 : tie.Need-returns-3
 returns-3 c =
     let a = c .before .before .before .before .before .before .before .before .before .before .before .before .before .args in
-    adv-returned (a .code .now) (a .size) (a .mem .now) (a .run) (c .before .before .before .before .before .before .before .before .before .if1 .left) (c .before .before .before .before .match .keys12) (c .before .before .if3 .taken) (c .take .result .value) (c .take .result .top) (c .take .ensures)
+    adv-returned (a .code .now) (a .size) (a .mem .now) (a .run) (c .before .before .before .before .before .before .before .before .before .if1 .left)
+    (c .before .before .before .before .match .keys12) (c .before .before .if3 .taken) (c .take .result .value) (c .take .result .top) (c .take .ensures)
 
 leave-requires : tie.Need-leave-requires
 leave-requires c κs = search needs
@@ -136,8 +123,14 @@ moved-requires-6 c κs = search needs
 
 operate-requires : tie.Need-operate-requires
 operate-requires c κs =
-    let s = c .before .before .before .before .before .before .before .before .before .before .before .before .before in
-    (omega (arith, s .pre .0), s .pre .2, omega (arith, c .before .if6 .taken, c .before .before .if5 .left), c .before .before .before .before .before .before .before .before .before .if1 .left, s .pre .3, s .pre .4)
+    let s = c .before .before .before .before .before .before .before .before .before .before .before .before .before in (
+      omega (arith, s .pre .0),
+      s .pre .2,
+      omega (arith, c .before .if6 .taken, c .before .before .if5 .left),
+      c .before .before .before .before .before .before .before .before .before .if1 .left,
+      s .pre .3,
+      s .pre .4,
+    )
 
 pair-requires : tie.Need-pair-requires
 pair-requires c κs = search needs
@@ -151,7 +144,8 @@ same-length-2 c = search needs
 returns-4 : tie.Need-returns-4
 returns-4 c =
     let a = c .before .before .before .before .before .before .before .before .before .before .before .before .before .before .before .args in
-    goes-from (adv-call (a .code .now) (a .size) (a .mem .now) (a .run) (c .before .before .before .before .before .before .before .before .before .before .before .if1 .left) (c .before .before .before .before .before .before .match .keys1)) (c .before .before .enter .ensures)
+    goes-from (adv-call (a .code .now) (a .size) (a .mem .now) (a .run) (c .before .before .before .before .before .before .before .before .before .before .before .if1 .left)
+    (c .before .before .before .before .before .before .match .keys1)) (c .before .before .enter .ensures)
 
 returns-5 : tie.Need-returns-5
 returns-5 c =
@@ -169,31 +163,36 @@ returns-7 : tie.Need-returns-7
 returns-7 c =
     let s = c .before .before .before .before .before .before .before .before .before .before .before in
     let a = s .args in
-    goes-run (c .moved .ensures) (adv-jump-false (a .code .now) (a .size) (a .mem .now) (a .run) (c .before .before .before .before .before .before .before .if1 .left) (c .before .before .match .keys4) (c .before .landing .result) (c .before .landing .ensures) (s .pre .2))
+    goes-run (c .moved .ensures) (adv-jump-false (a .code .now) (a .size) (a .mem .now) (a .run) (c .before .before .before .before .before .before .before .if1 .left)
+    (c .before .before .match .keys4) (c .before .landing .result) (c .before .landing .ensures) (s .pre .2))
 
 returns-8 : tie.Need-returns-8
 returns-8 c =
     let s = c .before .before .before .before .before .before .before .before .before .before .before in
     let a = s .args in
-    goes-run (c .moved2 .ensures) (adv-jump-true (a .code .now) (a .size) (a .mem .now) (a .run) (c .before .before .before .before .before .before .before .if1 .left) (c .before .before .match .keys5) (c .before .landing2 .result) (c .before .landing2 .ensures) (s .pre .2))
+    goes-run (c .moved2 .ensures) (adv-jump-true (a .code .now) (a .size) (a .mem .now) (a .run) (c .before .before .before .before .before .before .before .if1 .left)
+    (c .before .before .match .keys5) (c .before .landing2 .result) (c .before .landing2 .ensures) (s .pre .2))
 
 returns-9 : tie.Need-returns-9
 returns-9 c =
     let s = c .before .before .before .before .before .before .before .before .before .before .before in
     let a = s .args in
-    goes-run (c .moved3 .ensures) (adv-skip (a .code .now) (a .size) (a .mem .now) (a .run) (c .before .before .before .before .before .before .before .if1 .left) (c .before .before .match .keys6) (s .pre .2))
+    goes-run (c .moved3 .ensures) (adv-skip (a .code .now) (a .size) (a .mem .now) (a .run) (c .before .before .before .before .before .before .before .if1 .left)
+    (c .before .before .match .keys6) (s .pre .2))
 
 returns-10 : tie.Need-returns-10
 returns-10 c =
     let s = c .before .before .before .before .before .before .before .before .before .before .before in
     let a = s .args in
-    goes-run (c .moved4 .ensures) (adv-again (a .code .now) (a .size) (a .mem .now) (a .run) (c .before .before .before .before .before .before .before .if1 .left) (c .before .before .match .keys7) (c .before .less .result) (c .before .less .ensures) (s .pre .2))
+    goes-run (c .moved4 .ensures) (adv-again (a .code .now) (a .size) (a .mem .now) (a .run) (c .before .before .before .before .before .before .before .if1 .left) (c .before .before .match .keys7)
+    (c .before .monus .result) (c .before .monus .ensures) (s .pre .2))
 
 returns-11 : tie.Need-returns-11
 returns-11 c =
     let s = c .before .before .before .before .before .before .before .before .before .before .before in
     let a = s .args in
-    goes-run (c .moved5 .ensures) (adv-begin (a .code .now) (a .size) (a .mem .now) (a .run) (c .before .before .before .before .before .before .before .if1 .left) (c .before .before .match .keys8) (s .pre .2))
+    goes-run (c .moved5 .ensures) (adv-begin (a .code .now) (a .size) (a .mem .now) (a .run) (c .before .before .before .before .before .before .before .if1 .left)
+    (c .before .before .match .keys8) (s .pre .2))
 
 same-length-3 : tie.Need-same-length-3
 same-length-3 c = search needs
@@ -201,7 +200,8 @@ same-length-3 c = search needs
 returns-12 : tie.Need-returns-12
 returns-12 c =
     let a = c .before .before .before .before .before .before .before .before .before .before .before .before .before .args in
-    adv-clear (a .code .now) (a .size) (a .mem .now) (a .run) (c .before .before .before .before .before .before .before .before .before .if1 .left) (c .before .before .before .before .match .keys9) _ _ (c .before .before .clear .ensures)
+    adv-clear (a .code .now) (a .size) (a .mem .now) (a .run) (c .before .before .before .before .before .before .before .before .before .if1 .left)
+    (c .before .before .before .before .match .keys9) _ _ (c .before .before .clear .ensures)
 
 same-length-4 : tie.Need-same-length-4
 same-length-4 c = search needs
@@ -209,7 +209,8 @@ same-length-4 c = search needs
 returns-13 : tie.Need-returns-13
 returns-13 c =
     let a = c .before .before .before .before .before .before .before .before .before .before .before .before .before .args in
-    adv-ask (a .code .now) (a .size) (a .mem .now) (a .run) (c .before .before .before .before .before .before .before .before .before .if1 .left) (c .before .before .before .before .match .keys10) _ (a .k) _ (c .before .before .ask .ensures)
+    adv-ask (a .code .now) (a .size) (a .mem .now) (a .run) (c .before .before .before .before .before .before .before .before .before .if1 .left)
+    (c .before .before .before .before .match .keys10) _ (a .k) _ (c .before .before .ask .ensures)
 
 same-length-5 : tie.Need-same-length-5
 same-length-5 c = search needs
@@ -217,7 +218,8 @@ same-length-5 c = search needs
 returns-14 : tie.Need-returns-14
 returns-14 c =
     let a = c .before .before .before .before .before .before .before .before .before .before .before .before .before .args in
-    goes-from (adv-store (a .code .now) (a .size) (a .mem .now) (a .run) (c .before .before .before .before .before .before .before .before .before .if1 .left) (c .before .before .before .before .match .keys11)) (c .before .before .store .ensures)
+    goes-from (adv-store (a .code .now) (a .size) (a .mem .now) (a .run) (c .before .before .before .before .before .before .before .before .before .if1 .left)
+    (c .before .before .before .before .match .keys11)) (c .before .before .store .ensures)
 
 same-length-6 : tie.Need-same-length-6
 same-length-6 c = search needs
@@ -225,13 +227,15 @@ same-length-6 c = search needs
 returns-15 : tie.Need-returns-15
 returns-15 c =
     let a = c .before .before .before .before .before .before .before .before .before .before .before .before .before .before .before .args in
-    goes-from (adv-return (a .code .now) (a .size) (a .mem .now) (a .run) (c .before .before .before .before .before .before .before .before .before .before .before .if1 .left) (c .before .before .before .before .before .before .match .keys12)) (c .before .before .leave .ensures)
+    goes-from (adv-return (a .code .now) (a .size) (a .mem .now) (a .run) (c .before .before .before .before .before .before .before .before .before .before .before .if1 .left)
+    (c .before .before .before .before .before .before .match .keys12)) (c .before .before .leave .ensures)
 
 returns-16 : tie.Need-returns-16
 returns-16 c =
     let s = c .before .before .before .before .before .before .before .before .before .before .before .before .before in
     let a = s .args in
-    goes-run (c .moved6 .ensures) (adv-leaf (a .code .now) (a .size) (a .mem .now) (a .run) (c .before .before .before .before .before .before .before .before .before .if1 .left) (c .before .before .before .if4 .left) (c .before .before .if5 .taken) (s .pre .2))
+    goes-run (c .moved6 .ensures) (adv-leaf (a .code .now) (a .size) (a .mem .now) (a .run) (c .before .before .before .before .before .before .before .before .before .if1 .left)
+    (c .before .before .before .if4 .left) (c .before .before .if5 .taken) (s .pre .2))
 
 same-length-7 : tie.Need-same-length-7
 same-length-7 c = search needs
@@ -239,7 +243,8 @@ same-length-7 c = search needs
 returns-17 : tie.Need-returns-17
 returns-17 c =
     let a = c .before .before .before .before .before .before .before .before .before .before .before .before .before .before .before .before .args in
-    goes-from (adv-op (a .code .now) (a .size) (a .mem .now) (a .run) (c .before .before .before .before .before .before .before .before .before .before .before .before .if1 .left) (c .before .before .before .before .before .if5 .left) (c .before .before .before .before .if6 .taken)) (c .before .before .operate .ensures)
+    goes-from (adv-op (a .code .now) (a .size) (a .mem .now) (a .run) (c .before .before .before .before .before .before .before .before .before .before .before .before .if1 .left)
+    (c .before .before .before .before .before .if5 .left) (c .before .before .before .before .if6 .taken)) (c .before .before .operate .ensures)
 
 same-length-8 : tie.Need-same-length-8
 same-length-8 c = search needs
@@ -248,7 +253,9 @@ returns-18 : tie.Need-returns-18
 returns-18 c =
     let s = c .before .before .before .before .before .before .before .before .before .before .before .before .before .before .before .before in
     let a = s .args in
-    adv-cmp (a .code .now) (a .size) (a .mem .now) (a .run) (c .before .before .before .before .before .before .before .before .before .before .before .before .if1 .left) (c .before .before .before .before .if6 .left) (c .before .before .before .if7 .taken) (c .before .pair .result .left) (c .before .pair .result .right) (c .before .pair .result .top) (s .pre .2) (c .before .pair .ensures)
+    adv-cmp (a .code .now) (a .size) (a .mem .now) (a .run) (c .before .before .before .before .before .before .before .before .before .before .before .before .if1 .left)
+    (c .before .before .before .before .if6 .left) (c .before .before .before .if7 .taken) (c .before .pair .result .left) (c .before .pair .result .right) (c .before .pair .result .top)
+    (s .pre .2) (c .before .pair .ensures)
 
 returns-19 : tie.Need-returns-19
 returns-19 c =
@@ -260,7 +267,8 @@ returns-20 c =
     let a = c .before .before .before .before .before .before .before .before .before .before .before .before .before .args in
     let r = c .before .before .before .before .match .rest in (
       adv-big (a .code .now) (a .size) (a .mem .now) (a .run) (c .before .before .before .before .before .before .before .before .before .if1 .left)
-          (past-all (getD (a .code .now) (2 * a .run .pc) 0) (c .if7 .left) (r .0 .0 .0 .0 .0 .0 .0 .0 .0 .0 .0 .1) (r .0 .0 .0 .0 .0 .0 .0 .0 .0 .0 .1) (r .0 .0 .0 .0 .0 .0 .0 .0 .0 .1) (r .0 .0 .0 .0 .0 .0 .0 .0 .1) (r .0 .0 .0 .0 .0 .0 .0 .1) (r .0 .0 .0 .0 .0 .0 .1)
+          (past-all (getD (a .code .now) (2 * a .run .pc) 0) (c .if7 .left) (r .0 .0 .0 .0 .0 .0 .0 .0 .0 .0 .0 .1) (r .0 .0 .0 .0 .0 .0 .0 .0 .0 .0 .1) (r .0 .0 .0 .0 .0 .0 .0 .0 .0 .1)
+          (r .0 .0 .0 .0 .0 .0 .0 .0 .1) (r .0 .0 .0 .0 .0 .0 .0 .1) (r .0 .0 .0 .0 .0 .0 .1)
           (r .0 .0 .0 .0 .0 .1) (r .0 .0 .0 .0 .1) (r .0 .0 .0 .1) (r .0 .0 .1) (r .0 .1) (r .1)),
       refl,
     )
@@ -289,7 +297,7 @@ advance-spec =
     add-moved
     add-moved-2
     moved-requires-3
-    less-requires
+    monus-requires
     moved-requires-4
     add-moved-3
     moved-requires-5

@@ -3,10 +3,6 @@ use Rattle.machine.proofs.Moves.{asked}
 use borrow.Author.Needs.{needs}
 use Rattle.machine.proofs.ask.Statement.{statement}
 use Rattle.machine.proofs.ask.Tie as tie
-use Rattle.machine.proofs.ask.Reads as reads
-use Rattle.machine.proofs.ask.Lts as lts
-use Rattle.machine.proofs.node.Reads as node-reads
-use Rattle.machine.proofs.put.Reads as put-reads
 
 node-requires : tie.Need-node-requires
 node-requires c κs = search needs
@@ -37,7 +33,8 @@ returns c =
     let s = c .before .before .before .before .before .before .before .before .before .before .before .before .before in
     let n = c .before .before .before .before .before .before .before .before .before .before .node in
     let p = c .before .before .before .before .put in
-    asked (s .args .mem .now) (n .last .0) (p .last .0) (s .args .run) (s .args .a .0) (s .args .k) (s .pre .0) (s .pre .1) (s .pre .3) (omega (arith, n .kept .0, p .kept .0)) (n .ensures) (p .ensures)
+    asked (s .args .mem .now) (n .last .0) (p .last .0) (s .args .run) (s .args .a .0) (s .args .k) (s .pre .0) (s .pre .1) (s .pre .3)
+    (omega (arith, n .kept .0, p .kept .0)) (n .ensures) (p .ensures)
 
 pub ask-spec : {M : Type 1} → statement M
 ask-spec =

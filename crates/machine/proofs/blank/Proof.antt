@@ -7,9 +7,6 @@ use Rattle.machine.specs.Contracts.{Blank}
 use Rattle.machine.proofs.Arguments.{blank-none, blank-more}
 use Rattle.machine.proofs.blank.Statement.{statement}
 use Rattle.machine.proofs.blank.Tie as tie
-use Rattle.machine.proofs.blank.Reads as reads
-use Rattle.machine.proofs.blank.Lts as lts
-use Rattle.machine.proofs.put.Reads as put-reads
 
 abbrev Inv-loop : tie.InvT-loop
 Inv-loop mem₀ at i₀ mem i = Blank mem₀ mem at i × (i ≤ 16) × (length mem ≡ length mem₀)
@@ -39,8 +36,11 @@ loop-again : tie.Need-loop-again Inv-loop μ-loop
 loop-again c =
     let s = c .before .before .before .before .before .before .before in
     let l = c .before .before .before .before .before .loop in
-    let p = c .before .before .put in
-    (blank-more (s .args .mem .now) (l .mem) (p .last .0) (s .args .at) (l .i) (c .before .before .before .before .loop-test .taken) (l .inv .0) (p .ensures), omega arith, omega (arith, p .kept .0, l .inv .2))
+    let p = c .before .before .put in (
+      blank-more (s .args .mem .now) (l .mem) (p .last .0) (s .args .at) (l .i) (c .before .before .before .before .loop-test .taken) (l .inv .0) (p .ensures),
+      omega arith,
+      omega (arith, p .kept .0, l .inv .2),
+    )
 
 same-length : tie.Need-same-length Inv-loop μ-loop
 same-length c = search needs

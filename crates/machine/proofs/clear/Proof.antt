@@ -3,9 +3,6 @@ use Rattle.machine.proofs.Moves.{cleared}
 use borrow.Author.Needs.{needs}
 use Rattle.machine.proofs.clear.Statement.{statement}
 use Rattle.machine.proofs.clear.Tie as tie
-use Rattle.machine.proofs.clear.Reads as reads
-use Rattle.machine.proofs.clear.Lts as lts
-use Rattle.machine.proofs.put.Reads as put-reads
 
 mul-put : tie.Need-mul-put
 mul-put c = search needs

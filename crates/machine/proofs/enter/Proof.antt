@@ -5,9 +5,6 @@ use Rattle.machine.proofs.Arguments.{entered}
 use borrow.Author.Needs.{needs}
 use Rattle.machine.proofs.enter.Statement.{statement}
 use Rattle.machine.proofs.enter.Tie as tie
-use Rattle.machine.proofs.enter.Reads as reads
-use Rattle.machine.proofs.enter.Lts as lts
-use Rattle.machine.proofs.gather.Reads as gather-reads
 
 gather-requires : tie.Need-gather-requires
 gather-requires c κs = search needs

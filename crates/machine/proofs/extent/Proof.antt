@@ -4,8 +4,6 @@ use Rattle.machine.proofs.Arguments.{extent-is, extent-other, extent-ou
 use borrow.Author.Needs.{needs}
 use Rattle.machine.proofs.extent.Statement.{statement}
 use Rattle.machine.proofs.extent.Tie as tie
-use Rattle.machine.proofs.extent.Reads as reads
-use Rattle.machine.proofs.extent.Lts as lts
 
 mul-if2 : tie.Need-mul-if2
 mul-if2 c = search needs

@@ -8,13 +8,6 @@ use Rattle.machine.specs.Contracts.{Gathering}
 use Rattle.machine.proofs.Arguments.{gathering-none, gathering-all, gathering-turn, gathering-skip}
 use Rattle.machine.proofs.gather.Statement.{statement}
 use Rattle.machine.proofs.gather.Tie as tie
-use Rattle.machine.proofs.gather.Reads as reads
-use Rattle.machine.proofs.gather.Lts as lts
-use Rattle.machine.proofs.blank.Reads as blank-reads
-use Rattle.machine.proofs.extent.Reads as extent-reads
-use Rattle.machine.proofs.less.Reads as less-reads
-use Rattle.machine.proofs.put.Reads as put-reads
-use Rattle.machine.proofs.take.Reads as take-reads
 
 abbrev Inv-loop : tie.InvT-loop
 Inv-loop code size mem₀ run n at k₀ j₀ top₀ mem k j top = Gathering (codeIn code size) mem₀ mem run n k j top × (length mem ≡ length mem₀)
@@ -41,8 +34,8 @@ loop-holds c =
 sub-k : tie.Need-sub-k Inv-loop μ-loop
 sub-k c = search needs
 
-less-requires : tie.Need-less-requires Inv-loop μ-loop
-less-requires c κs = search needs
+monus-requires : tie.Need-monus-requires Inv-loop μ-loop
+monus-requires c κs = search needs
 
 take-requires : tie.Need-take-requires Inv-loop μ-loop
 take-requires c κs = (c .before .before .before .before .before .before .before .before .before .before .before .pre .0, c .before .before .before .loop .inv .0 .ready)
@@ -50,8 +43,8 @@ take-requires c κs = (c .before .before .before .before .before .before .before
 extent-requires : tie.Need-extent-requires Inv-loop μ-loop
 extent-requires c κs = search needs
 
-less-requires-2 : tie.Need-less-requires-2 Inv-loop μ-loop
-less-requires-2 c κs = search needs
+monus-requires-2 : tie.Need-monus-requires-2 Inv-loop μ-loop
+monus-requires-2 c κs = search needs
 
 mul-put : tie.Need-mul-put Inv-loop μ-loop
 mul-put c = search needs
@@ -75,13 +68,15 @@ loop-again c =
     let a = s .args in
     let l = c .before .before .before .before .before .before .before .before .before .before .before .loop in
     let k = c .before .before .before .before .before .before .before .before .before .before .before .before .before .before .blank in
-    let e = c .before .before .before .before .before .before .before .before .before .less in
+    let e = c .before .before .before .before .before .before .before .before .before .monus in
     let t = c .before .before .before .before .before .before .before .take in
     let d = c .before .before .before .before .before .before .extent in
-    let j = c .before .before .before .before .before .less2 in
+    let j = c .before .before .before .before .before .monus2 in
     let p = c .before .before .put in (
-      gathering-turn (a .code .now) (a .size) (k .last .0) (a .run) (a .n) (s .pre .2) (l .mem) (e .result) (t .result .value) (l .top) (t .result .top) (d .result) (j .result) (t .ensures) (d .ensures) (j .ensures)
-          (p .last .0) (l .k) (l .j) (c .before .before .before .before .before .before .before .before .before .before .loop-test .taken) (e .ensures) (l .inv .0) (c .before .before .before .before .if1 .taken) (omega (arith, p .kept .0)) (p .ensures),
+      gathering-turn (a .code .now) (a .size) (k .last .0) (a .run) (a .n) (s .pre .2) (l .mem) (e .result) (t .result .value) (l .top) (t .result .top) (d .result) (j .result)
+          (t .ensures) (d .ensures) (j .ensures)
+          (p .last .0) (l .k) (l .j) (c .before .before .before .before .before .before .before .before .before .before .loop-test .taken) (e .ensures) (l .inv .0)
+          (c .before .before .before .before .if1 .taken) (omega (arith, p .kept .0)) (p .ensures),
       omega (arith, p .kept .0, l .inv .1),
     )
 
@@ -94,11 +89,12 @@ loop-again-2 c =
     let a = s .args in
     let l = c .before .before .before .before .before .before .before .loop in
     let k = c .before .before .before .before .before .before .before .before .before .before .blank in
-    let e = c .before .before .before .before .before .less in
+    let e = c .before .before .before .before .before .monus in
     let t = c .before .before .before .take in
     let d = c .before .before .extent in
-    let j = c .before .less2 in (
-      gathering-skip (a .code .now) (a .size) (k .last .0) (a .run) (a .n) (s .pre .2) (l .mem) (e .result) (t .result .value) (l .top) (t .result .top) (d .result) (j .result) (t .ensures) (d .ensures) (j .ensures)
+    let j = c .before .monus2 in (
+      gathering-skip (a .code .now) (a .size) (k .last .0) (a .run) (a .n) (s .pre .2) (l .mem) (e .result) (t .result .value) (l .top) (t .result .top) (d .result) (j .result)
+          (t .ensures) (d .ensures) (j .ensures)
           (l .k) (l .j) (c .before .before .before .before .before .before .loop-test .taken) (e .ensures) (l .inv .0) (c .if1 .left),
       l .inv .1,
     )
@@ -126,10 +122,10 @@ gather-spec =
     blank-requires
     loop-holds
     sub-k
-    less-requires
+    monus-requires
     take-requires
     extent-requires
-    less-requires-2
+    monus-requires-2
     mul-put
     add-put
     put-requires

@@ -3,8 +3,6 @@ use Rattle.machine.proofs.Entries.{land-over, land-next}
 use borrow.Author.Needs.{needs}
 use Rattle.machine.proofs.landing.Statement.{statement}
 use Rattle.machine.proofs.landing.Tie as tie
-use Rattle.machine.proofs.landing.Reads as reads
-use Rattle.machine.proofs.landing.Lts as lts
 
 add-result : tie.Need-add-result
 add-result c = search needs

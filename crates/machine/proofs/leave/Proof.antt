@@ -1,13 +1,10 @@
-use Prim.Native.Nat.{_+_, _-_, _*_}
+use Prim.Native.Nat.{_-_}
 use native.Mathlib.Omega.{arith}
+use Rattle.machine.specs.Layout.{callerPlace, callerBase}
 use Rattle.machine.proofs.Moves.{left-from}
 use borrow.Author.Needs.{needs}
 use Rattle.machine.proofs.leave.Statement.{statement}
 use Rattle.machine.proofs.leave.Tie as tie
-use Rattle.machine.proofs.leave.Reads as reads
-use Rattle.machine.proofs.leave.Lts as lts
-use Rattle.machine.proofs.put.Reads as put-reads
-use Rattle.machine.proofs.take.Reads as take-reads
 
 take-requires : tie.Need-take-requires
 take-requires c κs = search needs
@@ -28,7 +25,7 @@ slice-read-pc : tie.Need-slice-read-pc
 slice-read-pc c = search needs
 
 cast-pc : tie.Need-cast-pc
-cast-pc c = omega (arith, c .slice-known2 .given (1056 + 2 * (c .before .before .before .before .before .before .args .run .depth - 1)))
+cast-pc c = omega (arith, c .slice-known2 .given (callerPlace (c .before .before .before .before .before .before .args .run .depth - 1)))
 
 mul-base : tie.Need-mul-base
 mul-base c = search needs
@@ -43,7 +40,7 @@ slice-read-base : tie.Need-slice-read-base
 slice-read-base c = search needs
 
 cast-base : tie.Need-cast-base
-cast-base c = omega (arith, c .slice-known3 .given (1057 + 2 * (c .before .before .before .before .before .before .before .args .run .depth - 1)))
+cast-base c = omega (arith, c .slice-known3 .given (callerBase (c .before .before .before .before .before .before .before .args .run .depth - 1)))
 
 mul-put : tie.Need-mul-put
 mul-put c = search needs

@@ -8,9 +8,6 @@ use Rattle.machine.specs.Memory.{cellAs}
 use borrow.Author.Needs.{needs}
 use Rattle.machine.proofs.load.Statement.{statement}
 use Rattle.machine.proofs.load.Tie as tie
-use Rattle.machine.proofs.load.Reads as reads
-use Rattle.machine.proofs.load.Lts as lts
-use Rattle.ints.proofs.signed.Reads as signed-reads
 
 cell-open : (n x : ℕ) → (n ≡ 0 → ⊥) → Open x ≡ cellAs n x
 cell-open zero x h = absurd (h refl)
@@ -49,10 +46,14 @@ cast-t18 c = omega (arith, c .shared-slice-known4 .given (c .before .before .bef
 returns : tie.Need-returns
 returns c =
     let s = c .before .before .before .before .before .args in
-    (ap Known (toZ-ofZ (record { sfits = c .signed .ok }) ∙ c .signed .ensures) ∙ ap (λ (n : ℕ). cellAs n (getD (s .mem .now) (s .at + 1) 0)) (sym (c .before .before .if1 .taken)), search needs)
+    record {
+      is = ap Known (toZ-ofZ (record { sfits = c .signed .ok }) ∙ c .signed .ensures)
+          ∙ ap (λ (n : ℕ). cellAs n (getD (s .mem .now) (s .at + 1) 0)) (sym (c .before .before .if1 .taken));
+      sized = search needs;
+    }
 
 returns-2 : tie.Need-returns-2
-returns-2 c = (cell-open _ _ (c .before .if1 .left), omega (arith, c .shared-slice-known4 .given (c .before .before .before .before .args .at + 1)))
+returns-2 c = record { is = cell-open _ _ (c .before .if1 .left); sized = omega (arith, c .shared-slice-known4 .given (c .before .before .before .before .args .at + 1)) }
 
 pub load-spec : {M : Type 1} → statement M
 load-spec =

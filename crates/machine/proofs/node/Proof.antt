@@ -4,8 +4,6 @@ use Rattle.machine.proofs.Tables.{noded}
 use borrow.Author.Needs.{needs}
 use Rattle.machine.proofs.node.Statement.{statement}
 use Rattle.machine.proofs.node.Tie as tie
-use Rattle.machine.proofs.node.Reads as reads
-use Rattle.machine.proofs.node.Lts as lts
 
 mul-at : tie.Need-mul-at
 mul-at c = search needs

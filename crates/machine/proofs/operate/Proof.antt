@@ -4,11 +4,6 @@ use Rattle.machine.proofs.Moves.{operated}
 use borrow.Author.Needs.{needs}
 use Rattle.machine.proofs.operate.Statement.{statement}
 use Rattle.machine.proofs.operate.Tie as tie
-use Rattle.machine.proofs.operate.Reads as reads
-use Rattle.machine.proofs.operate.Lts as lts
-use Rattle.machine.proofs.pair.Reads as pair-reads
-use Rattle.machine.proofs.put.Reads as put-reads
-use Rattle.machine.proofs.work.Reads as work-reads
 
 pair-requires : tie.Need-pair-requires
 pair-requires c κs = search needs
@@ -45,7 +40,8 @@ returns c =
     let p = c .before .before .before .before .before .before .before .before .before .before .before .pair in
     let w = c .before .before .before .before .before .before .before .before .before .work in
     let q = c .before .before .before .before .put in
-    operated (a .code .now) (a .size) (a .mem .now) (w .last .0) (q .last .0) (a .run) (operation (a .op)) (a .d) (p .result .left) (p .result .right) (w .result .value) (p .result .top) (w .result .nodes)
+    operated (a .code .now) (a .size) (a .mem .now) (w .last .0) (q .last .0) (a .run) (operation (a .op)) (a .d) (p .result .left) (p .result .right) (w .result .value)
+    (p .result .top) (w .result .nodes)
     (s .pre .1) (s .pre .4) (s .pre .5) (omega (arith, w .kept .0, q .kept .0)) (p .ensures) (w .ensures) (q .ensures)
 
 pub operate-spec : {M : Type 1} → statement M

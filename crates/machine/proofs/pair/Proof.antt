@@ -7,16 +7,12 @@ use Rattle.machine.proofs.Stays.{topped-ready}
 use borrow.Author.Needs.{needs}
 use Rattle.machine.proofs.pair.Statement.{statement}
 use Rattle.machine.proofs.pair.Tie as tie
-use Rattle.machine.proofs.pair.Reads as reads
-use Rattle.machine.proofs.pair.Lts as lts
-use Rattle.machine.proofs.less.Reads as less-reads
-use Rattle.machine.proofs.take.Reads as take-reads
 
 take-requires : tie.Need-take-requires
 take-requires c κs = search needs
 
-less-requires : tie.Need-less-requires
-less-requires c κs = search needs
+monus-requires : tie.Need-monus-requires
+monus-requires c κs = search needs
 
 take-requires-2 : tie.Need-take-requires-2
 take-requires-2 c κs =
@@ -30,9 +26,9 @@ returns c =
     let a = s .args in
     let t = c .before .before .take in
     let u = c .take2 in
-    let l = c .before .less in
+    let l = c .before .monus in
     paired (a .code .now) (a .size) (a .mem .now) (a .run) (a .d) (u .result .value) (t .result .value) (u .result .top) (t .result .top) (t .ensures)
     (subst (λ (j : ℕ). Taking (codeIn (a .code .now) (a .size)) (a .mem .now) (topped (a .run) (t .result .top)) j (u .result .value) (u .result .top)) (l .ensures) (u .ensures))
 
 pub pair-spec : {M : Type 1} → statement M
-pair-spec = tie.close (tie.spec take-requires less-requires take-requires-2 returns)
+pair-spec = tie.close (tie.spec take-requires monus-requires take-requires-2 returns)

@@ -2,9 +2,6 @@ use Rattle.machine.proofs.Operands.{popped-none, popped-one}
 use borrow.Author.Needs.{needs}
 use Rattle.machine.proofs.pop.Statement.{statement}
 use Rattle.machine.proofs.pop.Tie as tie
-use Rattle.machine.proofs.pop.Reads as reads
-use Rattle.machine.proofs.pop.Lts as lts
-use Rattle.machine.proofs.load.Reads as load-reads
 
 returns : tie.Need-returns
 returns c = popped-none (c .before .before .before .args .mem .now) (c .before .before .before .args .run) (c .if1 .taken)
@@ -25,7 +22,8 @@ sub-t7 : tie.Need-sub-t7
 sub-t7 c = search needs
 
 returns-2 : tie.Need-returns-2
-returns-2 c = popped-one (c .before .before .before .before .before .before .args .mem .now) (c .before .before .before .before .before .before .args .run) (c .before .load .result .value) (c .before .before .before .before .before .before .pre) (c .before .before .before .if1 .left) (c .before .load .ensures .0) (c .before .load .ensures .1)
+returns-2 c = popped-one (c .before .before .before .before .before .before .args .mem .now) (c .before .before .before .before .before .before .args .run) (c .before .load .result .value)
+    (c .before .before .before .before .before .before .pre) (c .before .before .before .if1 .left) (c .before .load .ensures)
 
 pub pop-spec : {M : Type 1} → statement M
 pop-spec = tie.close (tie.spec returns sub-load mul-load add-load load-requires sub-t7 returns-2)

@@ -11,9 +11,6 @@ use Rattle.machine.proofs.Tables.{put-two}
 use borrow.Author.Needs.{needs}
 use Rattle.machine.proofs.put.Statement.{statement}
 use Rattle.machine.proofs.put.Tie as tie
-use Rattle.machine.proofs.put.Reads as reads
-use Rattle.machine.proofs.put.Lts as lts
-use Rattle.ints.proofs.word.Reads as word-reads
 
 enum-known-v : tie.Need-enum-known-v
 enum-known-v c = search needs

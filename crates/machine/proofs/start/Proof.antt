@@ -3,9 +3,6 @@ use Rattle.machine.proofs.Capacity.{started}
 use borrow.Author.Needs.{needs}
 use Rattle.machine.proofs.start.Statement.{statement}
 use Rattle.machine.proofs.start.Tie as tie
-use Rattle.machine.proofs.start.Reads as reads
-use Rattle.machine.proofs.start.Lts as lts
-use Rattle.machine.proofs.blank.Reads as blank-reads
 
 blank-requires : tie.Need-blank-requires
 blank-requires c κs = search needs

@@ -3,10 +3,6 @@ use Rattle.machine.proofs.Moves.{stored}
 use borrow.Author.Needs.{needs}
 use Rattle.machine.proofs.store.Statement.{statement}
 use Rattle.machine.proofs.store.Tie as tie
-use Rattle.machine.proofs.store.Reads as reads
-use Rattle.machine.proofs.store.Lts as lts
-use Rattle.machine.proofs.put.Reads as put-reads
-use Rattle.machine.proofs.take.Reads as take-reads
 
 take-requires : tie.Need-take-requires
 take-requires c κs = search needs

@@ -8,11 +8,6 @@ use Rattle.machine.proofs.Operands.{taking-out, taking-number, taking-n
 use borrow.Author.Needs.{needs}
 use Rattle.machine.proofs.take.Statement.{statement}
 use Rattle.machine.proofs.take.Tie as tie
-use Rattle.machine.proofs.take.Reads as reads
-use Rattle.machine.proofs.take.Lts as lts
-use Rattle.ints.proofs.signed.Reads as signed-reads
-use Rattle.machine.proofs.load.Reads as load-reads
-use Rattle.machine.proofs.pop.Reads as pop-reads
 
 pop-requires : tie.Need-pop-requires
 pop-requires c κs = search needs
@@ -68,32 +63,24 @@ returns-3 c =
     let l = c .before .before .before .before .if2 .left in
     let k : ℕ = getD (a .code .now) (2 * (a .j - 1)) 0 in
     let w : ℕ = getD (a .code .now) (2 * (a .j - 1) + 1) 0 in
-    taking-number (a .code .now) (a .size) (a .mem .now) (a .run) (a .j) k w h (λ q. omega arith) refl refl _ (search needs) (toZ-ofZ (record { sfits = c .signed .ok }) ∙ c .signed .ensures) (c .before .if3 .taken) (s .pre .1 .low)
+    taking-number (a .code .now) (a .size) (a .mem .now) (a .run) (a .j) k w h (λ q. omega arith) refl refl _ (search needs) (toZ-ofZ (record { sfits = c .signed .ok }) ∙ c .signed .ensures)
+    (c .before .if3 .taken) (s .pre .1 .low)
 
-mul-load : tie.Need-mul-load
-mul-load c = search needs
+cast-t19 : tie.Need-cast-t19
+cast-t19 c = omega (arith, c .before .before .shared-slice-known4 .given (2 * (c .before .before .before .before .before .before .before .before .args .j - 1) + 1))
 
-cast-load : tie.Need-cast-load
-cast-load c = omega (arith, c .before .before .before .shared-slice-known4 .given (2 * (c .before .before .before .before .before .before .before .before .before .args .j - 1) + 1))
-
-mul-load-2 : tie.Need-mul-load-2
-mul-load-2 c = search needs
-
-add-load : tie.Need-add-load
-add-load c = search needs
-
-load-requires : tie.Need-load-requires
-load-requires c κs = search needs
+variable-requires : tie.Need-variable-requires
+variable-requires c κs = search needs
 
 returns-4 : tie.Need-returns-4
 returns-4 c =
-    let s = c .before .before .before .before .before .before .before .before .before .before in
+    let s = c .before .before .before .before .before .before .before .before .before in
     let a = s .args in
-    let h = c .before .before .before .before .before .before .before .if1 .left in
-    let l = c .before .before .before .before .before .before .if2 .left in
+    let h = c .before .before .before .before .before .before .if1 .left in
+    let l = c .before .before .before .before .before .if2 .left in
     let k : ℕ = getD (a .code .now) (2 * (a .j - 1)) 0 in
     let w : ℕ = getD (a .code .now) (2 * (a .j - 1) + 1) 0 in
-    taking-name (a .code .now) (a .size) (a .mem .now) (a .run) (a .j) k w h (λ q. omega arith) refl refl (c .load .result .value) (s .pre .1) (c .load .ensures .0) (c .load .ensures .1) (c .before .before .if4 .taken)
+    taking-name (a .code .now) (a .size) (a .mem .now) (a .run) (a .j) k w h (λ q. omega arith) refl refl (c .variable .result) (s .pre .1) (c .variable .ensures) (c .before .if4 .taken)
 
 pop-requires-3 : tie.Need-pop-requires-3
 pop-requires-3 c κs = search needs
@@ -106,7 +93,8 @@ returns-5 c =
     let l = c .before .before .before .before .before .if2 .left in
     let k : ℕ = getD (a .code .now) (2 * (a .j - 1)) 0 in
     let w : ℕ = getD (a .code .now) (2 * (a .j - 1) + 1) 0 in
-    taking-other (a .code .now) (a .size) (a .mem .now) (a .run) (a .j) k w h (λ q. omega arith) refl refl (c .pop3 .result .value) (c .pop3 .result .top) (c .before .before .if3 .left) (c .before .if4 .left) (c .pop3 .ensures)
+    taking-other (a .code .now) (a .size) (a .mem .now) (a .run) (a .j) k w h (λ q. omega arith) refl refl (c .pop3 .result .value) (c .pop3 .result .top) (c .before .before .if3 .left)
+    (c .before .if4 .left) (c .pop3 .ensures)
 
 pub take-spec : {M : Type 1} → statement M
 take-spec =
@@ -127,11 +115,8 @@ take-spec =
     shared-slice-read-w
     signed-requires
     returns-3
-    mul-load
-    cast-load
-    mul-load-2
-    add-load
-    load-requires
+    cast-t19
+    variable-requires
     returns-4
     pop-requires-3
     returns-5)

@@ -16,11 +16,6 @@ use Rattle.machine.proofs.Operands.{worked-both, worked-left, worked-ri
 use borrow.Author.Needs.{needs}
 use Rattle.machine.proofs.work.Statement.{statement}
 use Rattle.machine.proofs.work.Tie as tie
-use Rattle.machine.proofs.work.Reads as reads
-use Rattle.machine.proofs.work.Lts as lts
-use Rattle.ints.proofs.operate.Reads as operate-reads
-use Rattle.ints.proofs.word.Reads as word-reads
-use Rattle.machine.proofs.node.Reads as node-reads
 
 fits-open : (v : Value) (j : ℕ) → v ≡ Open j → Sized v → Fits w32 j
 fits-open v j e w = let h : Sized (Open j) = subst (λ (v : Value). Sized v) e w in record { fits = h }
@@ -54,7 +49,8 @@ word-requires : tie.Need-word-requires
 word-requires c κs = search needs
 
 cast-node : tie.Need-cast-node
-cast-node c = fits-open (c .before .before .before .before .before .before .before .before .before .args .w) _ (c .before .before .before .w2 .given .1) (c .before .before .before .before .before .before .before .before .before .pre .3)
+cast-node c = fits-open (c .before .before .before .before .before .before .before .before .before .args .w) _ (c .before .before .before .w2 .given .1)
+    (c .before .before .before .before .before .before .before .before .before .pre .3)
 
 node-requires : tie.Need-node-requires
 node-requires c κs = search needs
@@ -72,7 +68,8 @@ add-node-2 : tie.Need-add-node-2
 add-node-2 c = search needs
 
 cast-node-2 : tie.Need-cast-node-2
-cast-node-2 c = fits-open (c .before .before .before .before .before .before .before .before .args .v) _ (c .before .before .before .before .before .v2 .given .1) (c .before .before .before .before .before .before .before .before .pre .2)
+cast-node-2 c = fits-open (c .before .before .before .before .before .before .before .before .args .v) _ (c .before .before .before .before .before .v2 .given .1)
+    (c .before .before .before .before .before .before .before .before .pre .2)
 
 word-requires-2 : tie.Need-word-requires-2
 word-requires-2 c κs = search needs
@@ -90,10 +87,12 @@ add-node-3 : tie.Need-add-node-3
 add-node-3 c = search needs
 
 cast-node-3 : tie.Need-cast-node-3
-cast-node-3 c = fits-open (c .before .before .before .before .before .before .before .before .args .v) _ (c .before .before .before .before .before .v2 .given .1) (c .before .before .before .before .before .before .before .before .pre .2)
+cast-node-3 c = fits-open (c .before .before .before .before .before .before .before .before .args .v) _ (c .before .before .before .before .before .v2 .given .1)
+    (c .before .before .before .before .before .before .before .before .pre .2)
 
 cast-node-4 : tie.Need-cast-node-4
-cast-node-4 c = fits-open (c .before .before .before .before .before .before .before .before .args .w) _ (c .before .before .w4 .given .1) (c .before .before .before .before .before .before .before .before .pre .3)
+cast-node-4 c = fits-open (c .before .before .before .before .before .before .before .before .args .w) _ (c .before .before .w4 .given .1)
+    (c .before .before .before .before .before .before .before .before .pre .3)
 
 node-requires-3 : tie.Need-node-requires-3
 node-requires-3 c κs = search needs

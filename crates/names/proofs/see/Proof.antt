@@ -3,10 +3,10 @@ use mathlib.Core.Path.{_≡_, refl}
 use mathlib.Core.Bool.{Bool}
 use mathlib.Core.List.{List, [], _∷_}
 use types.Run.{OneOf}
-use Rattle.text_rules.proofs.Items.{number, not-one}
-use Rattle.text_rules.specs.declared.item.Item.{Item}
-use Rattle.text_rules.specs.declared.item.Item.the-variants.{Function, Parameter, Thing, Opens, Closes, Declares, Uses, Calls, Ends}
-use Rattle.text_rules.specs.Answers.{event}
+use Rattle.events.proofs.Variants.{number, not-one}
+use Rattle.events.specs.declared.event.Event.{Event}
+use Rattle.events.specs.declared.event.Event.the-variants.{Function, Parameter, Thing, Opens, Closes, Declares, Uses, Calls, Ends}
+use Rattle.events.specs.Read.{asEvent}
 use Rattle.text_rules.specs.Rules.{Head}
 use Rattle.text_rules.specs.Names.{Scope, misnamed, uncalled, named}
 use Rattle.text_rules.specs.Spelling.{sameName}
@@ -20,7 +20,7 @@ abbrev others : List ℕ
 others = 0 ∷ 2 ∷ 3 ∷ 4 ∷ 8 ∷ []
 
 module _ (same : ℕ → ℕ → Bool) (hs : List Head) (s : Scope) where
-  other : (x : Item) → OneOf others (number x) → (wrong same hs s (event x) ≡ []) × (named same hs s (event x) ≡ [])
+  other : (x : Event) → OneOf others (number x) → (wrong same hs s (asEvent x) ≡ []) × (named same hs s (asEvent x) ≡ [])
   unfolding misnamed uncalled named
   other (Function i) h = (refl, refl)
   other (Parameter i) h = absurd (not-one 1 others refl h)
@@ -32,26 +32,26 @@ module _ (same : ℕ → ℕ → Bool) (hs : List Head) (s : Scope) where
   other (Calls i n) h = absurd (not-one 7 others refl h)
   other (Ends i b) h = (refl, refl)
 
-enum-known-item : tie.Need-enum-known-item
-enum-known-item c = search needs
+enum-known-event : tie.Need-enum-known-event
+enum-known-event c = search needs
 
 see-declaration-requires : tie.Need-see-declaration-requires
 see-declaration-requires c κs = search needs
 
-enum-known-item-2 : tie.Need-enum-known-item-2
-enum-known-item-2 c = search needs
+enum-known-event-2 : tie.Need-enum-known-event-2
+enum-known-event-2 c = search needs
 
 see-declaration-requires-2 : tie.Need-see-declaration-requires-2
 see-declaration-requires-2 c κs = search needs
 
-enum-known-item-3 : tie.Need-enum-known-item-3
-enum-known-item-3 c = search needs
+enum-known-event-3 : tie.Need-enum-known-event-3
+enum-known-event-3 c = search needs
 
 see-variable-requires : tie.Need-see-variable-requires
 see-variable-requires c κs = search needs
 
-enum-known-item-4 : tie.Need-enum-known-item-4
-enum-known-item-4 c = search needs
+enum-known-event-4 : tie.Need-enum-known-event-4
+enum-known-event-4 c = search needs
 
 see-call-requires : tie.Need-see-call-requires
 see-call-requires c κs = search needs
@@ -61,45 +61,45 @@ same-length c = search needs
 
 returns : tie.Need-returns
 unfolding misnamed uncalled named
-returns c = rw (c .before .before .before .before .before .item .given .1) (with-nothing (c .before .before .see-declaration .ensures))
+returns c = rw (c .before .before .before .before .before .event .given .1) (with-nothing (c .before .before .see-declaration .ensures))
 
 same-length-2 : tie.Need-same-length-2
 same-length-2 c = search needs
 
 returns-2 : tie.Need-returns-2
 unfolding misnamed uncalled named
-returns-2 c = rw (c .before .before .before .before .before .item2 .given .1) (with-nothing (c .before .before .see-declaration2 .ensures))
+returns-2 c = rw (c .before .before .before .before .before .event2 .given .1) (with-nothing (c .before .before .see-declaration2 .ensures))
 
 same-length-3 : tie.Need-same-length-3
 same-length-3 c = search needs
 
 returns-3 : tie.Need-returns-3
 unfolding misnamed uncalled named
-returns-3 c = rw (c .before .before .before .before .before .item3 .given .1) (with-nothing (c .before .before .see-variable .ensures))
+returns-3 c = rw (c .before .before .before .before .before .event3 .given .1) (with-nothing (c .before .before .see-variable .ensures))
 
 same-length-4 : tie.Need-same-length-4
 same-length-4 c = search needs
 
 returns-4 : tie.Need-returns-4
 unfolding misnamed uncalled named
-returns-4 c = rw (c .before .before .before .before .before .item4 .given .1) (c .before .before .see-call .ensures)
+returns-4 c = rw (c .before .before .before .before .before .event4 .given .1) (c .before .before .see-call .ensures)
 
 returns-5 : tie.Need-returns-5
 returns-5 c =
-    let o = other (sameName (c .before .before .before .before .before .before .before .args .text .now) (c .before .before .before .before .before .before .before .args .places .now) (c .before .before .before .before .before .before .before .args .values .now)) _ _ (c .before .before .before .before .before .before .before .args .item) (c .match .keys5) in
+    let o = other (sameName (c .before .before .before .before .before .before .before .args .text .now) (c .before .before .before .before .before .before .before .args .places .now) (c .before .before .before .before .before .before .before .args .values .now)) _ _ (c .before .before .before .before .before .before .before .args .event) (c .match .keys5) in
     nothing (o .0) (o .1)
 
 pub see-spec : {M : Type 1} → statement M
 see-spec =
     tie.close
     (tie.spec
-    enum-known-item
+    enum-known-event
     see-declaration-requires
-    enum-known-item-2
+    enum-known-event-2
     see-declaration-requires-2
-    enum-known-item-3
+    enum-known-event-3
     see-variable-requires
-    enum-known-item-4
+    enum-known-event-4
     see-call-requires
     same-length
     returns

@@ -1,10 +1,10 @@
-use Prim.Native.Nat.{_+_, _*_, _-_, _≤_}
-use mathlib.Core.Path.{_≡_, sym, _∙_}
+use Prim.Native.Nat.{_+_, _*_, _-_}
 use native.Mathlib.Omega.{arith}
 use lib.ListN.{length}
 use borrow.Author.Needs.{needs}
 use Rattle.text_rules.specs.Spelling.{sameName}
-use Rattle.text_rules.specs.Answers.{event, place, storedHeads}
+use Rattle.events.specs.Stored.{eventToken, eventWords}
+use Rattle.text_rules.specs.Answers.{place, storedHeads}
 use Rattle.names.proofs.Walks.{Walk, walk-starts, walk-turn, walk-ends, walk-room, token-small}
 use Rattle.names.proofs.see_all.Statement.{statement}
 use Rattle.names.proofs.see_all.Tie as tie
@@ -18,8 +18,8 @@ abbrev μ-loop : tie.MeasureT-loop
 loop-holds : tie.Need-loop-holds Inv-loop μ-loop
 loop-holds c = walk-starts _ _ _ _ _ _
 
-item-at-requires : tie.Need-item-at-requires Inv-loop μ-loop
-item-at-requires c κs = search needs
+event-at-requires : tie.Need-event-at-requires Inv-loop μ-loop
+event-at-requires c κs = search needs
 
 see-requires : tie.Need-see-requires Inv-loop μ-loop
 see-requires c κs =
@@ -29,7 +29,7 @@ see-requires c κs =
 enter-requires : tie.Need-enter-requires Inv-loop μ-loop
 enter-requires c κs =
     let r = walk-room _ _ _ _ (c .before .before .before .before .before .before .before .before .loop .inv) (c .before .before .before .before .before .before .before .loop-test .taken) (c .before .before .before .before .before .before .before .before .before .before .before .before .before .before .before .before .pre .4) (c .before .before .before .before .before .before .before .before .before .before .before .before .before .before .before .before .pre .1) in
-    (r .0, r .1, token-small (c .before .before .before .before .before .before .before .before .before .before .before .before .before .before .before .before .args .events .now) (c .before .before .before .before .before .before .before .before .loop .k) _ (c .before .before .before .before .before .before .item-at .ensures) (omega (arith, c .before .before .before .before .before .before .before .before .before .before .before .before .shared-slice-known4 .given (3 * (c .before .before .before .before .before .before .before .before .loop .k) + 1))))
+    (r .0, r .1, token-small (c .before .before .before .before .before .before .before .before .before .before .before .before .before .before .before .before .args .events .now) (c .before .before .before .before .before .before .before .before .loop .k) _ (c .before .before .before .before .before .before .event-at .ensures) (omega (arith, c .before .before .before .before .before .before .before .before .before .before .before .before .shared-slice-known4 .given (eventWords * (c .before .before .before .before .before .before .before .before .loop .k) + eventToken))))
 
 add-k : tie.Need-add-k Inv-loop μ-loop
 add-k c = omega (arith, c .before .before .before .before .before .before .before .before .before .before .before .loop .inv .inside, c .before .before .before .before .before .before .before .before .before .before .loop-test .taken, c .before .before .before .before .before .before .before .before .before .before .before .before .before .before .before .before .before .before .before .pre .1)
@@ -38,7 +38,7 @@ loop-less : tie.Need-loop-less Inv-loop μ-loop
 loop-less c = omega (arith, c .before .before .before .before .before .before .before .before .before .before .loop-test .taken)
 
 loop-again : tie.Need-loop-again Inv-loop μ-loop
-loop-again c = walk-turn _ _ _ _ (c .before .before .before .before .before .before .before .before .before .before .before .loop .inv) (c .before .before .before .before .before .before .before .before .before .before .loop-test .taken) (c .before .before .before .before .before .before .before .before .before .item-at .ensures) (c .before .before .before .before .before .before .see .ensures) (c .before .before .enter .ensures) (c .before .before .enter .kept .0)
+loop-again c = walk-turn _ _ _ _ (c .before .before .before .before .before .before .before .before .before .before .before .loop .inv) (c .before .before .before .before .before .before .before .before .before .before .loop-test .taken) (c .before .before .before .before .before .before .before .before .before .event-at .ensures) (c .before .before .before .before .before .before .see .ensures) (c .before .before .enter .ensures) (c .before .before .enter .kept .0)
 
 same-length : tie.Need-same-length Inv-loop μ-loop
 same-length c = c .before .loop .inv .room
@@ -56,7 +56,7 @@ see-all-spec =
     Inv-loop
     μ-loop
     loop-holds
-    item-at-requires
+    event-at-requires
     see-requires
     enter-requires
     add-k

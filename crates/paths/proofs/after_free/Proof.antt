@@ -28,13 +28,19 @@ add-write-range c = search needs
 write-range-requires : tie.Need-write-range-requires
 write-range-requires c κs =
     let s = c .before .before .before .before .before .before .before .before .before .before .before .before in
-    let p = s .args .p in
-    (omega (arith, c .before .before .before .before .before .before .before .if2 .left, s .pre .0 .tables .count), room-same (c .before .before .before .before .reach .kept .0) (subst (Room (s .args .mem .now)) (s .pre .2) (s .pre .1 .few)), reached-ranging (s .args .mem .now) (c .before .before .before .before .reach .last .0) (ofWindow (s .args .job)) (p .windows) (p .run .nodes) (s .pre .0 .tables) (c .before .before .before .before .reach .ensures) (s .pre .4))
+    let p = s .args .p in (
+      omega (arith, c .before .before .before .before .before .before .before .if2 .left, s .pre .0 .tables .count),
+      room-same (c .before .before .before .before .reach .kept .0) (subst (Room (s .args .mem .now)) (s .pre .2) (s .pre .1 .few)),
+      reached-ranging (s .args .mem .now) (c .before .before .before .before .reach .last .0) (ofWindow (s .args .job)) (p .windows) (p .run .nodes) (s .pre .0 .tables)
+          (c .before .before .before .before .reach .ensures) (s .pre .4),
+    )
 
 declare-requires : tie.Need-declare-requires
 declare-requires c κs =
-    let s = c .before .before .before .before .before .before .before .before .before .before .before .before .before .before .before .before in
-    (omega (arith, c .before .before .before .before .before .before .before .before .before .before .before .before .before .if1 .left), omega (arith, c .before .before .before .before .before .before .before .before .before .before .before .if2 .left, s .pre .0 .tables .count))
+    let s = c .before .before .before .before .before .before .before .before .before .before .before .before .before .before .before .before in (
+      omega (arith, c .before .before .before .before .before .before .before .before .before .before .before .before .before .if1 .left),
+      omega (arith, c .before .before .before .before .before .before .before .before .before .before .before .if2 .left, s .pre .0 .tables .count),
+    )
 
 same-length : tie.Need-same-length
 same-length c = search needs
@@ -42,7 +48,12 @@ same-length c = search needs
 returns-3 : tie.Need-returns-3
 returns-3 c =
     let s = c .before .before .before .before .before .before .before .before .before .before .before .before .before .before .before .before .before in
-    λ next e. free-on (s .args .mem .now) (s .args .p) (c .before .before .before .before .before .before .before .before .before .reach .last .0) (c .before .before .before .before .write-range .last .0) (s .args .run) (ofWindow (s .args .job)) (c .declare .result) (s .pre .0) (s .pre .1) (s .pre .2) (s .pre .3) (s .pre .4) (omega (arith, c .before .before .before .before .before .before .before .before .before .before .before .before .before .before .if1 .left)) (omega (arith, c .before .before .before .before .before .before .before .before .before .before .before .before .if2 .left, s .pre .0 .tables .count)) (c .before .before .before .before .before .before .before .before .before .reach .kept .0) (c .before .before .before .before .write-range .kept .0) (c .before .before .before .before .before .before .before .before .before .reach .ensures) (c .before .before .before .before .write-range .ensures) (c .declare .ensures) next e
+    λ next e. free-on (s .args .mem .now) (s .args .p) (c .before .before .before .before .before .before .before .before .before .reach .last .0)
+    (c .before .before .before .before .write-range .last .0) (s .args .run) (ofWindow (s .args .job)) (c .declare .result) (s .pre .0) (s .pre .1) (s .pre .2) (s .pre .3) (s .pre .4)
+    (omega (arith, c .before .before .before .before .before .before .before .before .before .before .before .before .before .before .if1 .left))
+    (omega (arith, c .before .before .before .before .before .before .before .before .before .before .before .before .if2 .left, s .pre .0 .tables .count))
+    (c .before .before .before .before .before .before .before .before .before .reach .kept .0) (c .before .before .before .before .write-range .kept .0)
+    (c .before .before .before .before .before .before .before .before .before .reach .ensures) (c .before .before .before .before .write-range .ensures) (c .declare .ensures) next e
 
 pub after-free-spec : {M : Type 1} → statement M
 after-free-spec =

@@ -22,7 +22,9 @@ same-length c = search needs
 returns-2 : tie.Need-returns-2
 returns-2 c =
     let s = c .before .before .before .before .before .before .before .before .before .before in
-    λ job. step-on (s .args .mem .now) (s .args .p) (c .before .before .before .before .new-range .last .0) (s .args .run) (c .spend .result) (s .pre .0) (s .pre .1) (s .pre .2) (omega (arith, c .before .before .before .before .before .before .before .if1 .left)) (c .before .before .before .before .new-range .kept .0) (c .before .before .before .before .new-range .ensures) (c .spend .ensures) job
+    λ job. step-on (s .args .mem .now) (s .args .p) (c .before .before .before .before .new-range .last .0) (s .args .run) (c .spend .result) (s .pre .0) (s .pre .1) (s .pre .2)
+    (omega (arith, c .before .before .before .before .before .before .before .if1 .left)) (c .before .before .before .before .new-range .kept .0)
+    (c .before .before .before .before .new-range .ensures) (c .spend .ensures) job
 
 pub after-step-spec : {M : Type 1} → statement M
 after-step-spec =

@@ -16,7 +16,8 @@ returns : tie.Need-returns
 returns c =
     let s = c .before .before .before in
     let m = s .args .mem .now in
-    λ job. test-cut m (s .args .p) job (comparison (s .args .c)) (meant m (s .args .p .run .nodes) (s .args .v)) (meant m (s .args .p .run .nodes) (s .args .w)) (λ b. machineAt m (flagged (s .args .run) b)) (c .if1 .taken) (s .pre .0)
+    λ job. test-cut m (s .args .p) job (comparison (s .args .c)) (meant m (s .args .p .run .nodes) (s .args .v)) (meant m (s .args .p .run .nodes) (s .args .w))
+    (λ b. machineAt m (flagged (s .args .run) b)) (c .if1 .taken) (s .pre .0)
 
 spend-requires : tie.Need-spend-requires
 spend-requires c κs = search needs
@@ -42,7 +43,9 @@ returns-2 : tie.Need-returns-2
 returns-2 c =
     let s = c .before .before .before .before .before .before .before .before .before in
     let m = s .args .mem .now in
-    λ job. test-on m (s .args .p) (c .before .before .compare .last .0) (s .args .run) (comparison (s .args .c)) (s .args .v) (s .args .w) (c .before .before .before .spend .result) (c .before .before .compare .result) (s .pre .2) (omega (arith, c .before .before .before .before .before .before .if1 .left)) (c .before .before .before .spend .ensures) (c .before .before .compare .ensures) job
+    λ job. test-on m (s .args .p) (c .before .before .compare .last .0) (s .args .run) (comparison (s .args .c)) (s .args .v) (s .args .w) (c .before .before .before .spend .result)
+    (c .before .before .compare .result) (s .pre .2) (omega (arith, c .before .before .before .before .before .before .if1 .left)) (c .before .before .before .spend .ensures)
+    (c .before .before .compare .ensures) job
 
 pub after-test-spec : {M : Type 1} → statement M
 after-test-spec =

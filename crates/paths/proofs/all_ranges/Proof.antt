@@ -21,8 +21,11 @@ loop-holds c = (anew-none _ _, omega arith, refl)
 write-range-requires : tie.Need-write-range-requires Inv-loop μ-loop
 write-range-requires c κs =
     let s = c .before .before .before .before in
-    let l = c .before .before .loop in
-    (s .pre .0, record { words = omega (arith, s .pre .1 .words, l .inv .2); small = omega (arith, s .pre .1 .small) }, subst Ranging (sym (l .inv .0 .is)) (ranging (windowsIn (s .args .mem .now) (s .args .k)) (nodesIn (s .args .mem .now) (l .j)) (s .pre .2)))
+    let l = c .before .before .loop in (
+      s .pre .0,
+      record { words = omega (arith, s .pre .1 .words, l .inv .2); small = omega (arith, s .pre .1 .small) },
+      subst Ranging (sym (l .inv .0 .is)) (ranging (windowsIn (s .args .mem .now) (s .args .k)) (nodesIn (s .args .mem .now) (l .j)) (s .pre .2)),
+    )
 
 add-j : tie.Need-add-j Inv-loop μ-loop
 add-j c = search needs

@@ -37,8 +37,15 @@ choose-requires c κs =
     let s = c .before .before .before .before .before .before .before .before .before .before in
     let p = s .args .p in
     let m = s .args .mem .now in
-    let k = comparison (s .args .c) in
-    (s .pre .0, s .pre .2, s .pre .3, undecided-so m p k (s .args .v) (s .args .w) (s .pre .0) (s .pre .1) (s .pre .4) (s .pre .5) (said k (c .before .before .before .decide .result) _ (c .before .before .before .before .before .before .range-of .result) (c .before .before .before .before .range-of2 .result) _ _ (c .before .enum-told3 .given .1) (c .before .before .before .decide .ensures) (c .before .before .before .before .before .before .range-of .ensures) (c .before .before .before .before .range-of2 .ensures)))
+    let k = comparison (s .args .c) in (
+      s .pre .0,
+      s .pre .2,
+      s .pre .3,
+      undecided-so m p k (s .args .v) (s .args .w) (s .pre .0) (s .pre .1) (s .pre .4) (s .pre .5)
+          (said k (c .before .before .before .decide .result) _ (c .before .before .before .before .before .before .range-of .result) (c .before .before .before .before .range-of2 .result) _ _
+          (c .before .enum-told3 .given .1) (c .before .before .before .decide .ensures) (c .before .before .before .before .before .before .range-of .ensures)
+          (c .before .before .before .before .range-of2 .ensures)),
+    )
 
 count-requires : tie.Need-count-requires
 count-requires c κs = search needs
@@ -55,7 +62,10 @@ returns c =
     let p = s .args .p in
     let m = s .args .mem .now in
     let k = comparison (s .args .c) in
-    compared-so m p k (s .args .v) (s .args .w) (s .pre .0) (s .pre .1) true (c .flag .result) (said k (c .before .before .before .decide .result) _ (c .before .before .before .before .before .before .range-of .result) (c .before .before .before .before .range-of2 .result) _ _ (c .before .enum-told .given .1) (c .before .before .before .decide .ensures) (c .before .before .before .before .before .before .range-of .ensures) (c .before .before .before .before .range-of2 .ensures)) (c .flag .ensures)
+    compared-so m p k (s .args .v) (s .args .w) (s .pre .0) (s .pre .1) true (c .flag .result)
+    (said k (c .before .before .before .decide .result) _ (c .before .before .before .before .before .before .range-of .result) (c .before .before .before .before .range-of2 .result) _ _
+    (c .before .enum-told .given .1) (c .before .before .before .decide .ensures) (c .before .before .before .before .before .before .range-of .ensures)
+    (c .before .before .before .before .range-of2 .ensures)) (c .flag .ensures)
 
 same-length-2 : tie.Need-same-length-2
 same-length-2 c = search needs
@@ -66,7 +76,10 @@ returns-2 c =
     let p = s .args .p in
     let m = s .args .mem .now in
     let k = comparison (s .args .c) in
-    compared-so m p k (s .args .v) (s .args .w) (s .pre .0) (s .pre .1) false (c .flag2 .result) (said k (c .before .before .before .decide .result) _ (c .before .before .before .before .before .before .range-of .result) (c .before .before .before .before .range-of2 .result) _ _ (c .before .enum-told2 .given .1) (c .before .before .before .decide .ensures) (c .before .before .before .before .before .before .range-of .ensures) (c .before .before .before .before .range-of2 .ensures)) (c .flag2 .ensures)
+    compared-so m p k (s .args .v) (s .args .w) (s .pre .0) (s .pre .1) false (c .flag2 .result)
+    (said k (c .before .before .before .decide .result) _ (c .before .before .before .before .before .before .range-of .result) (c .before .before .before .before .range-of2 .result) _ _
+    (c .before .enum-told2 .given .1) (c .before .before .before .decide .ensures) (c .before .before .before .before .before .before .range-of .ensures)
+    (c .before .before .before .before .range-of2 .ensures)) (c .flag2 .ensures)
 
 same-length-3 : tie.Need-same-length-3
 same-length-3 c = search needs
@@ -77,7 +90,14 @@ returns-3 c =
     let p = s .args .p in
     let m = s .args .mem .now in
     let k = comparison (s .args .c) in
-    chosen-so m p k (s .args .v) (s .args .w) (s .pre .0) (s .pre .1) (c .before .before .before .before .choose .last .0) (c .before .before .before .before .choose .result) (c .flag3 .result) (c .before .before .before .before .choose .kept .0) (said k (c .before .before .before .before .before .before .before .before .decide .result) _ (c .before .before .before .before .before .before .before .before .before .before .before .range-of .result) (c .before .before .before .before .before .before .before .before .before .range-of2 .result) _ _ (c .before .before .before .before .before .before .enum-told3 .given .1) (c .before .before .before .before .before .before .before .before .decide .ensures) (c .before .before .before .before .before .before .before .before .before .before .before .range-of .ensures) (c .before .before .before .before .before .before .before .before .before .range-of2 .ensures)) (c .before .before .before .before .choose .ensures) (c .flag3 .ensures ∙ ap (λ (q : Point). flagging q (c .before .before .before .before .choose .result)) (c .before .count .ensures))
+    chosen-so m p k (s .args .v) (s .args .w) (s .pre .0) (s .pre .1) (c .before .before .before .before .choose .last .0) (c .before .before .before .before .choose .result) (c .flag3 .result)
+    (c .before .before .before .before .choose .kept .0) (said k (c .before .before .before .before .before .before .before .before .decide .result) _
+    (c .before .before .before .before .before .before .before .before .before .before .before .range-of .result)
+    (c .before .before .before .before .before .before .before .before .before .range-of2 .result) _ _ (c .before .before .before .before .before .before .enum-told3 .given .1)
+    (c .before .before .before .before .before .before .before .before .decide .ensures)
+    (c .before .before .before .before .before .before .before .before .before .before .before .range-of .ensures)
+    (c .before .before .before .before .before .before .before .before .before .range-of2 .ensures)) (c .before .before .before .before .choose .ensures)
+    (c .flag3 .ensures ∙ ap (λ (q : Point). flagging q (c .before .before .before .before .choose .result)) (c .before .count .ensures))
 
 pub compare-spec : {M : Type 1} → statement M
 compare-spec =

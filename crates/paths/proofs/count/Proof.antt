@@ -11,13 +11,13 @@ made p f = record { run = p .run; steps = p .steps; windows = p .windows; choice
 add-t3 : tie.Need-add-t3
 add-t3 c = search needs
 
-before-requires : tie.Need-before-requires
-before-requires c κs = search needs
+monus-requires : tie.Need-monus-requires
+monus-requires c κs = search needs
 
 returns : tie.Need-returns
 returns c =
     let p = c .before .before .before .args .p in
-    ap (made p) (c .before2 .ensures)
+    ap (made p) (c .monus .ensures)
 
 pub count-spec : {M : Type 1} → statement M
-count-spec = tie.close (tie.spec add-t3 before-requires returns)
+count-spec = tie.close (tie.spec add-t3 monus-requires returns)

@@ -27,7 +27,11 @@ returns : tie.Need-returns
 returns c = search needs
 
 returns-2 : tie.Need-returns-2
-returns-2 c = (ap comparison (c .negated .ensures) ∙ comparison-number (negated (comparison (c .before .before .args .c))) ∙ ap (λ (o : Bool). holding o (comparison (c .before .before .args .c))) (sym (c .before .if1 .left)), subst (λ (n : ℕ). n < 6) (sym (c .negated .ensures)) (six (negated (comparison (c .before .before .args .c)))))
+returns-2 c = (
+  ap comparison (c .negated .ensures) ∙ comparison-number (negated (comparison (c .before .before .args .c)))
+      ∙ ap (λ (o : Bool). holding o (comparison (c .before .before .args .c))) (sym (c .before .if1 .left)),
+  subst (λ (n : ℕ). n < 6) (sym (c .negated .ensures)) (six (negated (comparison (c .before .before .args .c)))),
+)
 
 pub holding-spec : {M : Type 1} → statement M
 holding-spec = tie.close (tie.spec negated-requires returns returns-2)

@@ -18,7 +18,8 @@ returns : tie.Need-returns
 returns c =
     let s = c .before .before .before .before .before .before in
     let a = s .args in
-    grown-one (a .mem .now) (c .before .before .write-range .last .0) (a .k) (a .n) (a .nodes) (s .pre .0) (s .pre .1) (s .pre .2) (c .before .before .before .before .if1 .taken) (c .before .before .write-range .kept .0) (c .before .before .write-range .ensures)
+    grown-one (a .mem .now) (c .before .before .write-range .last .0) (a .k) (a .n) (a .nodes) (s .pre .0) (s .pre .1) (s .pre .2) (c .before .before .before .before .if1 .taken)
+    (c .before .before .write-range .kept .0) (c .before .before .write-range .ensures)
 
 returns-2 : tie.Need-returns-2
 returns-2 c =

@@ -40,7 +40,8 @@ signed-requires-2 c κs = search needs
 returns : tie.Need-returns
 returns c =
     let s = c .before .before .before .before .before .before in
-    ap₂ to (toZ-ofZ (record { sfits = c .before .before .signed .ok }) ∙ c .before .before .signed .ensures) (toZ-ofZ (record { sfits = c .signed2 .ok }) ∙ c .signed2 .ensures) ∙ sym (ranges-get (s .args .mem .now) (s .args .n) (s .args .i) (c .before .before .before .before .if1 .taken))
+    ap₂ to (toZ-ofZ (record { sfits = c .before .before .signed .ok }) ∙ c .before .before .signed .ensures) (toZ-ofZ (record { sfits = c .signed2 .ok }) ∙ c .signed2 .ensures)
+    ∙ sym (ranges-get (s .args .mem .now) (s .args .n) (s .args .i) (c .before .before .before .before .if1 .taken))
 
 returns-2 : tie.Need-returns-2
 returns-2 c =

@@ -21,7 +21,14 @@ mul-mem-2 : tie.Need-mul-mem-2
 mul-mem-2 c = omega (arith, c .open-bit2 .ensures, bit-two (c .before .before .before .args .w))
 
 add-mem-2 : tie.Need-add-mem-2
-add-mem-2 c = omega (arith, c .before .open-bit .ensures, bit-two (c .before .before .before .args .v), c .open-bit2 .ensures, bit-two (c .before .before .before .args .w), c .before .before .before .pre .1)
+add-mem-2 c = omega (
+  arith,
+  c .before .open-bit .ensures,
+  bit-two (c .before .before .before .args .v),
+  c .open-bit2 .ensures,
+  bit-two (c .before .before .before .args .w),
+  c .before .before .before .pre .1,
+)
 
 mul-mem-3 : tie.Need-mul-mem-3
 mul-mem-3 c = search needs
@@ -71,7 +78,8 @@ same-length c = search needs
 returns : tie.Need-returns
 returns c =
     let s = c .before .before .before .before .before in
-    noting (s .args .mem .now) (s .args .t) (s .args .c) (c .before .before .before .open-bit .result) (c .before .before .open-bit2 .result) (c .before .word-of .result) (c .word-of2 .result) (s .args .v) (s .args .w) (s .pre .0) (s .pre .1) (c .before .before .before .open-bit .ensures) (c .before .before .open-bit2 .ensures) (c .before .word-of .ensures) (c .word-of2 .ensures)
+    noting (s .args .mem .now) (s .args .t) (s .args .c) (c .before .before .before .open-bit .result) (c .before .before .open-bit2 .result) (c .before .word-of .result) (c .word-of2 .result)
+    (s .args .v) (s .args .w) (s .pre .0) (s .pre .1) (c .before .before .before .open-bit .ensures) (c .before .before .open-bit2 .ensures) (c .before .word-of .ensures) (c .word-of2 .ensures)
 
 pub note-spec : {M : Type 1} → statement M
 note-spec =

@@ -1,9 +1,11 @@
-use Prim.Native.Nat.{ℕ, zero, suc, _-_, _%_, _+_, _*_}
+use Prim.Native.Nat.{ℕ, zero, suc, _-_}
 use mathlib.Core.Path.{_≡_, refl, sym, ap₂, _∙_, subst}
 use native.Mathlib.Omega.{arith}
 use Rattle.semantics.specs.Run.{Window}
 use Rattle.semantics.specs.Search.{span, fitted}
 use Rattle.ints.specs.Numbers as numbers
+use Rattle.machine.specs.Kinds.{nodeOp}
+use Rattle.machine.specs.Layout.{nodeLeft}
 use Rattle.machine.specs.Memory.{rangesIn}
 use Rattle.intervals.specs.Meaning.{Filled}
 use Rattle.paths.proofs.Table.{kind, left, right, range-free, range-op, cell-filled}
@@ -52,7 +54,7 @@ shared-slice-read-y : tie.Need-shared-slice-read-y
 shared-slice-read-y c = search needs
 
 cast-window-of : tie.Need-cast-window-of
-cast-window-of c = omega (arith, c .before .before .before .shared-slice-known2 .given (1203 + 12 * c .before .before .before .before .before .args .j))
+cast-window-of c = omega (arith, c .before .before .before .shared-slice-known2 .given (nodeLeft (c .before .before .before .before .before .args .j)))
 
 window-of-requires : tie.Need-window-of-requires
 window-of-requires c κs = search needs
@@ -76,15 +78,18 @@ range-requires c κs =
     let s = c .before .before .before .before .before .before .before in
     let m = s .args .mem .now in
     let k = s .args .k in
-    let j = s .args .j in
-    (subst Filled (sym (c .before .cell-range .ensures)) (cell-filled (rangesIn m j) (left m k j) (s .pre .2)), subst Filled (sym (c .cell-range2 .ensures)) (cell-filled (rangesIn m j) (right m k j) (s .pre .2)))
+    let j = s .args .j in (
+      subst Filled (sym (c .before .cell-range .ensures)) (cell-filled (rangesIn m j) (left m j) (s .pre .2)),
+      subst Filled (sym (c .cell-range2 .ensures)) (cell-filled (rangesIn m j) (right m j) (s .pre .2)),
+    )
 
 returns-2 : tie.Need-returns-2
 returns-2 c =
     let s = c .before .before .before .before .before .before .before .before in
     let m = s .args .mem .now in
-    let o : ℕ = kind m (s .args .k) (s .args .j) % 4 - 1 in
-    c .range .ensures ∙ ap₂ (λ (v w : Window). fitted (span (numbers.operation o) v w)) (c .before .before .cell-range .ensures) (c .before .cell-range2 .ensures) ∙ range-op m (s .args .k) (s .args .j) o (less (kind m (s .args .k) (s .args .j) % 4) (c .before .before .before .if1 .left))
+    let o : ℕ = nodeOp (kind m (s .args .j)) - 1 in
+    c .range .ensures ∙ ap₂ (λ (v w : Window). fitted (span (numbers.operation o) v w)) (c .before .before .cell-range .ensures) (c .before .cell-range2 .ensures)
+    ∙ range-op m (s .args .k) (s .args .j) o (less (nodeOp (kind m (s .args .j))) (c .before .before .before .if1 .left))
 
 pub range-at-spec : {M : Type 1} → statement M
 range-at-spec =

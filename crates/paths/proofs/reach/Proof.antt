@@ -32,7 +32,9 @@ returns c =
     let h : SFits w32 (s .args .job .high) = search needs in
     let p : List ℤ = toZ w32 (ofZ w32 (s .args .job .low)) ∷ toZ w32 (ofZ w32 (s .args .job .high)) ∷ [] in
     let n : length ws ≡ 8 = search needs in
-    reached (s .args .mem .now) (c .before .before .put .last .0) ws (s .args .k) p (ofWindow (s .args .job)) (s .pre .0) (s .pre .1) (c .before .before .put .ensures) (c .before .before .before .with-pair .ensures ∙ ap (λ (l : List (List ℤ)). set l (s .args .k) p) (c .before .before .before .before .before .before .load .ensures)) (ap₂ to (toZ-ofZ l) (toZ-ofZ h)) n (ends ws (c .before .before .before .with-pair .ok .0) (c .before .before .before .with-pair .ok .1 .1))
+    reached (s .args .mem .now) (c .before .before .put .last .0) ws (s .args .k) p (ofWindow (s .args .job)) (s .pre .0) (s .pre .1) (c .before .before .put .ensures)
+    (c .before .before .before .with-pair .ensures ∙ ap (λ (l : List (List ℤ)). set l (s .args .k) p) (c .before .before .before .before .before .before .load .ensures))
+    (ap₂ to (toZ-ofZ l) (toZ-ofZ h)) n (ends ws (c .before .before .before .with-pair .ok .0) (c .before .before .before .with-pair .ok .1 .1))
 
 pub reach-spec : {M : Type 1} → statement M
 reach-spec = tie.close (tie.spec load-requires with-pair-requires put-requires same-length returns)

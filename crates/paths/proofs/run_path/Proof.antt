@@ -5,7 +5,7 @@ use mathlib.Core.List.{List}
 use native.Mathlib.Omega.{arith}
 use borrow.Author.Needs.{needs}
 use lib.ListN.{length}
-use Rattle.semantics.specs.Search.{spent, byRanges}
+use Rattle.semantics.specs.Search.{spent, inUse}
 use Rattle.simulation.specs.Lister.{over, closed}
 use Rattle.simulation.specs.Path.{returned, failed, cut, turn}
 use Rattle.simulation.specs.Words.{codeIn}
@@ -32,17 +32,26 @@ start-requires c κs = omega (arith, c .before .before .before .pre .2 .words)
 loop-holds : tie.Need-loop-holds Inv-loop μ-loop
 loop-holds c =
     let s = c .before .before .before .before .before .before in
-    let a = s .args in
-    (starts (codeIn (a .code .now) (a .size)) (ofWindow (a .job)) (a .limit) (a .mem .now) (c .before .before .start .last .0) (c .before .before .start .result) (c .before .before .start .ensures) (s .pre .2) (c .before .before .start .kept .0) (a .forced) (a .budget), refl)
+    let a = s .args in (
+      starts (codeIn (a .code .now) (a .size)) (ofWindow (a .job)) (a .limit) (a .mem .now) (c .before .before .start .last .0) (c .before .before .start .result) (c .before .before .start .ensures)
+          (s .pre .2) (c .before .before .start .kept .0) (a .forced) (a .budget),
+      refl,
+    )
 
 turn-requires : tie.Need-turn-requires Inv-loop μ-loop
-turn-requires c κs = (c .before .before .before .before .before .before .before .before .pre .0, c .before .before .before .before .before .before .before .before .pre .1, c .before .loop .inv .0 .going, c .before .before .before .before .before .before .before .before .pre .3)
+turn-requires c κs = (
+  c .before .before .before .before .before .before .before .before .pre .0,
+  c .before .before .before .before .before .before .before .before .pre .1,
+  c .before .loop .inv .0 .going,
+  c .before .before .before .before .before .before .before .before .pre .3,
+)
 
 enum-known-o : tie.Need-enum-known-o Inv-loop μ-loop
 enum-known-o c = search needs
 
 same-length : tie.Need-same-length Inv-loop μ-loop
-same-length c = c .before .before .before .before .before .before .before .turn .kept .1 .1 .0 ∙ c .before .before .before .before .before .before .before .before .before .loop .inv .1 ∙ c .before .before .before .before .before .before .before .before .before .before .before .before .start .kept .0
+same-length c = c .before .before .before .before .before .before .before .turn .kept .1 .1 .0 ∙ c .before .before .before .before .before .before .before .before .before .loop .inv .1
+    ∙ c .before .before .before .before .before .before .before .before .before .before .before .before .start .kept .0
 
 returns : tie.Need-returns Inv-loop μ-loop
 returns c =
@@ -56,12 +65,16 @@ returns c =
     let m = l .mem in
     let p = l .p in
     let m′ = c .before .before .before .before .before .before .before .turn .last .1 .1 .0 in
-    let here = turn byRanges job x (machineAt m (p .run)) (stateAt m p) in
-    let same = forced-same x job (a .limit) (a .mem .now) m₀ (c .before .before .before .before .before .before .before .before .before .before .before .before .start .result) (c .before .before .before .before .before .before .before .before .before .before .before .before .start .ensures) (s .pre .2) (c .before .before .before .before .before .before .before .before .before .before .before .before .start .kept .0) (a .forced) in
+    let here = turn inUse job x (machineAt m (p .run)) (stateAt m p) in
+    let same = forced-same x job (a .limit) (a .mem .now) m₀ (c .before .before .before .before .before .before .before .before .before .before .before .before .start .result)
+    (c .before .before .before .before .before .before .before .before .before .before .before .before .start .ensures) (s .pre .2)
+    (c .before .before .before .before .before .before .before .before .before .before .before .before .start .kept .0) (a .forced) in
     let o = c .before .before .before .o .given .0 .0 in
     let q = c .before .before .before .o .given .0 .1 .0 in
-    let g = turned-as here m′ p (c .before .before .before .before .before .before .before .turn .result) (Turned.On o q) (c .before .before .before .o .given .1) (c .before .before .before .before .before .before .before .turn .ensures) in
-    subst (λ (fs : List Bool). Walks x job (a .limit) (a .budget) fs (λ t. over (closed spent (paid 0 t)))) same (reaches-spent x job (a .limit) (a .budget) fs m m′ p q o (l .left) (l .inv .0) (g .0) (c .before .if1 .taken) (c .if2 .taken))
+    let g = turned-as here m′ p (c .before .before .before .before .before .before .before .turn .result) (Turned.On o q) (c .before .before .before .o .given .1)
+    (c .before .before .before .before .before .before .before .turn .ensures) in
+    subst (λ (fs : List Bool). Walks x job (a .limit) (a .budget) fs (λ t. over (closed spent (paid 0 t)))) same
+    (reaches-spent x job (a .limit) (a .budget) fs m m′ p q o (l .left) (l .inv .0) (g .0) (c .before .if1 .taken) (c .if2 .taken))
 
 sub-left : tie.Need-sub-left Inv-loop μ-loop
 sub-left c = omega (arith, c .if2 .left)
@@ -78,11 +91,14 @@ loop-less c =
     let m = l .mem in
     let p = l .p in
     let m′ = c .before .before .before .before .before .before .before .turn .last .1 .1 .0 in
-    let here = turn byRanges job x (machineAt m (p .run)) (stateAt m p) in
-    let same = forced-same x job (a .limit) (a .mem .now) m₀ (c .before .before .before .before .before .before .before .before .before .before .before .before .start .result) (c .before .before .before .before .before .before .before .before .before .before .before .before .start .ensures) (s .pre .2) (c .before .before .before .before .before .before .before .before .before .before .before .before .start .kept .0) (a .forced) in
+    let here = turn inUse job x (machineAt m (p .run)) (stateAt m p) in
+    let same = forced-same x job (a .limit) (a .mem .now) m₀ (c .before .before .before .before .before .before .before .before .before .before .before .before .start .result)
+    (c .before .before .before .before .before .before .before .before .before .before .before .before .start .ensures) (s .pre .2)
+    (c .before .before .before .before .before .before .before .before .before .before .before .before .start .kept .0) (a .forced) in
     let o = c .before .before .before .o .given .0 .0 in
     let q = c .before .before .before .o .given .0 .1 .0 in
-    let g = turned-as here m′ p (c .before .before .before .before .before .before .before .turn .result) (Turned.On o q) (c .before .before .before .o .given .1) (c .before .before .before .before .before .before .before .turn .ensures) in
+    let g = turned-as here m′ p (c .before .before .before .before .before .before .before .turn .result) (Turned.On o q) (c .before .before .before .o .given .1)
+    (c .before .before .before .before .before .before .before .turn .ensures) in
     nearer x job (a .limit) (a .budget) fs m m′ p q o (l .left) (l .inv .0) (g .0)
 
 loop-again : tie.Need-loop-again Inv-loop μ-loop
@@ -97,12 +113,19 @@ loop-again c =
     let m = l .mem in
     let p = l .p in
     let m′ = c .before .before .before .before .before .before .before .turn .last .1 .1 .0 in
-    let here = turn byRanges job x (machineAt m (p .run)) (stateAt m p) in
-    let same = forced-same x job (a .limit) (a .mem .now) m₀ (c .before .before .before .before .before .before .before .before .before .before .before .before .start .result) (c .before .before .before .before .before .before .before .before .before .before .before .before .start .ensures) (s .pre .2) (c .before .before .before .before .before .before .before .before .before .before .before .before .start .kept .0) (a .forced) in
+    let here = turn inUse job x (machineAt m (p .run)) (stateAt m p) in
+    let same = forced-same x job (a .limit) (a .mem .now) m₀ (c .before .before .before .before .before .before .before .before .before .before .before .before .start .result)
+    (c .before .before .before .before .before .before .before .before .before .before .before .before .start .ensures) (s .pre .2)
+    (c .before .before .before .before .before .before .before .before .before .before .before .before .start .kept .0) (a .forced) in
     let o = c .before .before .before .o .given .0 .0 in
     let q = c .before .before .before .o .given .0 .1 .0 in
-    let g = turned-as here m′ p (c .before .before .before .before .before .before .before .turn .result) (Turned.On o q) (c .before .before .before .o .given .1) (c .before .before .before .before .before .before .before .turn .ensures) in
-    (reaches-on x job (a .limit) (a .budget) fs m m′ p q o (l .left) (l .left - 1) (l .inv .0) (g .0) (g .1) (omega (arith, l .inv .0 .rest)) (pays-one x job (a .limit) (a .budget) (l .left) o (c .before .if1 .taken) (omega (arith, c .if2 .left)) (l .inv .0 .rest)), c .before .before .before .before .before .before .before .turn .kept .1 .1 .0 ∙ c .before .before .before .before .before .before .before .before .before .loop .inv .1)
+    let g = turned-as here m′ p (c .before .before .before .before .before .before .before .turn .result) (Turned.On o q) (c .before .before .before .o .given .1)
+    (c .before .before .before .before .before .before .before .turn .ensures) in (
+      reaches-on x job (a .limit) (a .budget) fs m m′ p q o (l .left) (l .left - 1) (l .inv .0) (g .0) (g .1) (omega (arith, l .inv .0 .rest))
+          (pays-one (a .budget) (l .left) o (c .before .if1 .taken) (omega (arith, c .if2 .left)) (l .inv .0 .rest)),
+      c .before .before .before .before .before .before .before .turn .kept .1 .1 .0
+          ∙ c .before .before .before .before .before .before .before .before .before .loop .inv .1,
+    )
 
 loop-less-2 : tie.Need-loop-less-2 Inv-loop μ-loop
 loop-less-2 c =
@@ -116,11 +139,14 @@ loop-less-2 c =
     let m = l .mem in
     let p = l .p in
     let m′ = c .before .before .before .before .before .before .turn .last .1 .1 .0 in
-    let here = turn byRanges job x (machineAt m (p .run)) (stateAt m p) in
-    let same = forced-same x job (a .limit) (a .mem .now) m₀ (c .before .before .before .before .before .before .before .before .before .before .before .start .result) (c .before .before .before .before .before .before .before .before .before .before .before .start .ensures) (s .pre .2) (c .before .before .before .before .before .before .before .before .before .before .before .start .kept .0) (a .forced) in
+    let here = turn inUse job x (machineAt m (p .run)) (stateAt m p) in
+    let same = forced-same x job (a .limit) (a .mem .now) m₀ (c .before .before .before .before .before .before .before .before .before .before .before .start .result)
+    (c .before .before .before .before .before .before .before .before .before .before .before .start .ensures) (s .pre .2)
+    (c .before .before .before .before .before .before .before .before .before .before .before .start .kept .0) (a .forced) in
     let o = c .before .before .o .given .0 .0 in
     let q = c .before .before .o .given .0 .1 .0 in
-    let g = turned-as here m′ p (c .before .before .before .before .before .before .turn .result) (Turned.On o q) (c .before .before .o .given .1) (c .before .before .before .before .before .before .turn .ensures) in
+    let g = turned-as here m′ p (c .before .before .before .before .before .before .turn .result) (Turned.On o q) (c .before .before .o .given .1)
+    (c .before .before .before .before .before .before .turn .ensures) in
     nearer x job (a .limit) (a .budget) fs m m′ p q o (l .left) (l .inv .0) (g .0)
 
 loop-again-2 : tie.Need-loop-again-2 Inv-loop μ-loop
@@ -135,18 +161,24 @@ loop-again-2 c =
     let m = l .mem in
     let p = l .p in
     let m′ = c .before .before .before .before .before .before .turn .last .1 .1 .0 in
-    let here = turn byRanges job x (machineAt m (p .run)) (stateAt m p) in
-    let same = forced-same x job (a .limit) (a .mem .now) m₀ (c .before .before .before .before .before .before .before .before .before .before .before .start .result) (c .before .before .before .before .before .before .before .before .before .before .before .start .ensures) (s .pre .2) (c .before .before .before .before .before .before .before .before .before .before .before .start .kept .0) (a .forced) in
+    let here = turn inUse job x (machineAt m (p .run)) (stateAt m p) in
+    let same = forced-same x job (a .limit) (a .mem .now) m₀ (c .before .before .before .before .before .before .before .before .before .before .before .start .result)
+    (c .before .before .before .before .before .before .before .before .before .before .before .start .ensures) (s .pre .2)
+    (c .before .before .before .before .before .before .before .before .before .before .before .start .kept .0) (a .forced) in
     let o = c .before .before .o .given .0 .0 in
     let q = c .before .before .o .given .0 .1 .0 in
-    let g = turned-as here m′ p (c .before .before .before .before .before .before .turn .result) (Turned.On o q) (c .before .before .o .given .1) (c .before .before .before .before .before .before .turn .ensures) in
-    (reaches-on x job (a .limit) (a .budget) fs m m′ p q o (l .left) (l .left) (l .inv .0) (g .0) (g .1) (l .inv .0 .rest) (pays-none x job (a .limit) (a .budget) (l .left) o (c .if1 .left)), c .before .before .before .before .before .before .turn .kept .1 .1 .0 ∙ c .before .before .before .before .before .before .before .before .loop .inv .1)
+    let g = turned-as here m′ p (c .before .before .before .before .before .before .turn .result) (Turned.On o q) (c .before .before .o .given .1)
+    (c .before .before .before .before .before .before .turn .ensures) in (
+      reaches-on x job (a .limit) (a .budget) fs m m′ p q o (l .left) (l .left) (l .inv .0) (g .0) (g .1) (l .inv .0 .rest) (pays-none (a .budget) (l .left) o (c .if1 .left)),
+      c .before .before .before .before .before .before .turn .kept .1 .1 .0 ∙ c .before .before .before .before .before .before .before .before .loop .inv .1,
+    )
 
 enum-known-v : tie.Need-enum-known-v Inv-loop μ-loop
 enum-known-v c = search needs
 
 same-length-2 : tie.Need-same-length-2 Inv-loop μ-loop
-same-length-2 c = c .before .before .before .before .before .turn .kept .1 .1 .0 ∙ c .before .before .before .before .before .before .before .loop .inv .1 ∙ c .before .before .before .before .before .before .before .before .before .before .start .kept .0
+same-length-2 c = c .before .before .before .before .before .turn .kept .1 .1 .0 ∙ c .before .before .before .before .before .before .before .loop .inv .1
+    ∙ c .before .before .before .before .before .before .before .before .before .before .start .kept .0
 
 returns-2 : tie.Need-returns-2 Inv-loop μ-loop
 returns-2 c =
@@ -160,17 +192,23 @@ returns-2 c =
     let m = l .mem in
     let p = l .p in
     let m′ = c .before .before .before .before .before .turn .last .1 .1 .0 in
-    let here = turn byRanges job x (machineAt m (p .run)) (stateAt m p) in
-    let same = forced-same x job (a .limit) (a .mem .now) m₀ (c .before .before .before .before .before .before .before .before .before .before .start .result) (c .before .before .before .before .before .before .before .before .before .before .start .ensures) (s .pre .2) (c .before .before .before .before .before .before .before .before .before .before .start .kept .0) (a .forced) in
+    let here = turn inUse job x (machineAt m (p .run)) (stateAt m p) in
+    let same = forced-same x job (a .limit) (a .mem .now) m₀ (c .before .before .before .before .before .before .before .before .before .before .start .result)
+    (c .before .before .before .before .before .before .before .before .before .before .start .ensures) (s .pre .2)
+    (c .before .before .before .before .before .before .before .before .before .before .start .kept .0) (a .forced) in
     let v = c .before .v .given .0 .0 in
-    let g = turned-as here m′ p (c .before .before .before .before .before .turn .result) (Turned.Returned v) (c .before .v .given .1) (c .before .before .before .before .before .turn .ensures) in
-    (subst (λ (fs : List Bool). Ends x job (a .limit) (a .budget) fs m′ (returned (meant m′ (p .run .nodes) v)) p (l .left)) same (reaches-end x job (a .limit) (a .budget) fs m m′ p (returned (meant m′ (p .run .nodes) v)) (l .left) (l .inv .0) (g .0 .stops)), g .0 .usable)
+    let g = turned-as here m′ p (c .before .before .before .before .before .turn .result) (Turned.Returned v) (c .before .v .given .1) (c .before .before .before .before .before .turn .ensures) in (
+      subst (λ (fs : List Bool). Ends x job (a .limit) (a .budget) fs m′ (returned (meant m′ (p .run .nodes) v)) p (l .left)) same
+          (reaches-end x job (a .limit) (a .budget) fs m m′ p (returned (meant m′ (p .run .nodes) v)) (l .left) (l .inv .0) (g .0 .stops)),
+      g .0 .usable,
+    )
 
 enum-told : tie.Need-enum-told Inv-loop μ-loop
 enum-told c = search needs
 
 same-length-3 : tie.Need-same-length-3 Inv-loop μ-loop
-same-length-3 c = c .before .before .before .before .turn .kept .1 .1 .0 ∙ c .before .before .before .before .before .before .loop .inv .1 ∙ c .before .before .before .before .before .before .before .before .before .start .kept .0
+same-length-3 c = c .before .before .before .before .turn .kept .1 .1 .0 ∙ c .before .before .before .before .before .before .loop .inv .1
+    ∙ c .before .before .before .before .before .before .before .before .before .start .kept .0
 
 returns-3 : tie.Need-returns-3 Inv-loop μ-loop
 returns-3 c =
@@ -184,8 +222,10 @@ returns-3 c =
     let m = l .mem in
     let p = l .p in
     let m′ = c .before .before .before .before .turn .last .1 .1 .0 in
-    let here = turn byRanges job x (machineAt m (p .run)) (stateAt m p) in
-    let same = forced-same x job (a .limit) (a .mem .now) m₀ (c .before .before .before .before .before .before .before .before .before .start .result) (c .before .before .before .before .before .before .before .before .before .start .ensures) (s .pre .2) (c .before .before .before .before .before .before .before .before .before .start .kept .0) (a .forced) in
+    let here = turn inUse job x (machineAt m (p .run)) (stateAt m p) in
+    let same = forced-same x job (a .limit) (a .mem .now) m₀ (c .before .before .before .before .before .before .before .before .before .start .result)
+    (c .before .before .before .before .before .before .before .before .before .start .ensures) (s .pre .2)
+    (c .before .before .before .before .before .before .before .before .before .start .kept .0) (a .forced) in
     let g = turned-as here m′ p (c .before .before .before .before .turn .result) Turned.Failed (c .enum-told .given .1) (c .before .before .before .before .turn .ensures) in
     subst (λ (fs : List Bool). Ends x job (a .limit) (a .budget) fs m′ failed p (l .left)) same (reaches-end x job (a .limit) (a .budget) fs m m′ p failed (l .left) (l .inv .0) (g .0))
 
@@ -193,7 +233,8 @@ enum-told-2 : tie.Need-enum-told-2 Inv-loop μ-loop
 enum-told-2 c = search needs
 
 same-length-4 : tie.Need-same-length-4 Inv-loop μ-loop
-same-length-4 c = c .before .before .before .before .turn .kept .1 .1 .0 ∙ c .before .before .before .before .before .before .loop .inv .1 ∙ c .before .before .before .before .before .before .before .before .before .start .kept .0
+same-length-4 c = c .before .before .before .before .turn .kept .1 .1 .0 ∙ c .before .before .before .before .before .before .loop .inv .1
+    ∙ c .before .before .before .before .before .before .before .before .before .start .kept .0
 
 returns-4 : tie.Need-returns-4 Inv-loop μ-loop
 returns-4 c =
@@ -207,8 +248,10 @@ returns-4 c =
     let m = l .mem in
     let p = l .p in
     let m′ = c .before .before .before .before .turn .last .1 .1 .0 in
-    let here = turn byRanges job x (machineAt m (p .run)) (stateAt m p) in
-    let same = forced-same x job (a .limit) (a .mem .now) m₀ (c .before .before .before .before .before .before .before .before .before .start .result) (c .before .before .before .before .before .before .before .before .before .start .ensures) (s .pre .2) (c .before .before .before .before .before .before .before .before .before .start .kept .0) (a .forced) in
+    let here = turn inUse job x (machineAt m (p .run)) (stateAt m p) in
+    let same = forced-same x job (a .limit) (a .mem .now) m₀ (c .before .before .before .before .before .before .before .before .before .start .result)
+    (c .before .before .before .before .before .before .before .before .before .start .ensures) (s .pre .2)
+    (c .before .before .before .before .before .before .before .before .before .start .kept .0) (a .forced) in
     let g = turned-as here m′ p (c .before .before .before .before .turn .result) Turned.Cut (c .enum-told2 .given .1) (c .before .before .before .before .turn .ensures) in
     subst (λ (fs : List Bool). Ends x job (a .limit) (a .budget) fs m′ cut p (l .left)) same (reaches-end x job (a .limit) (a .budget) fs m m′ p cut (l .left) (l .inv .0) (g .0))
 

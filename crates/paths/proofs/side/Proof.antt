@@ -1,4 +1,3 @@
-use Prim.Native.Nat.{_+_, _*_}
 use mathlib.Core.Path.{ap₂}
 use native.Mathlib.Omega.{arith}
 use borrow.Author.Needs.{needs}
@@ -6,6 +5,7 @@ use mir.Syntax.{w32}
 use mir.Val.{SFits}
 use mir.Facts.{toZ-ofZ}
 use Rattle.semantics.specs.Search.{to}
+use Rattle.machine.specs.Layout.{nodeLeft}
 use Rattle.machine.specs.Memory.{nodesIn, windowsIn}
 use Rattle.paths.proofs.Choice.{within-open, stands-at, side-known, side-free, side-op}
 use Rattle.paths.proofs.side.Statement.{statement}
@@ -18,31 +18,71 @@ enum-known-v-2 : tie.Need-enum-known-v-2
 enum-known-v-2 c = search needs
 
 mul-if1 : tie.Need-mul-if1
-mul-if1 c = omega (arith, within-open (c .before .before .before .before .args .v) (c .before .v2 .given .0 .0) (c .before .before .before .before .args .n) (c .before .v2 .given .1) (c .before .before .before .before .pre .1), c .before .before .before .before .pre .0 .room .words)
+mul-if1 c = omega (
+  arith,
+  within-open (c .before .before .before .before .args .v) (c .before .v2 .given .0 .0) (c .before .before .before .before .args .n) (c .before .v2 .given .1)
+      (c .before .before .before .before .pre .1),
+  c .before .before .before .before .pre .0 .room .words,
+)
 
 add-if1 : tie.Need-add-if1
-add-if1 c = omega (arith, within-open (c .before .before .before .before .args .v) (c .before .v2 .given .0 .0) (c .before .before .before .before .args .n) (c .before .v2 .given .1) (c .before .before .before .before .pre .1), c .before .before .before .before .pre .0 .room .words)
+add-if1 c = omega (
+  arith,
+  within-open (c .before .before .before .before .args .v) (c .before .v2 .given .0 .0) (c .before .before .before .before .args .n) (c .before .v2 .given .1)
+      (c .before .before .before .before .pre .1),
+  c .before .before .before .before .pre .0 .room .words,
+)
 
 mul-if1-2 : tie.Need-mul-if1-2
-mul-if1-2 c = omega (arith, within-open (c .before .before .before .before .args .v) (c .before .v2 .given .0 .0) (c .before .before .before .before .args .n) (c .before .v2 .given .1) (c .before .before .before .before .pre .1), c .before .before .before .before .pre .0 .room .words)
+mul-if1-2 c = omega (
+  arith,
+  within-open (c .before .before .before .before .args .v) (c .before .v2 .given .0 .0) (c .before .before .before .before .args .n) (c .before .v2 .given .1)
+      (c .before .before .before .before .pre .1),
+  c .before .before .before .before .pre .0 .room .words,
+)
 
 shared-slice-read-if1 : tie.Need-shared-slice-read-if1
-shared-slice-read-if1 c = omega (arith, within-open (c .before .before .before .before .before .args .v) (c .before .before .v2 .given .0 .0) (c .before .before .before .before .before .args .n) (c .before .before .v2 .given .1) (c .before .before .before .before .before .pre .1), c .before .before .before .before .before .pre .0 .room .words)
+shared-slice-read-if1 c = omega (
+  arith,
+  within-open (c .before .before .before .before .before .args .v) (c .before .before .v2 .given .0 .0) (c .before .before .before .before .before .args .n)
+      (c .before .before .v2 .given .1) (c .before .before .before .before .before .pre .1),
+  c .before .before .before .before .before .pre .0 .room .words,
+)
 
 mul-t16 : tie.Need-mul-t16
-mul-t16 c = omega (arith, within-open (c .before .before .before .before .before .before .args .v) (c .before .before .before .v2 .given .0 .0) (c .before .before .before .before .before .before .args .n) (c .before .before .before .v2 .given .1) (c .before .before .before .before .before .before .pre .1), c .before .before .before .before .before .before .pre .0 .room .words)
+mul-t16 c = omega (
+  arith,
+  within-open (c .before .before .before .before .before .before .args .v) (c .before .before .before .v2 .given .0 .0)
+      (c .before .before .before .before .before .before .args .n) (c .before .before .before .v2 .given .1) (c .before .before .before .before .before .before .pre .1),
+  c .before .before .before .before .before .before .pre .0 .room .words,
+)
 
 add-t17 : tie.Need-add-t17
-add-t17 c = omega (arith, within-open (c .before .before .before .before .before .before .args .v) (c .before .before .before .v2 .given .0 .0) (c .before .before .before .before .before .before .args .n) (c .before .before .before .v2 .given .1) (c .before .before .before .before .before .before .pre .1), c .before .before .before .before .before .before .pre .0 .room .words)
+add-t17 c = omega (
+  arith,
+  within-open (c .before .before .before .before .before .before .args .v) (c .before .before .before .v2 .given .0 .0)
+      (c .before .before .before .before .before .before .args .n) (c .before .before .before .v2 .given .1) (c .before .before .before .before .before .before .pre .1),
+  c .before .before .before .before .before .before .pre .0 .room .words,
+)
 
 mul-t18 : tie.Need-mul-t18
-mul-t18 c = omega (arith, within-open (c .before .before .before .before .before .before .args .v) (c .before .before .before .v2 .given .0 .0) (c .before .before .before .before .before .before .args .n) (c .before .before .before .v2 .given .1) (c .before .before .before .before .before .before .pre .1), c .before .before .before .before .before .before .pre .0 .room .words)
+mul-t18 c = omega (
+  arith,
+  within-open (c .before .before .before .before .before .before .args .v) (c .before .before .before .v2 .given .0 .0)
+      (c .before .before .before .before .before .before .args .n) (c .before .before .before .v2 .given .1) (c .before .before .before .before .before .before .pre .1),
+  c .before .before .before .before .before .before .pre .0 .room .words,
+)
 
 shared-slice-read-t20 : tie.Need-shared-slice-read-t20
-shared-slice-read-t20 c = omega (arith, within-open (c .before .before .before .before .before .before .before .args .v) (c .before .before .before .before .v2 .given .0 .0) (c .before .before .before .before .before .before .before .args .n) (c .before .before .before .before .v2 .given .1) (c .before .before .before .before .before .before .before .pre .1), c .before .before .before .before .before .before .before .pre .0 .room .words)
+shared-slice-read-t20 c = omega (
+  arith,
+  within-open (c .before .before .before .before .before .before .before .args .v) (c .before .before .before .before .v2 .given .0 .0)
+      (c .before .before .before .before .before .before .before .args .n) (c .before .before .before .before .v2 .given .1) (c .before .before .before .before .before .before .before .pre .1),
+  c .before .before .before .before .before .before .before .pre .0 .room .words,
+)
 
 cast-t21 : tie.Need-cast-t21
-cast-t21 c = omega (arith, c .shared-slice-known3 .given (1203 + 12 * c .before .before .before .before .v2 .given .0 .0))
+cast-t21 c = omega (arith, c .shared-slice-known3 .given (nodeLeft (c .before .before .before .before .v2 .given .0 .0)))
 
 returns : tie.Need-returns
 returns c =
@@ -68,7 +108,8 @@ returns-3 c =
     let m = s .args .mem .now in
     let j = c .before .before .before .before .v2 .given .0 .0 in
     let l = within-open (s .args .v) j (s .args .n) (c .before .before .before .before .v2 .given .1) (s .pre .1) in
-    stands-at m (s .args .k) (s .args .n) _ _ _ (c .before .before .before .before .v2 .given .1) (side-op m (s .args .k) (s .args .n) j (c .node-range .result) (s .pre .0) l (c .before .if1 .left) (c .node-range .ensures))
+    stands-at m (s .args .k) (s .args .n) _ _ _ (c .before .before .before .before .v2 .given .1)
+    (side-op m (s .args .k) (s .args .n) j (c .node-range .result) (s .pre .0) l (c .before .if1 .left) (c .node-range .ensures))
 
 pub side-spec : {M : Type 1} → statement M
 side-spec =

@@ -34,7 +34,8 @@ after-step-requires c κs =
     let m₁ = c .before .before .before .before .before .before .advance .last .1 .1 .0 in
     let x = codeIn (s .args .code .now) (s .args .size) in
     let job = ofWindow (s .args .job) in
-    let g = done-as (advance known work x (machineAt m (p .run))) m (p .run .nodes) m₁ (p .windows) (c .before .before .before .before .before .before .advance .result) (Did.Step (c .before .before .r2 .given .0 .0)) (c .before .before .r2 .given .1) (c .before .before .before .before .before .before .advance .ensures) in
+    let g = done-as (advance known work x (machineAt m (p .run))) m (p .run .nodes) m₁ (p .windows) (c .before .before .before .before .before .before .advance .result)
+    (Did.Step (c .before .before .r2 .given .0 .0)) (c .before .before .r2 .given .1) (c .before .before .before .before .before .before .advance .ensures) in
     (standing-kept p (g .kept) (c .before .before .before .before .before .before .advance .kept .1 .1 .0) (s .pre .2 .standing), g .ready, growing-kept g)
 
 enum-known-r-3 : tie.Need-enum-known-r-3
@@ -48,7 +49,8 @@ after-free-requires c κs =
     let m₁ = c .before .before .before .before .before .before .advance .last .1 .1 .0 in
     let x = codeIn (s .args .code .now) (s .args .size) in
     let job = ofWindow (s .args .job) in
-    let g = done-as (advance known work x (machineAt m (p .run))) m (p .run .nodes) m₁ (p .windows) (c .before .before .before .before .before .before .advance .result) (Did.Free (c .before .before .r3 .given .0 .0)) (c .before .before .r3 .given .1) (c .before .before .before .before .before .before .advance .ensures) in
+    let g = done-as (advance known work x (machineAt m (p .run))) m (p .run .nodes) m₁ (p .windows) (c .before .before .before .before .before .before .advance .result)
+    (Did.Free (c .before .before .r3 .given .0 .0)) (c .before .before .r3 .given .1) (c .before .before .before .before .before .before .advance .ensures) in
     (standing-kept p (g .asked .kept) (c .before .before .before .before .before .before .advance .kept .1 .1 .0) (s .pre .2 .standing), g .asked .ready, g .asked .one, g .asked .node, s .pre .3)
 
 enum-known-c : tie.Need-enum-known-c
@@ -62,8 +64,11 @@ after-test-requires c κs =
     let m₁ = c .before .before .before .before .before .before .advance .last .1 .1 .0 in
     let x = codeIn (s .args .code .now) (s .args .size) in
     let job = ofWindow (s .args .job) in
-    let g = done-as (advance known work x (machineAt m (p .run))) m (p .run .nodes) m₁ (p .windows) (c .before .before .before .before .before .before .advance .result) (Did.Test (c .before .before .c .given .0 .0) (c .before .before .c .given .0 .1 .0) (c .before .before .c .given .0 .1 .1 .0) (c .before .before .c .given .0 .1 .1 .1 .0)) (c .before .before .c .given .1) (c .before .before .before .before .before .before .advance .ensures) in
-    test-asked m p job x (s .pre .2) m₁ (c .before .before .c .given .0 .0) (c .before .before .c .given .0 .1 .0) (c .before .before .c .given .0 .1 .1 .0) (c .before .before .c .given .0 .1 .1 .1 .0) g
+    let g = done-as (advance known work x (machineAt m (p .run))) m (p .run .nodes) m₁ (p .windows) (c .before .before .before .before .before .before .advance .result)
+    (Did.Test (c .before .before .c .given .0 .0) (c .before .before .c .given .0 .1 .0) (c .before .before .c .given .0 .1 .1 .0) (c .before .before .c .given .0 .1 .1 .1 .0))
+    (c .before .before .c .given .1) (c .before .before .before .before .before .before .advance .ensures) in
+    test-asked m p job x (s .pre .2) m₁ (c .before .before .c .given .0 .0) (c .before .before .c .given .0 .1 .0) (c .before .before .c .given .0 .1 .1 .0)
+    (c .before .before .c .given .0 .1 .1 .1 .0) g
 
 enum-known-v : tie.Need-enum-known-v
 enum-known-v c = search needs
@@ -85,8 +90,10 @@ returns c =
     let m₁ = c .before .before .before .before .before .before .advance .last .1 .1 .0 in
     let x = codeIn (s .args .code .now) (s .args .size) in
     let job = ofWindow (s .args .job) in
-    let g = done-as (advance known work x (machineAt m (p .run))) m (p .run .nodes) m₁ (p .windows) (c .before .before .before .before .before .before .advance .result) (Did.Silent (c .before .before .r .given .0 .0)) (c .before .before .r .given .1) (c .before .before .before .before .before .before .advance .ensures) in
-    let t = silent-on m p job x (s .pre .2 .standing) m₁ (c .before .before .r .given .0 .0) (c .proceed .result) (c .before .before .before .before .before .before .advance .kept .1 .1 .0) g (c .proceed .ensures) in
+    let g = done-as (advance known work x (machineAt m (p .run))) m (p .run .nodes) m₁ (p .windows) (c .before .before .before .before .before .before .advance .result)
+    (Did.Silent (c .before .before .r .given .0 .0)) (c .before .before .r .given .1) (c .before .before .before .before .before .before .advance .ensures) in
+    let t = silent-on m p job x (s .pre .2 .standing) m₁ (c .before .before .r .given .0 .0) (c .proceed .result)
+    (c .before .before .before .before .before .before .advance .kept .1 .1 .0) g (c .proceed .ensures) in
     (t, onwards job x m m₁ p (Turned.On _ (c .proceed .result)) (s .pre .2) (c .before .before .before .before .before .before .advance .kept .1 .1 .0) t)
 
 same-length-2 : tie.Need-same-length-2
@@ -100,8 +107,13 @@ returns-2 c =
     let m₁ = c .before .before .before .before .before .before .before .before .before .advance .last .1 .1 .0 in
     let x = codeIn (s .args .code .now) (s .args .size) in
     let job = ofWindow (s .args .job) in
-    let g = done-as (advance known work x (machineAt m (p .run))) m (p .run .nodes) m₁ (p .windows) (c .before .before .before .before .before .before .before .before .before .advance .result) (Did.Step (c .before .before .before .before .before .r2 .given .0 .0)) (c .before .before .before .before .before .r2 .given .1) (c .before .before .before .before .before .before .before .before .before .advance .ensures) in
-    turned m p job x (s .pre .2) m₁ (c .before .before .after-step .last .0) (c .before .before .after-step .result) (Doing.step (machineAt m₁ (c .before .before .before .before .before .r2 .given .0 .0))) (g .kept) (c .before .before .after-step .kept .0 ∙ c .before .before .before .before .before .before .before .before .before .advance .kept .1 .1 .0) (g .is) (c .before .before .after-step .ensures job)
+    let g = done-as (advance known work x (machineAt m (p .run))) m (p .run .nodes) m₁ (p .windows) (c .before .before .before .before .before .before .before .before .before .advance .result)
+    (Did.Step (c .before .before .before .before .before .r2 .given .0 .0)) (c .before .before .before .before .before .r2 .given .1)
+    (c .before .before .before .before .before .before .before .before .before .advance .ensures) in
+    turned m p job x (s .pre .2) m₁ (c .before .before .after-step .last .0) (c .before .before .after-step .result)
+    (Doing.step (machineAt m₁ (c .before .before .before .before .before .r2 .given .0 .0))) (g .kept)
+    (c .before .before .after-step .kept .0 ∙ c .before .before .before .before .before .before .before .before .before .advance .kept .1 .1 .0) (g .is)
+    (c .before .before .after-step .ensures job)
 
 same-length-3 : tie.Need-same-length-3
 same-length-3 c = search needs
@@ -114,8 +126,12 @@ returns-3 c =
     let m₁ = c .before .before .before .before .before .before .before .before .before .advance .last .1 .1 .0 in
     let x = codeIn (s .args .code .now) (s .args .size) in
     let job = ofWindow (s .args .job) in
-    let g = done-as (advance known work x (machineAt m (p .run))) m (p .run .nodes) m₁ (p .windows) (c .before .before .before .before .before .before .before .before .before .advance .result) (Did.Free (c .before .before .before .before .before .r3 .given .0 .0)) (c .before .before .before .before .before .r3 .given .1) (c .before .before .before .before .before .before .before .before .before .advance .ensures) in
-    turned m p job x (s .pre .2) m₁ (c .before .before .after-free .last .0) (c .before .before .after-free .result) (Doing.free (g .next)) (g .asked .kept) (c .before .before .after-free .kept .0 ∙ c .before .before .before .before .before .before .before .before .before .advance .kept .1 .1 .0) (g .is) (c .before .before .after-free .ensures (g .next) (g .asked .is))
+    let g = done-as (advance known work x (machineAt m (p .run))) m (p .run .nodes) m₁ (p .windows) (c .before .before .before .before .before .before .before .before .before .advance .result)
+    (Did.Free (c .before .before .before .before .before .r3 .given .0 .0)) (c .before .before .before .before .before .r3 .given .1)
+    (c .before .before .before .before .before .before .before .before .before .advance .ensures) in
+    turned m p job x (s .pre .2) m₁ (c .before .before .after-free .last .0) (c .before .before .after-free .result) (Doing.free (g .next)) (g .asked .kept)
+    (c .before .before .after-free .kept .0 ∙ c .before .before .before .before .before .before .before .before .before .advance .kept .1 .1 .0) (g .is)
+    (c .before .before .after-free .ensures (g .next) (g .asked .is))
 
 same-length-4 : tie.Need-same-length-4
 same-length-4 c = search needs
@@ -128,8 +144,14 @@ returns-4 c =
     let m₁ = c .before .before .before .before .before .before .before .before .before .advance .last .1 .1 .0 in
     let x = codeIn (s .args .code .now) (s .args .size) in
     let job = ofWindow (s .args .job) in
-    let g = done-as (advance known work x (machineAt m (p .run))) m (p .run .nodes) m₁ (p .windows) (c .before .before .before .before .before .before .before .before .before .advance .result) (Did.Test (c .before .before .before .before .before .c .given .0 .0) (c .before .before .before .before .before .c .given .0 .1 .0) (c .before .before .before .before .before .c .given .0 .1 .1 .0) (c .before .before .before .before .before .c .given .0 .1 .1 .1 .0)) (c .before .before .before .before .before .c .given .1) (c .before .before .before .before .before .before .before .before .before .advance .ensures) in
-    test-turned m p job x (s .pre .2) m₁ (c .before .before .after-test .last .0) (c .before .before .after-test .result) (c .before .before .before .before .before .c .given .0 .0) (c .before .before .before .before .before .c .given .0 .1 .0) (c .before .before .before .before .before .c .given .0 .1 .1 .0) (c .before .before .before .before .before .c .given .0 .1 .1 .1 .0) (c .before .before .after-test .kept .0 ∙ c .before .before .before .before .before .before .before .before .before .advance .kept .1 .1 .0) g (c .before .before .after-test .ensures job)
+    let g = done-as (advance known work x (machineAt m (p .run))) m (p .run .nodes) m₁ (p .windows) (c .before .before .before .before .before .before .before .before .before .advance .result)
+    (Did.Test (c .before .before .before .before .before .c .given .0 .0) (c .before .before .before .before .before .c .given .0 .1 .0)
+    (c .before .before .before .before .before .c .given .0 .1 .1 .0) (c .before .before .before .before .before .c .given .0 .1 .1 .1 .0))
+    (c .before .before .before .before .before .c .given .1) (c .before .before .before .before .before .before .before .before .before .advance .ensures) in
+    test-turned m p job x (s .pre .2) m₁ (c .before .before .after-test .last .0) (c .before .before .after-test .result) (c .before .before .before .before .before .c .given .0 .0)
+    (c .before .before .before .before .before .c .given .0 .1 .0) (c .before .before .before .before .before .c .given .0 .1 .1 .0)
+    (c .before .before .before .before .before .c .given .0 .1 .1 .1 .0)
+    (c .before .before .after-test .kept .0 ∙ c .before .before .before .before .before .before .before .before .before .advance .kept .1 .1 .0) g (c .before .before .after-test .ensures job)
 
 same-length-5 : tie.Need-same-length-5
 same-length-5 c = search needs
@@ -142,7 +164,8 @@ returns-5 c =
     let m₁ = c .before .before .before .before .before .advance .last .1 .1 .0 in
     let x = codeIn (s .args .code .now) (s .args .size) in
     let job = ofWindow (s .args .job) in
-    let g = done-as (advance known work x (machineAt m (p .run))) m (p .run .nodes) m₁ (p .windows) (c .before .before .before .before .before .advance .result) (Did.Returned (c .before .v .given .0 .0)) (c .before .v .given .1) (c .before .before .before .before .before .advance .ensures) in
+    let g = done-as (advance known work x (machineAt m (p .run))) m (p .run .nodes) m₁ (p .windows) (c .before .before .before .before .before .advance .result)
+    (Did.Returned (c .before .v .given .0 .0)) (c .before .v .given .1) (c .before .before .before .before .before .advance .ensures) in
     (returned-stops m p job x (s .pre .2 .standing) m₁ (c .before .v .given .0 .0) g, tt)
 
 same-length-6 : tie.Need-same-length-6
@@ -156,7 +179,8 @@ returns-6 c =
     let m₁ = c .before .before .before .before .advance .last .1 .1 .0 in
     let x = codeIn (s .args .code .now) (s .args .size) in
     let job = ofWindow (s .args .job) in
-    let g = done-as (advance known work x (machineAt m (p .run))) m (p .run .nodes) m₁ (p .windows) (c .before .before .before .before .advance .result) (Did.Failed) (c .enum-told .given .1) (c .before .before .before .before .advance .ensures) in
+    let g = done-as (advance known work x (machineAt m (p .run))) m (p .run .nodes) m₁ (p .windows) (c .before .before .before .before .advance .result) (Did.Failed) (c .enum-told .given .1)
+    (c .before .before .before .before .advance .ensures) in
     (failed-stops m p job x (s .pre .2 .standing) m₁ (g .0) (g .1), tt)
 
 same-length-7 : tie.Need-same-length-7
@@ -170,7 +194,8 @@ returns-7 c =
     let m₁ = c .before .before .before .before .advance .last .1 .1 .0 in
     let x = codeIn (s .args .code .now) (s .args .size) in
     let job = ofWindow (s .args .job) in
-    let g = done-as (advance known work x (machineAt m (p .run))) m (p .run .nodes) m₁ (p .windows) (c .before .before .before .before .advance .result) (Did.Cut) (c .enum-told2 .given .1) (c .before .before .before .before .advance .ensures) in
+    let g = done-as (advance known work x (machineAt m (p .run))) m (p .run .nodes) m₁ (p .windows) (c .before .before .before .before .advance .result) (Did.Cut) (c .enum-told2 .given .1)
+    (c .before .before .before .before .advance .ensures) in
     (cut-stops m p job x (s .pre .2 .standing) m₁ (g .0) (g .1), tt)
 
 pub turn-spec : {M : Type 1} → statement M

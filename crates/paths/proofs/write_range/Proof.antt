@@ -58,7 +58,8 @@ returns c =
     let l : SFits w32 (w .low) = search needs in
     let h : SFits w32 (w .high) = search needs in
     ranged (s .args .mem .now) (s .args .k) (s .args .j) (c .before .before .word .result) (c .word2 .result) (s .pre .1)
-    (ap₂ to (back (w .low) (c .before .before .word .result) l (c .before .before .word .ensures)) (back (w .high) (c .word2 .result) h (c .word2 .ensures)) ∙ c .before .before .before .before .range-at .ensures)
+    (ap₂ to (back (w .low) (c .before .before .word .result) l (c .before .before .word .ensures)) (back (w .high) (c .word2 .result) h (c .word2 .ensures))
+    ∙ c .before .before .before .before .range-at .ensures)
 
 pub write-range-spec : {M : Type 1} → statement M
 write-range-spec =

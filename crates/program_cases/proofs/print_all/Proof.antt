@@ -3,10 +3,6 @@ use native.Mathlib.Omega.{arith}
 use Prim.Native.Nat.{_≤_, _-_, _+_}
 use Rattle.program_cases.proofs.print_all.Statement.{statement}
 use Rattle.program_cases.proofs.print_all.Tie as tie
-use Rattle.program_cases.proofs.print_all.Reads as reads
-use Rattle.program_cases.proofs.print_all.Lts as lts
-use Rattle.program_cases.proofs.end_of.Reads as end-of-reads
-use Rattle.program_cases.proofs.print_output.Reads as print-output-reads
 
 abbrev Inv-loop : tie.InvT-loop
 Inv-loop inputs n at₀ at = at ≤ n + 1
@@ -17,8 +13,20 @@ abbrev μ-loop : tie.MeasureT-loop
 loop-holds : tie.Need-loop-holds Inv-loop μ-loop
 loop-holds c = search needs
 
-end-of-requires : tie.Need-end-of-requires Inv-loop μ-loop
-end-of-requires c κs = search needs
+sub-place : tie.Need-sub-place Inv-loop μ-loop
+sub-place c = search needs
+
+part-place-start : tie.Need-part-place-start Inv-loop μ-loop
+part-place-start c = search needs
+
+part-place-end : tie.Need-part-place-end Inv-loop μ-loop
+part-place-end c = search needs
+
+place-requires : tie.Need-place-requires Inv-loop μ-loop
+place-requires c κs = search needs
+
+add-end : tie.Need-add-end Inv-loop μ-loop
+add-end c = search needs
 
 sub-print-output : tie.Need-sub-print-output Inv-loop μ-loop
 sub-print-output c = search needs
@@ -51,7 +59,11 @@ print-all-spec =
     Inv-loop
     μ-loop
     loop-holds
-    end-of-requires
+    sub-place
+    part-place-start
+    part-place-end
+    place-requires
+    add-end
     sub-print-output
     part-print-output-start
     part-print-output-end

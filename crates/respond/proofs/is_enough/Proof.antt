@@ -1,4 +1,4 @@
-use mathlib.Core.Path.{_≡_, refl, sym, ap, _∙_}
+use mathlib.Core.Path.{sym, _∙_}
 use native.Mathlib.Omega.{arith}
 use borrow.Author.Tests.{not-true, not-false}
 use borrow.Author.Needs.{needs}
@@ -7,11 +7,6 @@ use Rattle.lines.proofs.Good.{good-holds}
 use Rattle.respond.proofs.Needed.{enough-not, enough-line}
 use Rattle.respond.proofs.is_enough.Statement.{statement}
 use Rattle.respond.proofs.is_enough.Tie as tie
-use Rattle.respond.proofs.is_enough.Reads as reads
-use Rattle.respond.proofs.is_enough.Lts as lts
-use Rattle.lines.proofs.job_line.Reads as job-line-reads
-use Rattle.lines.proofs.line_settled.Reads as line-settled-reads
-use Rattle.respond.proofs.is_job_enough.Reads as is-job-enough-reads
 
 line-settled-requires : tie.Need-line-settled-requires
 line-settled-requires c κs = search needs

@@ -1,5 +1,5 @@
-use mathlib.Core.Path.{_≡_, refl, sym, ap, _∙_}
-use mathlib.Core.Bool.{Bool, _||_}
+use mathlib.Core.Path.{ap}
+use mathlib.Core.Bool.{_||_}
 use mathlib.Core.Option.{Option}
 use Prim.Native.Nat.{ℕ, _+_}
 use lib.Dec.{ltb}
@@ -8,9 +8,6 @@ use Rattle.respond.specs.Output.{isSome}
 use borrow.Author.Needs.{needs}
 use Rattle.respond.proofs.is_job_enough.Statement.{statement}
 use Rattle.respond.proofs.is_job_enough.Tie as tie
-use Rattle.respond.proofs.is_job_enough.Reads as reads
-use Rattle.respond.proofs.is_job_enough.Lts as lts
-use Rattle.list.proofs.refusal.Reads as refusal-reads
 
 refusal-requires : tie.Need-refusal-requires
 refusal-requires c κs = search needs

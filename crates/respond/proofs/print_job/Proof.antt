@@ -7,10 +7,6 @@ use Rattle.respond.proofs.Printed.{small-answer, same-lines}
 use borrow.Author.Needs.{needs}
 use Rattle.respond.proofs.print_job.Statement.{statement}
 use Rattle.respond.proofs.print_job.Tie as tie
-use Rattle.respond.proofs.print_job.Reads as reads
-use Rattle.respond.proofs.print_job.Lts as lts
-use Rattle.respond.proofs.print_listed.Reads as print-listed-reads
-use Rattle.list.proofs.list.Reads as list-reads
 
 slice-aggregate-list : tie.Need-slice-aggregate-list
 slice-aggregate-list c = search needs

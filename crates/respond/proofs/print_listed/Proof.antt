@@ -4,10 +4,6 @@ use Rattle.respond.proofs.Puts.{put-refused}
 use borrow.Author.Needs.{needs}
 use Rattle.respond.proofs.print_listed.Statement.{statement}
 use Rattle.respond.proofs.print_listed.Tie as tie
-use Rattle.respond.proofs.print_listed.Reads as reads
-use Rattle.respond.proofs.print_listed.Lts as lts
-use Rattle.lines.proofs.put_refusal.Reads as put-refusal-reads
-use Rattle.respond.proofs.print_rows.Reads as print-rows-reads
 
 enum-known-listed : tie.Need-enum-known-listed
 enum-known-listed c = search needs

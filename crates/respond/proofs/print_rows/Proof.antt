@@ -3,10 +3,6 @@ use native.Mathlib.Omega.{arith}
 use borrow.Author.Needs.{needs}
 use Rattle.respond.proofs.print_rows.Statement.{statement}
 use Rattle.respond.proofs.print_rows.Tie as tie
-use Rattle.respond.proofs.print_rows.Reads as reads
-use Rattle.respond.proofs.print_rows.Lts as lts
-use Rattle.lines.proofs.put_last_line.Reads as put-last-line-reads
-use Rattle.lines.proofs.put_rows.Reads as put-rows-reads
 
 put-rows-requires : tie.Need-put-rows-requires
 put-rows-requires c κs = search needs

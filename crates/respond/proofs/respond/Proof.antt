@@ -11,11 +11,6 @@ use Rattle.respond.proofs.Printed.{bad-line, job-lines}
 use borrow.Author.Needs.{needs}
 use Rattle.respond.proofs.respond.Statement.{statement}
 use Rattle.respond.proofs.respond.Tie as tie
-use Rattle.respond.proofs.respond.Reads as reads
-use Rattle.respond.proofs.respond.Lts as lts
-use Rattle.lines.proofs.job_line.Reads as job-line-reads
-use Rattle.lines.proofs.put_refusal.Reads as put-refusal-reads
-use Rattle.respond.proofs.print_job.Reads as print-job-reads
 
 job-line-requires : tie.Need-job-line-requires
 job-line-requires c κs = search needs

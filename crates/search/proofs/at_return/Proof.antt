@@ -20,7 +20,8 @@ returns c =
     let s = c .before .before .before .before .before .before .before .before .before .before .before .before in
     let x = c .before .before .before .before .before .before .before .trials in
     let b = c .before .before .go-on in
-    finished-return (s .args .mem .now) (x .last .0) (b .last .0) (s .args .p) (s .args .t) (x .result) (b .result) (x .ensures .1) (b .ensures) (s .args .v) (s .args .rows .now) (x .last .1 .1 .1 .1 .1 .1 .0) (x .ensures .0)
+    finished-return (s .args .mem .now) (x .last .0) (b .last .0) (s .args .p) (s .args .t) (x .result) (b .result) (x .ensures .1) (b .ensures) (s .args .v) (s .args .rows .now)
+    (x .last .1 .1 .1 .1 .1 .1 .0) (x .ensures .0)
 
 pub at-return-spec : {M : Type 1} → statement M
 at-return-spec =

@@ -24,7 +24,8 @@ returns : tie.Need-returns
 returns c =
     let s = c .before .before .before .before .before .before .before .before .before in
     let tb = c .before .before .before .before .before .before .take-back in
-    ended-backed (s .args .mem .now) (tb .last .0) (s .args .n) (s .args .t) (tb .result) (tb .ensures) (c .before .before .enum-told .given .1) ending.Cuts (ap closing (sym (c .before .if1 .taken))) _ (c .close .ensures)
+    ended-backed (s .args .mem .now) (tb .last .0) (s .args .n) (s .args .t) (tb .result) (tb .ensures) (c .before .before .enum-told .given .1) ending.Cuts
+    (ap closing (sym (c .before .if1 .taken))) _ (c .close .ensures)
 
 close-requires-2 : tie.Need-close-requires-2
 close-requires-2 c κs = search needs
@@ -57,7 +58,8 @@ returns-2 : tie.Need-returns-2
 returns-2 c =
     let s = c .before .before .before .before .before .before .before .before .before in
     let tb = c .before .before .before .before .before .before .take-back in
-    ended-backed (s .args .mem .now) (tb .last .0) (s .args .n) (s .args .t) (tb .result) (tb .ensures) (c .before .before .enum-told .given .1) ending.Whole (ap closing (sym (c .before .if1 .left))) _ (c .close2 .ensures)
+    ended-backed (s .args .mem .now) (tb .last .0) (s .args .n) (s .args .t) (tb .result) (tb .ensures) (c .before .before .enum-told .given .1) ending.Whole
+    (ap closing (sym (c .before .if1 .left))) _ (c .close2 .ensures)
 
 same-length-3 : tie.Need-same-length-3
 same-length-3 c = search needs
@@ -81,7 +83,8 @@ returns-4 c =
     let k = c .before .before .before .before .before .before .k .given in
     let x = c .before .before .before .before .charge in
     let u = c .before .before .u2 .given in
-    forced-backed (s .args .mem .now) (tb .last .0) (s .args .n) (s .args .t) (tb .result) (tb .ensures) (k .0 .0) (k .1) (x .result) (x .ensures) (tried.Full (u .0 .0)) (u .1) _ (ap Over (c .close3 .ensures))
+    forced-backed (s .args .mem .now) (tb .last .0) (s .args .n) (s .args .t) (tb .result) (tb .ensures) (k .0 .0) (k .1) (x .result) (x .ensures) (tried.Full (u .0 .0)) (u .1) _
+    (ap Over (c .close3 .ensures))
 
 same-length-5 : tie.Need-same-length-5
 same-length-5 c = search needs
@@ -93,7 +96,8 @@ returns-5 c =
     let k = c .before .before .before .before .before .before .k .given in
     let x = c .before .before .before .before .charge in
     let u = c .before .before .u3 .given in
-    forced-backed (s .args .mem .now) (tb .last .0) (s .args .n) (s .args .t) (tb .result) (tb .ensures) (k .0 .0) (k .1) (x .result) (x .ensures) (tried.Spent (u .0 .0)) (u .1) _ (ap Over (c .close4 .ensures))
+    forced-backed (s .args .mem .now) (tb .last .0) (s .args .n) (s .args .t) (tb .result) (tb .ensures) (k .0 .0) (k .1) (x .result) (x .ensures) (tried.Spent (u .0 .0)) (u .1) _
+    (ap Over (c .close4 .ensures))
 
 pub go-back-spec : {M : Type 1} → statement M
 go-back-spec =

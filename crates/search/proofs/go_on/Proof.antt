@@ -34,7 +34,8 @@ same-length c = search needs
 returns : tie.Need-returns
 returns c =
     let s = c .before .before .before .before .before .before .before .before in
-    subst (λ (x : Tried). Backed (s .args .mem .now) (c .before .before .go-back .last .0) (s .args .n) x (c .before .before .go-back .result)) (sym (c .before .before .before .before .before .x .given .1)) (c .before .before .go-back .ensures)
+    subst (λ (x : Tried). Backed (s .args .mem .now) (c .before .before .go-back .last .0) (s .args .n) x (c .before .before .go-back .result))
+    (sym (c .before .before .before .before .before .x .given .1)) (c .before .before .go-back .ensures)
 
 returns-2 : tie.Need-returns-2
 returns-2 c =

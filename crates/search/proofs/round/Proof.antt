@@ -35,7 +35,8 @@ pay-requires-2 c κs =
     let v = g .0 .0 in
     let p = g .0 .1 .0 in
     let left = g .0 .1 .1 .0 in
-    let w = walked-as (codeIn (a .code .now) (a .size)) (ofWindow (a .job)) (a .limit) (a .t .budget) (outcomesIn (a .mem .now) 0 (a .forced)) m (rp .result) (Walked.Returned v p left) (g .1) (rp .ensures) in
+    let w = walked-as (codeIn (a .code .now) (a .size)) (ofWindow (a .job)) (a .limit) (a .t .budget) (outcomesIn (a .mem .now) 0 (a .forced)) m (rp .result)
+    (Walked.Returned v p left) (g .1) (rp .ensures) in
     (w .0 .rest, s .pre .4 .sum)
 
 at-return-requires : tie.Need-at-return-requires
@@ -48,8 +49,12 @@ at-return-requires c κs =
     let v = g .0 .0 in
     let p = g .0 .1 .0 in
     let left = g .0 .1 .1 .0 in
-    let w = walked-as (codeIn (a .code .now) (a .size)) (ofWindow (a .job)) (a .limit) (a .t .budget) (outcomesIn (a .mem .now) 0 (a .forced)) m (rp .result) (Walked.Returned v p left) (g .1) (rp .ensures) in
-    (w .0 .standing, room-few (a .mem .now) m (p .choices) (a .limit) (w .0 .few) (rp .kept .1 .1 .0) (s .pre .2), paying-fair (a .t) (c .before .pay2 .result) left (length (a .rows .now)) (c .before .pay2 .ensures) (w .0 .rest) (s .pre .4))
+    let w = walked-as (codeIn (a .code .now) (a .size)) (ofWindow (a .job)) (a .limit) (a .t .budget) (outcomesIn (a .mem .now) 0 (a .forced)) m (rp .result)
+    (Walked.Returned v p left) (g .1) (rp .ensures) in (
+      w .0 .standing,
+      room-few (a .mem .now) m (p .choices) (a .limit) (w .0 .few) (rp .kept .1 .1 .0) (s .pre .2),
+      paying-fair (a .t) (c .before .pay2 .result) left (length (a .rows .now)) (c .before .pay2 .ensures) (w .0 .rest) (s .pre .4),
+    )
 
 enum-known-p : tie.Need-enum-known-p
 enum-known-p c = search needs
@@ -63,7 +68,8 @@ pay-requires-3 c κs =
     let g = c .before .before .p .given in
     let p = g .0 .0 in
     let left = g .0 .1 .0 in
-    let w = walked-as (codeIn (a .code .now) (a .size)) (ofWindow (a .job)) (a .limit) (a .t .budget) (outcomesIn (a .mem .now) 0 (a .forced)) m (rp .result) (Walked.Failed p left) (g .1) (rp .ensures) in
+    let w = walked-as (codeIn (a .code .now) (a .size)) (ofWindow (a .job)) (a .limit) (a .t .budget) (outcomesIn (a .mem .now) 0 (a .forced)) m (rp .result)
+    (Walked.Failed p left) (g .1) (rp .ensures) in
     (w .rest, s .pre .4 .sum)
 
 at-fail-requires : tie.Need-at-fail-requires
@@ -75,8 +81,12 @@ at-fail-requires c κs =
     let g = c .before .before .before .p .given in
     let p = g .0 .0 in
     let left = g .0 .1 .0 in
-    let w = walked-as (codeIn (a .code .now) (a .size)) (ofWindow (a .job)) (a .limit) (a .t .budget) (outcomesIn (a .mem .now) 0 (a .forced)) m (rp .result) (Walked.Failed p left) (g .1) (rp .ensures) in
-    (room-few (a .mem .now) m (p .choices) (a .limit) (w .few) (rp .kept .1 .1 .0) (s .pre .2), (paying-fair (a .t) (c .pay3 .result) left (length (a .rows .now)) (c .pay3 .ensures) (w .rest) (s .pre .4)) .sum)
+    let w = walked-as (codeIn (a .code .now) (a .size)) (ofWindow (a .job)) (a .limit) (a .t .budget) (outcomesIn (a .mem .now) 0 (a .forced)) m (rp .result)
+    (Walked.Failed p left) (g .1) (rp .ensures) in (
+      room-few (a .mem .now) m (p .choices) (a .limit) (w .few) (rp .kept .1 .1 .0)
+          (s .pre .2),
+      (paying-fair (a .t) (c .pay3 .result) left (length (a .rows .now)) (c .pay3 .ensures) (w .rest) (s .pre .4)) .sum,
+    )
 
 enum-known-p-2 : tie.Need-enum-known-p-2
 enum-known-p-2 c = search needs
@@ -90,7 +100,8 @@ pay-requires-4 c κs =
     let g = c .before .before .p2 .given in
     let p = g .0 .0 in
     let left = g .0 .1 .0 in
-    let w = walked-as (codeIn (a .code .now) (a .size)) (ofWindow (a .job)) (a .limit) (a .t .budget) (outcomesIn (a .mem .now) 0 (a .forced)) m (rp .result) (Walked.Cut p left) (g .1) (rp .ensures) in
+    let w = walked-as (codeIn (a .code .now) (a .size)) (ofWindow (a .job)) (a .limit) (a .t .budget) (outcomesIn (a .mem .now) 0 (a .forced)) m (rp .result)
+    (Walked.Cut p left) (g .1) (rp .ensures) in
     (w .rest, s .pre .4 .sum)
 
 at-cut-requires : tie.Need-at-cut-requires
@@ -102,8 +113,13 @@ at-cut-requires c κs =
     let g = c .before .before .before .p2 .given in
     let p = g .0 .0 in
     let left = g .0 .1 .0 in
-    let w = walked-as (codeIn (a .code .now) (a .size)) (ofWindow (a .job)) (a .limit) (a .t .budget) (outcomesIn (a .mem .now) 0 (a .forced)) m (rp .result) (Walked.Cut p left) (g .1) (rp .ensures) in
-    (w .standing, room-few (a .mem .now) m (p .choices) (a .limit) (w .few) (rp .kept .1 .1 .0) (s .pre .2), (paying-fair (a .t) (c .pay4 .result) left (length (a .rows .now)) (c .pay4 .ensures) (w .rest) (s .pre .4)) .sum)
+    let w = walked-as (codeIn (a .code .now) (a .size)) (ofWindow (a .job)) (a .limit) (a .t .budget) (outcomesIn (a .mem .now) 0 (a .forced)) m (rp .result)
+    (Walked.Cut p left) (g .1) (rp .ensures) in (
+      w .standing,
+      room-few (a .mem .now) m (p .choices) (a .limit) (w .few) (rp .kept .1 .1 .0)
+          (s .pre .2),
+      (paying-fair (a .t) (c .pay4 .result) left (length (a .rows .now)) (c .pay4 .ensures) (w .rest) (s .pre .4)) .sum,
+    )
 
 same-length : tie.Need-same-length
 same-length c = search needs
@@ -114,8 +130,10 @@ returns c =
     let a = s .args in
     let rp = c .before .before .before .before .before .before .run-path in
     let m = rp .last .1 .1 .0 in
-    let w = walked-as (codeIn (a .code .now) (a .size)) (ofWindow (a .job)) (a .limit) (a .t .budget) (outcomesIn (a .mem .now) 0 (a .forced)) m (rp .result) Walked.Spent (c .before .before .enum-told .given .1) (rp .ensures) in
-    round-spent (codeIn (a .code .now) (a .size)) (ofWindow (a .job)) (a .limit) (a .mem .now) m (a .rows .now) (a .forced) (a .t) w (c .before .pay .result) (c .before .pay .ensures) _ (c .close .ensures)
+    let w = walked-as (codeIn (a .code .now) (a .size)) (ofWindow (a .job)) (a .limit) (a .t .budget) (outcomesIn (a .mem .now) 0 (a .forced)) m (rp .result) Walked.Spent
+    (c .before .before .enum-told .given .1) (rp .ensures) in
+    round-spent (codeIn (a .code .now) (a .size)) (ofWindow (a .job)) (a .limit) (a .mem .now) m (a .rows .now) (a .forced) (a .t) w (c .before .pay .result)
+    (c .before .pay .ensures) _ (c .close .ensures)
 
 same-length-2 : tie.Need-same-length-2
 same-length-2 c = search needs
@@ -133,9 +151,12 @@ returns-2 c =
     let v = g .0 .0 in
     let p = g .0 .1 .0 in
     let left = g .0 .1 .1 .0 in
-    let w = walked-as (codeIn (a .code .now) (a .size)) (ofWindow (a .job)) (a .limit) (a .t .budget) (outcomesIn (a .mem .now) 0 (a .forced)) m (rp .result) (Walked.Returned v p left) (g .1) (rp .ensures) in
+    let w = walked-as (codeIn (a .code .now) (a .size)) (ofWindow (a .job)) (a .limit) (a .t .budget) (outcomesIn (a .mem .now) 0 (a .forced)) m (rp .result)
+    (Walked.Returned v p left) (g .1) (rp .ensures) in
     let x = c .before .before .before .at-return in
-    round-ended (codeIn (a .code .now) (a .size)) (ofWindow (a .job)) (a .limit) (a .mem .now) m (x .last .0) (a .rows .now) (x .last .1 .1 .1 .1 .0) (a .forced) (a .t) (returned (meant m (p .run .nodes) v)) p left (w .0) (c .before .before .before .before .before .pay2 .result) (c .before .before .before .before .before .pay2 .ensures) (x .result) (x .ensures)
+    round-ended (codeIn (a .code .now) (a .size)) (ofWindow (a .job)) (a .limit) (a .mem .now) m (x .last .0) (a .rows .now) (x .last .1 .1 .1 .1 .0) (a .forced) (a .t)
+    (returned (meant m (p .run .nodes) v)) p left (w .0) (c .before .before .before .before .before .pay2 .result)
+    (c .before .before .before .before .before .pay2 .ensures) (x .result) (x .ensures)
 
 same-length-4 : tie.Need-same-length-4
 same-length-4 c = search needs
@@ -149,9 +170,11 @@ returns-3 c =
     let g = c .before .before .before .before .before .before .p .given in
     let p = g .0 .0 in
     let left = g .0 .1 .0 in
-    let w = walked-as (codeIn (a .code .now) (a .size)) (ofWindow (a .job)) (a .limit) (a .t .budget) (outcomesIn (a .mem .now) 0 (a .forced)) m (rp .result) (Walked.Failed p left) (g .1) (rp .ensures) in
+    let w = walked-as (codeIn (a .code .now) (a .size)) (ofWindow (a .job)) (a .limit) (a .t .budget) (outcomesIn (a .mem .now) 0 (a .forced)) m (rp .result)
+    (Walked.Failed p left) (g .1) (rp .ensures) in
     let x = c .before .before .at-fail in
-    round-ended (codeIn (a .code .now) (a .size)) (ofWindow (a .job)) (a .limit) (a .mem .now) m (x .last .0) (a .rows .now) (a .rows .now) (a .forced) (a .t) failed p left w (c .before .before .before .pay3 .result) (c .before .before .before .pay3 .ensures) (x .result) (x .ensures (a .rows .now))
+    round-ended (codeIn (a .code .now) (a .size)) (ofWindow (a .job)) (a .limit) (a .mem .now) m (x .last .0) (a .rows .now) (a .rows .now) (a .forced) (a .t) failed p left w
+    (c .before .before .before .pay3 .result) (c .before .before .before .pay3 .ensures) (x .result) (x .ensures (a .rows .now))
 
 same-length-5 : tie.Need-same-length-5
 same-length-5 c = search needs
@@ -165,9 +188,11 @@ returns-4 c =
     let g = c .before .before .before .before .before .before .p2 .given in
     let p = g .0 .0 in
     let left = g .0 .1 .0 in
-    let w = walked-as (codeIn (a .code .now) (a .size)) (ofWindow (a .job)) (a .limit) (a .t .budget) (outcomesIn (a .mem .now) 0 (a .forced)) m (rp .result) (Walked.Cut p left) (g .1) (rp .ensures) in
+    let w = walked-as (codeIn (a .code .now) (a .size)) (ofWindow (a .job)) (a .limit) (a .t .budget) (outcomesIn (a .mem .now) 0 (a .forced)) m (rp .result)
+    (Walked.Cut p left) (g .1) (rp .ensures) in
     let x = c .before .before .at-cut in
-    round-ended (codeIn (a .code .now) (a .size)) (ofWindow (a .job)) (a .limit) (a .mem .now) m (x .last .0) (a .rows .now) (a .rows .now) (a .forced) (a .t) cut p left w (c .before .before .before .pay4 .result) (c .before .before .before .pay4 .ensures) (x .result) (x .ensures (a .rows .now))
+    round-ended (codeIn (a .code .now) (a .size)) (ofWindow (a .job)) (a .limit) (a .mem .now) m (x .last .0) (a .rows .now) (a .rows .now) (a .forced) (a .t) cut p left w
+    (c .before .before .before .pay4 .result) (c .before .before .before .pay4 .ensures) (x .result) (x .ensures (a .rows .now))
 
 pub round-spec : {M : Type 1} → statement M
 round-spec =

@@ -25,8 +25,14 @@ round-requires : tie.Need-round-requires Inv-loop μ-loop
 round-requires c κs =
     let s = c .before .before .before .before .before in
     let a = s .args in
-    let l = c .before .before .loop in
-    (s .pre .0, s .pre .1, room-kept (a .mem .now) (l .mem) (a .limit + 1) (l .inv .size) (s .pre .2), s .pre .3, between-fair (codeIn (a .code .now) (a .size)) (ofWindow (a .job)) (a .limit) (a .skip) (length (a .rows .now) / 10) (a .budget) (a .mem .now) (a .rows .now) (l .mem) (l .rows) (l .forced) (l .t) (l .inv) (s .fits .budget .fits) (omega arith))
+    let l = c .before .before .loop in (
+      s .pre .0,
+      s .pre .1,
+      room-kept (a .mem .now) (l .mem) (a .limit + 1) (l .inv .size) (s .pre .2),
+      s .pre .3,
+      between-fair (codeIn (a .code .now) (a .size)) (ofWindow (a .job)) (a .limit) (a .skip) (length (a .rows .now) / 10) (a .budget) (a .mem .now) (a .rows .now) (l .mem) (l .rows) (l .forced)
+          (l .t) (l .inv) (s .fits .budget .fits) (omega arith),
+    )
 
 enum-known-k : tie.Need-enum-known-k Inv-loop μ-loop
 enum-known-k c = search needs
@@ -36,14 +42,17 @@ loop-less c =
     let a = c .before .before .before .before .before .before .before .before .before .before .before .before .args in
     let x = c .before .before .before .before .before .before .round in
     let l = c .before .before .before .before .before .before .before .before .before .loop in
-    between-less (codeIn (a .code .now) (a .size)) (ofWindow (a .job)) (a .limit) (a .skip) (length (a .rows .now) / 10) (a .budget) (a .mem .now) (a .rows .now) (l .mem) (l .rows) (l .forced) (l .t) (l .inv) (x .last .1 .1 .0) (x .last .1 .1 .1 .1 .1 .1 .1 .0) (x .result) (x .ensures) (c .before .k .given .0 .0) (c .before .k .given .0 .1 .0) (c .before .k .given .1)
+    between-less (codeIn (a .code .now) (a .size)) (ofWindow (a .job)) (a .limit) (a .skip) (length (a .rows .now) / 10) (a .budget) (a .mem .now) (a .rows .now) (l .mem) (l .rows) (l .forced)
+    (l .t) (l .inv) (x .last .1 .1 .0) (x .last .1 .1 .1 .1 .1 .1 .1 .0) (x .result) (x .ensures) (c .before .k .given .0 .0) (c .before .k .given .0 .1 .0) (c .before .k .given .1)
 
 loop-again : tie.Need-loop-again Inv-loop μ-loop
 loop-again c =
     let a = c .before .before .before .before .before .before .before .before .before .before .before .before .args in
     let x = c .before .before .before .before .before .before .round in
     let l = c .before .before .before .before .before .before .before .before .before .loop in
-    between-next (codeIn (a .code .now) (a .size)) (ofWindow (a .job)) (a .limit) (a .skip) (length (a .rows .now) / 10) (a .budget) (a .mem .now) (a .rows .now) (l .mem) (l .rows) (l .forced) (l .t) (l .inv) (x .last .1 .1 .0) (x .last .1 .1 .1 .1 .1 .1 .1 .0) (x .result) (x .ensures) (c .before .k .given .0 .0) (c .before .k .given .0 .1 .0) (c .before .k .given .1) (x .kept .1 .1 .0) (x .kept .1 .1 .1 .1 .1 .1 .1 .0)
+    between-next (codeIn (a .code .now) (a .size)) (ofWindow (a .job)) (a .limit) (a .skip) (length (a .rows .now) / 10) (a .budget) (a .mem .now) (a .rows .now) (l .mem) (l .rows) (l .forced)
+    (l .t) (l .inv) (x .last .1 .1 .0) (x .last .1 .1 .1 .1 .1 .1 .1 .0) (x .result) (x .ensures) (c .before .k .given .0 .0) (c .before .k .given .0 .1 .0) (c .before .k .given .1)
+    (x .kept .1 .1 .0) (x .kept .1 .1 .1 .1 .1 .1 .1 .0)
 
 enum-known-a : tie.Need-enum-known-a Inv-loop μ-loop
 enum-known-a c = search needs
@@ -67,7 +76,9 @@ returns c =
     let a = c .before .before .before .before .before .before .before .before .before .before .before .before .args in
     let x = c .before .before .before .before .before .before .round in
     let l = c .before .before .before .before .before .before .before .before .before .loop in
-    between-over (codeIn (a .code .now) (a .size)) (ofWindow (a .job)) (a .limit) (a .skip) (length (a .rows .now) / 10) (a .budget) (a .mem .now) (a .rows .now) (l .mem) (l .rows) (l .forced) (l .t) (l .inv) (omega arith) (x .last .1 .1 .0) (x .last .1 .1 .1 .1 .1 .1 .1 .0) (x .result) (x .ensures) (c .before .a .given .0 .0) (c .before .a .given .1) (x .kept .1 .1 .1 .1 .1 .1 .1 .0)
+    between-over (codeIn (a .code .now) (a .size)) (ofWindow (a .job)) (a .limit) (a .skip) (length (a .rows .now) / 10) (a .budget) (a .mem .now) (a .rows .now) (l .mem) (l .rows) (l .forced)
+    (l .t) (l .inv) (omega arith) (x .last .1 .1 .0) (x .last .1 .1 .1 .1 .1 .1 .1 .0) (x .result) (x .ensures) (c .before .a .given .0 .0) (c .before .a .given .1)
+    (x .kept .1 .1 .1 .1 .1 .1 .1 .0)
 
 pub run-spec : {M : Type 1} → statement M
 run-spec =

@@ -1,4 +1,4 @@
-use Prim.Native.Nat.{ℕ, suc, _+_, _-_, _≤_, _<_}
+use Prim.Native.Nat.{ℕ, suc, _+_, _-_, _≤_}
 use mathlib.Core.Path.{_≡_, refl, sym, ap, subst}
 use mathlib.Core.List.{List}
 use native.Mathlib.Omega.{arith}
@@ -35,19 +35,49 @@ slice-read-if1 : tie.Need-slice-read-if1 Inv-loop μ-loop
 slice-read-if1 c = omega (arith, c .before .before .before .pre .words, c .before .before .before .pre .small, ap length (c .before .before .loop .inv .1), c .before .before .loop .inv .0)
 
 mul-mem : tie.Need-mul-mem Inv-loop μ-loop
-mul-mem c = omega (arith, c .before .before .before .before .pre .words, c .before .before .before .before .pre .small, ap length (c .before .before .before .loop .inv .1), c .before .before .before .loop .inv .0)
+mul-mem c = omega (
+  arith,
+  c .before .before .before .before .pre .words,
+  c .before .before .before .before .pre .small,
+  ap length (c .before .before .before .loop .inv .1),
+  c .before .before .before .loop .inv .0,
+)
 
 add-mem : tie.Need-add-mem Inv-loop μ-loop
-add-mem c = omega (arith, c .before .before .before .before .pre .words, c .before .before .before .before .pre .small, ap length (c .before .before .before .loop .inv .1), c .before .before .before .loop .inv .0)
+add-mem c = omega (
+  arith,
+  c .before .before .before .before .pre .words,
+  c .before .before .before .before .pre .small,
+  ap length (c .before .before .before .loop .inv .1),
+  c .before .before .before .loop .inv .0,
+)
 
 mul-mem-2 : tie.Need-mul-mem-2 Inv-loop μ-loop
-mul-mem-2 c = omega (arith, c .before .before .before .before .pre .words, c .before .before .before .before .pre .small, ap length (c .before .before .before .loop .inv .1), c .before .before .before .loop .inv .0)
+mul-mem-2 c = omega (
+  arith,
+  c .before .before .before .before .pre .words,
+  c .before .before .before .before .pre .small,
+  ap length (c .before .before .before .loop .inv .1),
+  c .before .before .before .loop .inv .0,
+)
 
 slice-write-mem : tie.Need-slice-write-mem Inv-loop μ-loop
-slice-write-mem c = omega (arith, c .before .before .before .before .pre .words, c .before .before .before .before .pre .small, ap length (c .before .before .before .loop .inv .1), c .before .before .before .loop .inv .0)
+slice-write-mem c = omega (
+  arith,
+  c .before .before .before .before .pre .words,
+  c .before .before .before .before .pre .small,
+  ap length (c .before .before .before .loop .inv .1),
+  c .before .before .before .loop .inv .0,
+)
 
 add-t10 : tie.Need-add-t10 Inv-loop μ-loop
-add-t10 c = omega (arith, c .before .before .before .before .pre .words, c .before .before .before .before .pre .small, ap length (c .before .before .before .loop .inv .1), c .before .before .before .loop .inv .0)
+add-t10 c = omega (
+  arith,
+  c .before .before .before .before .pre .words,
+  c .before .before .before .before .pre .small,
+  ap length (c .before .before .before .loop .inv .1),
+  c .before .before .before .loop .inv .0,
+)
 
 same-length : tie.Need-same-length Inv-loop μ-loop
 same-length c =
@@ -59,7 +89,8 @@ returns c =
     let s = c .before .before .before .before in
     let l = c .before .before .before .loop in
     subst (λ (m : List ℕ). NewestBack m (set (l .mem) (at (l .i - 1)) 0) (s .args .n) (Forced (l .i - 1 + 1))) (l .inv .1)
-    (newest (l .mem) (s .args .n) (l .i - 1) (omega (arith, c .before .before .loop-test .taken, l .inv .0)) (omega (arith, s .pre .words, ap length (l .inv .1))) (c .if1 .taken) (subst (λ (m : List ℕ). FalseFrom m (suc (l .i - 1)) (s .args .n)) (sym (l .inv .1)) (λ j g u. l .inv .2 j (omega (arith, g)) u)))
+    (newest (l .mem) (s .args .n) (l .i - 1) (omega (arith, c .before .before .loop-test .taken, l .inv .0)) (omega (arith, s .pre .words, ap length (l .inv .1))) (c .if1 .taken)
+    (subst (λ (m : List ℕ). FalseFrom m (suc (l .i - 1)) (s .args .n)) (sym (l .inv .1)) (λ j g u. l .inv .2 j (omega (arith, g)) u)))
 
 loop-less : tie.Need-loop-less Inv-loop μ-loop
 loop-less c = omega arith

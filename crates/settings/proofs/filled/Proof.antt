@@ -25,7 +25,8 @@ has-number-requires c κs = (omega arith, c .before .before .before .pre .1)
 returns : tie.Need-returns Inv-loop μ-loop
 returns c =
     let s = c .before .before .before .before .before .args in
-    sym (c .before .before .before .loop .inv .1 ∙ filled-one (s .mem .now) (s .k) (c .before .before .before .loop .i) false (c .before .before .loop-test .taken) (sym (c .before .has-number .ensures) ∙ not-true _ (c .if1 .taken)))
+    sym (c .before .before .before .loop .inv .1 ∙ filled-one (s .mem .now) (s .k) (c .before .before .before .loop .i) false (c .before .before .loop-test .taken)
+    (sym (c .before .has-number .ensures) ∙ not-true _ (c .if1 .taken)))
 
 add-i : tie.Need-add-i Inv-loop μ-loop
 add-i c = omega arith
@@ -35,8 +36,11 @@ loop-less c = omega arith
 
 loop-again : tie.Need-loop-again Inv-loop μ-loop
 loop-again c =
-    let s = c .before .before .before .before .before .args in
-    (omega arith, c .before .before .before .loop .inv .1 ∙ filled-one (s .mem .now) (s .k) (c .before .before .before .loop .i) true (c .before .before .loop-test .taken) (sym (c .before .has-number .ensures) ∙ not-false _ (c .if1 .left)))
+    let s = c .before .before .before .before .before .args in (
+      omega arith,
+      c .before .before .before .loop .inv .1 ∙ filled-one (s .mem .now) (s .k) (c .before .before .before .loop .i) true (c .before .before .loop-test .taken)
+          (sym (c .before .has-number .ensures) ∙ not-false _ (c .if1 .left)),
+    )
 
 returns-2 : tie.Need-returns-2 Inv-loop μ-loop
 returns-2 c = sym (c .before .loop .inv .1 ∙ filled-end (c .before .before .before .args .mem .now) (c .before .before .before .args .k) (c .before .loop .i) (omega arith))

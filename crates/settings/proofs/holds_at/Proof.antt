@@ -1,9 +1,10 @@
-use Prim.Native.Nat.{_+_, _*_, _%_}
 use lib.ListN.{getD}
 use Rattle.semantics.specs.Int.{holds}
 use Rattle.ints.specs.Numbers.{comparison}
 use Rattle.ints.proofs.Read.{read₂}
 use borrow.Author.Needs.{needs}
+use Rattle.machine.specs.Kinds.{testCompare}
+use Rattle.machine.specs.Layout.{testPlace}
 use Rattle.settings.proofs.holds_at.Statement.{statement}
 use Rattle.settings.proofs.holds_at.Tie as tie
 
@@ -55,7 +56,8 @@ holds-requires c κs = search needs
 returns : tie.Need-returns
 returns c =
     let s = c .before .before .before .before .before .before .before .args in
-    read₂ (holds (comparison (getD (s .mem .now) (1208 + 12 * s .j) 0 % 8))) (record { sfits = c .before .before .number .ok }) (record { sfits = c .before .number2 .ok }) (c .before .before .number .ensures) (c .before .number2 .ensures) (c .holds .ensures)
+    read₂ (holds (comparison (testCompare (getD (s .mem .now) (testPlace (s .j)) 0)))) (record { sfits = c .before .before .number .ok }) (record { sfits = c .before .number2 .ok })
+    (c .before .before .number .ensures) (c .before .number2 .ensures) (c .holds .ensures)
 
 pub holds-at-spec : {M : Type 1} → statement M
 holds-at-spec =

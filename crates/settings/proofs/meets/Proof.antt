@@ -21,20 +21,27 @@ sub-j : tie.Need-sub-j Inv-loop μ-loop
 sub-j c = omega arith
 
 holds-at-requires : tie.Need-holds-at-requires Inv-loop μ-loop
-holds-at-requires c κs = (c .before .before .before .pre .0, record { words = omega (arith, c .before .before .before .pre .1 .words); small = omega (arith, c .before .before .before .pre .1 .small) })
+holds-at-requires c κs = (
+  c .before .before .before .pre .0,
+  record { words = omega (arith, c .before .before .before .pre .1 .words); small = omega (arith, c .before .before .before .pre .1 .small) },
+)
 
 returns : tie.Need-returns Inv-loop μ-loop
 returns c =
     let s = c .before .before .before .before .before .args in
-    sym (c .before .before .before .loop .inv .1 ∙ meets-one (s .mem .now) (s .n) (c .before .before .before .loop .j) false (omega arith) (sym (c .before .holds-at .ensures) ∙ not-true _ (c .if1 .taken)))
+    sym (c .before .before .before .loop .inv .1 ∙ meets-one (s .mem .now) (s .n) (c .before .before .before .loop .j) false (omega arith)
+    (sym (c .before .holds-at .ensures) ∙ not-true _ (c .if1 .taken)))
 
 loop-less : tie.Need-loop-less Inv-loop μ-loop
 loop-less c = omega arith
 
 loop-again : tie.Need-loop-again Inv-loop μ-loop
 loop-again c =
-    let s = c .before .before .before .before .before .args in
-    (omega arith, c .before .before .before .loop .inv .1 ∙ meets-one (s .mem .now) (s .n) (c .before .before .before .loop .j) true (omega arith) (sym (c .before .holds-at .ensures) ∙ not-false _ (c .if1 .left)))
+    let s = c .before .before .before .before .before .args in (
+      omega arith,
+      c .before .before .before .loop .inv .1 ∙ meets-one (s .mem .now) (s .n) (c .before .before .before .loop .j) true (omega arith)
+          (sym (c .before .holds-at .ensures) ∙ not-false _ (c .if1 .left)),
+    )
 
 returns-2 : tie.Need-returns-2 Inv-loop μ-loop
 returns-2 c = sym (c .before .loop .inv .1 ∙ meets-none _ _ (c .before .loop .j) (omega arith))

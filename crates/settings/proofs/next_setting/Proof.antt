@@ -31,7 +31,11 @@ add-start-from : tie.Need-add-start-from Inv-loop μ-loop
 add-start-from c = omega arith
 
 start-from-requires : tie.Need-start-from-requires Inv-loop μ-loop
-start-from-requires c κs = (omega arith, c .before .before .before .before .before .before .before .before .before .before .before .pre .0, omega (arith, ap length (c .before .before .before .before .before .before .before .before .before .loop .inv .1)))
+start-from-requires c κs = (
+  omega arith,
+  c .before .before .before .before .before .before .before .before .before .before .before .pre .0,
+  omega (arith, ap length (c .before .before .before .before .before .before .before .before .before .loop .inv .1)),
+)
 
 same-length : tie.Need-same-length Inv-loop μ-loop
 same-length c = omega (arith, ap length (c .before .before .before .before .before .before .before .before .before .before .before .before .loop .inv .1))
@@ -41,7 +45,9 @@ returns c =
     let s = c .before .before .before .before .before .before .before .before .before .before .before .before .before .before in
     let l = c .before .before .before .before .before .before .before .before .before .before .before .before .loop in
     subst (λ (m : List ℕ). Follows m (c .before .before .start-from .last .0) (s .args .k) true) (l .inv .1)
-    (follows-some (l .mem) _ (c .before .before .start-from .last .0) (l .i - 1) (s .args .k) (s .pre .0) (omega arith) (below-true (c .before .before .before .before .before .before .before .before .before .below .ensures) (c .before .before .before .before .before .before .before .before .if1 .taken)) (λ j g u. l .inv .2 j (omega arith) u) (c .before .before .before .before .before .before .raise .ensures) (c .before .before .start-from .ensures))
+    (follows-some (l .mem) _ (c .before .before .start-from .last .0) (l .i - 1) (s .args .k) (s .pre .0) (omega arith)
+    (below-true (c .before .before .before .before .before .before .before .before .before .below .ensures) (c .before .before .before .before .before .before .before .before .if1 .taken))
+    (λ j g u. l .inv .2 j (omega arith) u) (c .before .before .before .before .before .before .raise .ensures) (c .before .before .start-from .ensures))
 
 loop-less : tie.Need-loop-less Inv-loop μ-loop
 loop-less c = omega arith

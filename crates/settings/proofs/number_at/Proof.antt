@@ -1,5 +1,5 @@
 use mathlib.Core.Path.{_∙_}
-use Prim.Native.Nat.{ℕ, _+_, _-_, _*_, _/_, _%_}
+use Prim.Native.Nat.{ℕ, _-_}
 use native.Mathlib.Omega.{arith as numeric}
 use lib.IntN.{pos}
 use lib.ListN.{getD}
@@ -7,6 +7,8 @@ use mir.Facts.{toZ-ofZ}
 use Rattle.semantics.specs.Int.{arith}
 use Rattle.ints.specs.Numbers.{operation}
 use Rattle.ints.proofs.Read.{read₂}
+use Rattle.machine.specs.Kinds.{nodeOp, leftOpen, rightOpen}
+use Rattle.machine.specs.Layout.{nodePlace, nodeLeft, nodeRight}
 use Rattle.machine.specs.Memory.{settingIn, numbersIn, cellAs}
 use Rattle.settings.proofs.Entries.{node-free, node-works}
 use borrow.Author.Needs.{needs}
@@ -50,7 +52,7 @@ shared-slice-read-y : tie.Need-shared-slice-read-y
 shared-slice-read-y c = search needs
 
 cast-value : tie.Need-cast-value
-cast-value c = omega (numeric, c .before .before .shared-slice-known3 .given (1203 + 12 * c .before .before .before .before .before .args .j))
+cast-value c = omega (numeric, c .before .before .shared-slice-known3 .given (nodeLeft (c .before .before .before .before .before .args .j)))
 
 value-requires : tie.Need-value-requires
 value-requires c κs = search needs
@@ -59,10 +61,11 @@ returns : tie.Need-returns
 returns c =
     let s = c .before .before .before .before .before .before .args in
     let m = s .mem .now in
-    let k = getD m (1202 + 12 * s .j) 0 in
-    let x = getD m (1203 + 12 * s .j) 0 in
-    let y = getD m (1204 + 12 * s .j) 0 in
-    toZ-ofZ (record { sfits = c .value .ok }) ∙ c .value .ensures ∙ node-free (λ (i : ℕ). getD (settingIn m (s .k)) i (pos 0)) (numbersIn m (s .j)) (k % 4) x (cellAs (k / 4 % 2) x) (cellAs (k / 8) y) (c .before .if1 .taken)
+    let k = getD m (nodePlace (s .j)) 0 in
+    let x = getD m (nodeLeft (s .j)) 0 in
+    let y = getD m (nodeRight (s .j)) 0 in
+    toZ-ofZ (record { sfits = c .value .ok }) ∙ c .value .ensures
+    ∙ node-free (λ (i : ℕ). getD (settingIn m (s .k)) i (pos 0)) (numbersIn m (s .j)) (nodeOp k) x (cellAs (leftOpen k) x) (cellAs (rightOpen k) y) (c .before .if1 .taken)
 
 sub-operate : tie.Need-sub-operate
 sub-operate c = search needs
@@ -80,12 +83,13 @@ returns-2 : tie.Need-returns-2
 returns-2 c =
     let s = c .before .before .before .before .before .before .before .before .args in
     let m = s .mem .now in
-    let k = getD m (1202 + 12 * s .j) 0 in
-    let x = getD m (1203 + 12 * s .j) 0 in
-    let y = getD m (1204 + 12 * s .j) 0 in
+    let k = getD m (nodePlace (s .j)) 0 in
+    let x = getD m (nodeLeft (s .j)) 0 in
+    let y = getD m (nodeRight (s .j)) 0 in
     toZ-ofZ (record { sfits = c .operate .ok })
-    ∙ read₂ (arith (operation (k % 4 - 1))) (record { sfits = c .before .before .number .ok }) (record { sfits = c .before .number2 .ok }) (c .before .before .number .ensures) (c .before .number2 .ensures) (c .operate .ensures)
-    ∙ node-works (λ (i : ℕ). getD (settingIn m (s .k)) i (pos 0)) (numbersIn m (s .j)) (k % 4) x (cellAs (k / 4 % 2) x) (cellAs (k / 8) y) (c .before .before .before .if1 .left)
+    ∙ read₂ (arith (operation (nodeOp k - 1))) (record { sfits = c .before .before .number .ok }) (record { sfits = c .before .number2 .ok }) (c .before .before .number .ensures)
+    (c .before .number2 .ensures) (c .operate .ensures)
+    ∙ node-works (λ (i : ℕ). getD (settingIn m (s .k)) i (pos 0)) (numbersIn m (s .j)) (nodeOp k) x (cellAs (leftOpen k) x) (cellAs (rightOpen k) y) (c .before .before .before .if1 .left)
 
 pub number-at-spec : {M : Type 1} → statement M
 number-at-spec =

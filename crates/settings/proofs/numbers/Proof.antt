@@ -17,7 +17,10 @@ loop-holds : tie.Need-loop-holds Inv-loop μ-loop
 loop-holds c = (omega arith, refl, numbered-none _ _)
 
 write-number-requires : tie.Need-write-number-requires Inv-loop μ-loop
-write-number-requires c κs = (c .before .before .before .before .pre .0, record { words = omega (arith, c .before .before .before .before .pre .1 .words); small = omega (arith, c .before .before .before .before .pre .1 .small) })
+write-number-requires c κs = (
+  c .before .before .before .before .pre .0,
+  record { words = omega (arith, c .before .before .before .before .pre .1 .words); small = omega (arith, c .before .before .before .before .pre .1 .small) },
+)
 
 add-j : tie.Need-add-j Inv-loop μ-loop
 add-j c = omega arith
@@ -26,7 +29,13 @@ loop-less : tie.Need-loop-less Inv-loop μ-loop
 loop-less c = omega arith
 
 loop-again : tie.Need-loop-again Inv-loop μ-loop
-loop-again c = (omega arith, omega arith, numbered-more (c .before .before .before .before .before .before .before .args .mem .now) (c .before .before .before .before .before .loop .mem) _ (c .before .before .before .before .before .loop .j) (c .before .before .before .before .before .before .before .args .k) (c .before .before .before .before .before .before .before .pre .0) (c .before .before .before .before .before .loop .inv .2) (c .before .before .write-number .ensures))
+loop-again c = (
+  omega arith,
+  omega arith,
+  numbered-more (c .before .before .before .before .before .before .before .args .mem .now) (c .before .before .before .before .before .loop .mem) _
+      (c .before .before .before .before .before .loop .j) (c .before .before .before .before .before .before .before .args .k) (c .before .before .before .before .before .before .before .pre .0)
+      (c .before .before .before .before .before .loop .inv .2) (c .before .before .write-number .ensures),
+)
 
 same-length : tie.Need-same-length Inv-loop μ-loop
 same-length c = c .before .loop .inv .1

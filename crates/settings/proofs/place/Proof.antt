@@ -38,8 +38,11 @@ same-length c = search needs
 returns-3 : tie.Need-returns-3
 returns-3 c =
     let s = c .before .before .before .before .before .before .before .before .before .before .args in
-    placed-row (s .rows .now) (s .t) (rowWith (s .result) (settingIn (s .mem .now) (s .k))) (c .before .before .before .write-row .last .0) (omega (arith, setting-length (s .mem .now) (s .k), c .before .before .before .before .before .before .before .before .before .before .pre .0)) (omega (arith, c .before .before .before .before .before .before .before .if1 .left)) (c .before .before .before .before .before .if2 .left)
-    (subst (λ (z : ℤ). Written (s .rows .now) (c .before .before .before .write-row .last .0) (s .t .written) (rowWith z (settingIn (s .mem .now) (s .k)))) (toZ-ofZ (c .before .before .before .before .before .before .before .before .before .before .fits .result)) (c .before .before .before .write-row .ensures))
+    placed-row (s .rows .now) (s .t) (rowWith (s .result) (settingIn (s .mem .now) (s .k))) (c .before .before .before .write-row .last .0)
+    (omega (arith, setting-length (s .mem .now) (s .k), c .before .before .before .before .before .before .before .before .before .before .pre .0))
+    (omega (arith, c .before .before .before .before .before .before .before .if1 .left)) (c .before .before .before .before .before .if2 .left)
+    (subst (λ (z : ℤ). Written (s .rows .now) (c .before .before .before .write-row .last .0) (s .t .written) (rowWith z (settingIn (s .mem .now) (s .k))))
+    (toZ-ofZ (c .before .before .before .before .before .before .before .before .before .before .fits .result)) (c .before .before .before .write-row .ensures))
 
 pub place-spec : {M : Type 1} → statement M
 place-spec =

@@ -29,8 +29,12 @@ returns-2 : tie.Need-returns-2
 returns-2 c =
     let s = c .before .before .before .before .before .before .before .before .before .before .args in
     let m = s .mem .now in
-    let p = c .before .before .before .before .numbers .ensures in
-    (probed-go (tests m (s .nodes) (s .tests)) (settingIn m (s .k)) (s .t) (c .before .before .before .before .before .before .spend .result) (c .meets .result) (c .before .before .before .before .before .before .before .if1 .left) (c .before .before .before .before .before .before .spend .ensures) (c .meets .ensures ∙ meets-is m _ (s .nodes) (s .k) p (s .tests)), renumbered m _ p)
+    let p = c .before .before .before .before .numbers .ensures in (
+      probed-go (tests m (s .nodes) (s .tests)) (settingIn m (s .k)) (s .t) (c .before .before .before .before .before .before .spend .result) (c .meets .result)
+          (c .before .before .before .before .before .before .before .if1 .left) (c .before .before .before .before .before .before .spend .ensures)
+          (c .meets .ensures ∙ meets-is m _ (s .nodes) (s .k) p (s .tests)),
+      renumbered m _ p,
+    )
 
 pub probe-spec : {M : Type 1} → statement M
 probe-spec =

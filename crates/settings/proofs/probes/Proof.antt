@@ -38,7 +38,8 @@ first-setting-requires c κs = (c .before .before .before .before .before .pre .
 loop-holds : tie.Need-loop-holds Inv-loop μ-loop
 loop-holds c =
     let s = c .before .before .before .before .before .before .before .before in
-    cutting-first (s .args .mem .now) _ (s .args .nodes) (s .args .tests) (s .args .k) (s .args .t) (s .pre .0 .few) (c .before .before .first-setting .ensures) (some-setting (c .before .before .before .before .before .filled .ensures) (c .before .before .before .before .if1 .left))
+    cutting-first (s .args .mem .now) _ (s .args .nodes) (s .args .tests) (s .args .k) (s .args .t) (s .pre .0 .few) (c .before .before .first-setting .ensures)
+    (some-setting (c .before .before .before .before .before .filled .ensures) (c .before .before .before .before .if1 .left))
 
 probe-requires : tie.Need-probe-requires Inv-loop μ-loop
 probe-requires c κs =
@@ -50,7 +51,14 @@ enum-known-w : tie.Need-enum-known-w Inv-loop μ-loop
 enum-known-w c = search needs
 
 next-setting-requires : tie.Need-next-setting-requires Inv-loop μ-loop
-next-setting-requires c κs = (c .before .before .before .before .before .before .before .before .before .before .before .before .before .before .before .before .before .before .before .pre .0 .few, omega (arith, c .before .before .before .before .before .before .before .before .before .before .loop .inv .size, c .before .before .before .before .before .before .before .before .before .before .before .before .before .before .before .before .before .before .before .pre .0 .nodes .words))
+next-setting-requires c κs = (
+  c .before .before .before .before .before .before .before .before .before .before .before .before .before .before .before .before .before .before .before .pre .0 .few,
+  omega (
+    arith,
+    c .before .before .before .before .before .before .before .before .before .before .loop .inv .size,
+    c .before .before .before .before .before .before .before .before .before .before .before .before .before .before .before .before .before .before .before .pre .0 .nodes .words,
+  ),
+)
 
 same-length-2 : tie.Need-same-length-2 Inv-loop μ-loop
 same-length-2 c = omega (arith, c .before .before .before .before .before .before .before .before .before .before .before .before .before .before .loop .inv .size)
@@ -59,17 +67,35 @@ returns-2 : tie.Need-returns-2 Inv-loop μ-loop
 returns-2 c =
     let s = c .before .before .before .before .before .before .before .before .before .before .before .before .before .before .before .before .before .before .before .before .before .before .before in
     let l = c .before .before .before .before .before .before .before .before .before .before .before .before .before .before .loop in
-    cutting-all (s .args .mem .now) (c .before .before .before .before .before .before .before .before .before .before .before .before .before .before .before .before .before .first-setting .last .0) (c .before .before .before .next-setting .last .0) (s .args .nodes) (s .args .tests) (s .args .k) (s .args .t) (Go (c .before .before .before .before .before .before .w .given .0 .0)) (s .pre .0 .few) (c .before .before .before .before .before .before .before .before .before .before .before .before .before .before .before .before .before .first-setting .ensures)
-    (cutting-last (s .pre .0 .few) (l .inv) (not-true _ (c .before .before .before .before .before .before .before .before .before .before .before .before .if2 .taken)) (c .before .before .before .before .before .before .before .before .before .before .probe .last .0) (c .before .before .before .before .before .before .before .before .before .before .probe .result) (c .before .before .before .before .before .before .before .before .before .before .probe .ensures .0) (c .before .before .before .before .before .before .before .before .before .before .probe .ensures .1) (c .before .before .before .next-setting .last .0) (c .before .before .before .before .before .before .w .given .0 .0) (c .before .before .before .before .before .before .w .given .1) (subst (λ (b : Bool). Follows (c .before .before .before .before .before .before .before .before .before .before .probe .last .0) (c .before .before .before .next-setting .last .0) (s .args .k) b) (not-true _ (c .if3 .taken)) (c .before .before .before .next-setting .ensures)))
+    cutting-all (s .args .mem .now)
+    (c .before .before .before .before .before .before .before .before .before .before .before .before .before .before .before .before .before .first-setting .last .0)
+    (c .before .before .before .next-setting .last .0) (s .args .nodes) (s .args .tests) (s .args .k) (s .args .t) (Go (c .before .before .before .before .before .before .w .given .0 .0))
+    (s .pre .0 .few) (c .before .before .before .before .before .before .before .before .before .before .before .before .before .before .before .before .before .first-setting .ensures)
+    (cutting-last (s .pre .0 .few) (l .inv) (not-true _ (c .before .before .before .before .before .before .before .before .before .before .before .before .if2 .taken))
+    (c .before .before .before .before .before .before .before .before .before .before .probe .last .0)
+    (c .before .before .before .before .before .before .before .before .before .before .probe .result)
+    (c .before .before .before .before .before .before .before .before .before .before .probe .ensures .0)
+    (c .before .before .before .before .before .before .before .before .before .before .probe .ensures .1) (c .before .before .before .next-setting .last .0)
+    (c .before .before .before .before .before .before .w .given .0 .0) (c .before .before .before .before .before .before .w .given .1)
+    (subst (λ (b : Bool). Follows (c .before .before .before .before .before .before .before .before .before .before .probe .last .0) (c .before .before .before .next-setting .last .0)
+    (s .args .k) b) (not-true _ (c .if3 .taken)) (c .before .before .before .next-setting .ensures)))
 
 loop-less : tie.Need-loop-less Inv-loop μ-loop
-loop-less c = subst (Moved (c .before .before .before .before .before .before .before .before .before .before .before .before .before .before .loop .u .budget)) (c .before .before .before .before .before .before .w .given .1) (c .before .before .before .before .before .before .before .before .before .before .probe .ensures .0 .moved)
+loop-less c = subst (Moved (c .before .before .before .before .before .before .before .before .before .before .before .before .before .before .loop .u .budget))
+    (c .before .before .before .before .before .before .w .given .1) (c .before .before .before .before .before .before .before .before .before .before .probe .ensures .0 .moved)
 
 loop-again : tie.Need-loop-again Inv-loop μ-loop
 loop-again c =
     let s = c .before .before .before .before .before .before .before .before .before .before .before .before .before .before .before .before .before .before .before .before .before .before .before in
     let l = c .before .before .before .before .before .before .before .before .before .before .before .before .before .before .loop in
-    cutting-next (s .pre .0 .few) (l .inv) (not-true _ (c .before .before .before .before .before .before .before .before .before .before .before .before .if2 .taken)) (c .before .before .before .before .before .before .before .before .before .before .probe .last .0) (c .before .before .before .before .before .before .before .before .before .before .probe .result) (c .before .before .before .before .before .before .before .before .before .before .probe .ensures .0) (c .before .before .before .before .before .before .before .before .before .before .probe .ensures .1) (c .before .before .before .next-setting .last .0) (c .before .before .before .before .before .before .w .given .0 .0) (c .before .before .before .before .before .before .w .given .1) (subst (λ (b : Bool). Follows (c .before .before .before .before .before .before .before .before .before .before .probe .last .0) (c .before .before .before .next-setting .last .0) (s .args .k) b) (not-false _ (c .if3 .left)) (c .before .before .before .next-setting .ensures)) (omega arith)
+    cutting-next (s .pre .0 .few) (l .inv) (not-true _ (c .before .before .before .before .before .before .before .before .before .before .before .before .if2 .taken))
+    (c .before .before .before .before .before .before .before .before .before .before .probe .last .0)
+    (c .before .before .before .before .before .before .before .before .before .before .probe .result)
+    (c .before .before .before .before .before .before .before .before .before .before .probe .ensures .0)
+    (c .before .before .before .before .before .before .before .before .before .before .probe .ensures .1) (c .before .before .before .next-setting .last .0)
+    (c .before .before .before .before .before .before .w .given .0 .0) (c .before .before .before .before .before .before .w .given .1)
+    (subst (λ (b : Bool). Follows (c .before .before .before .before .before .before .before .before .before .before .probe .last .0) (c .before .before .before .next-setting .last .0)
+    (s .args .k) b) (not-false _ (c .if3 .left)) (c .before .before .before .next-setting .ensures)) (omega arith)
 
 enum-known-w-2 : tie.Need-enum-known-w-2 Inv-loop μ-loop
 enum-known-w-2 c = search needs
@@ -81,8 +107,12 @@ returns-3 : tie.Need-returns-3 Inv-loop μ-loop
 returns-3 c =
     let s = c .before .before .before .before .before .before .before .before .before .before .before .before .before .before .before .before .before .before in
     let l = c .before .before .before .before .before .before .before .before .before .loop in
-    cutting-all (s .args .mem .now) (c .before .before .before .before .before .before .before .before .before .before .before .before .first-setting .last .0) (c .before .before .before .before .before .probe .last .0) (s .args .nodes) (s .args .tests) (s .args .k) (s .args .t) (Full (c .before .w2 .given .0 .0)) (s .pre .0 .few) (c .before .before .before .before .before .before .before .before .before .before .before .before .first-setting .ensures)
-    (cutting-over (s .pre .0 .few) (l .inv) (not-true _ (c .before .before .before .before .before .before .before .if2 .taken)) (c .before .before .before .before .before .probe .last .0) (c .before .before .before .before .before .probe .result) (c .before .before .before .before .before .probe .ensures .0) (c .before .before .before .before .before .probe .ensures .1) (Full (c .before .w2 .given .0 .0)) (λ (rows : List ℤ). closed full (tallyOf rows (c .before .w2 .given .0 .0))) (c .before .w2 .given .1) (λ rows. refl))
+    cutting-all (s .args .mem .now) (c .before .before .before .before .before .before .before .before .before .before .before .before .first-setting .last .0)
+    (c .before .before .before .before .before .probe .last .0) (s .args .nodes) (s .args .tests) (s .args .k) (s .args .t) (Full (c .before .w2 .given .0 .0)) (s .pre .0 .few)
+    (c .before .before .before .before .before .before .before .before .before .before .before .before .first-setting .ensures)
+    (cutting-over (s .pre .0 .few) (l .inv) (not-true _ (c .before .before .before .before .before .before .before .if2 .taken)) (c .before .before .before .before .before .probe .last .0)
+    (c .before .before .before .before .before .probe .result) (c .before .before .before .before .before .probe .ensures .0) (c .before .before .before .before .before .probe .ensures .1)
+    (Full (c .before .w2 .given .0 .0)) (λ (rows : List ℤ). closed full (tallyOf rows (c .before .w2 .given .0 .0))) (c .before .w2 .given .1) (λ rows. refl))
 
 enum-known-w-3 : tie.Need-enum-known-w-3 Inv-loop μ-loop
 enum-known-w-3 c = search needs
@@ -94,8 +124,12 @@ returns-4 : tie.Need-returns-4 Inv-loop μ-loop
 returns-4 c =
     let s = c .before .before .before .before .before .before .before .before .before .before .before .before .before .before .before .before .before .before in
     let l = c .before .before .before .before .before .before .before .before .before .loop in
-    cutting-all (s .args .mem .now) (c .before .before .before .before .before .before .before .before .before .before .before .before .first-setting .last .0) (c .before .before .before .before .before .probe .last .0) (s .args .nodes) (s .args .tests) (s .args .k) (s .args .t) (Spent (c .before .w3 .given .0 .0)) (s .pre .0 .few) (c .before .before .before .before .before .before .before .before .before .before .before .before .first-setting .ensures)
-    (cutting-over (s .pre .0 .few) (l .inv) (not-true _ (c .before .before .before .before .before .before .before .if2 .taken)) (c .before .before .before .before .before .probe .last .0) (c .before .before .before .before .before .probe .result) (c .before .before .before .before .before .probe .ensures .0) (c .before .before .before .before .before .probe .ensures .1) (Spent (c .before .w3 .given .0 .0)) (λ (rows : List ℤ). closed spent (tallyOf rows (c .before .w3 .given .0 .0))) (c .before .w3 .given .1) (λ rows. refl))
+    cutting-all (s .args .mem .now) (c .before .before .before .before .before .before .before .before .before .before .before .before .first-setting .last .0)
+    (c .before .before .before .before .before .probe .last .0) (s .args .nodes) (s .args .tests) (s .args .k) (s .args .t) (Spent (c .before .w3 .given .0 .0)) (s .pre .0 .few)
+    (c .before .before .before .before .before .before .before .before .before .before .before .before .first-setting .ensures)
+    (cutting-over (s .pre .0 .few) (l .inv) (not-true _ (c .before .before .before .before .before .before .before .if2 .taken)) (c .before .before .before .before .before .probe .last .0)
+    (c .before .before .before .before .before .probe .result) (c .before .before .before .before .before .probe .ensures .0) (c .before .before .before .before .before .probe .ensures .1)
+    (Spent (c .before .w3 .given .0 .0)) (λ (rows : List ℤ). closed spent (tallyOf rows (c .before .w3 .given .0 .0))) (c .before .w3 .given .1) (λ rows. refl))
 
 same-length-5 : tie.Need-same-length-5 Inv-loop μ-loop
 same-length-5 c = omega (arith, c .before .before .loop .inv .size)
@@ -104,7 +138,8 @@ returns-5 : tie.Need-returns-5 Inv-loop μ-loop
 returns-5 c =
     let s = c .before .before .before .before .before .before .before .before .before .before .before in
     let l = c .before .before .loop in
-    cutting-all (s .args .mem .now) (c .before .before .before .before .before .first-setting .last .0) (l .mem) (s .args .nodes) (s .args .tests) (s .args .k) (s .args .t) (Go (l .u)) (s .pre .0 .few) (c .before .before .before .before .before .first-setting .ensures)
+    cutting-all (s .args .mem .now) (c .before .before .before .before .before .first-setting .last .0) (l .mem) (s .args .nodes) (s .args .tests) (s .args .k) (s .args .t) (Go (l .u))
+    (s .pre .0 .few) (c .before .before .before .before .before .first-setting .ensures)
     (cutting-hit (s .pre .0 .few) (l .inv) (not-false _ (c .if2 .left)))
 
 pub probes-spec : {M : Type 1} → statement M

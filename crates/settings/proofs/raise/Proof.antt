@@ -1,6 +1,6 @@
-use Prim.Native.Nat.{_+_, _*_}
 use native.Mathlib.Omega.{arith}
 use lib.ListN.{getD}
+use Rattle.machine.specs.Layout.{windowHigh, valuePlace}
 use Rattle.settings.proofs.Entries.{wrote, raised-fits, raised}
 use borrow.Author.Needs.{needs}
 use Rattle.settings.proofs.raise.Statement.{statement}
@@ -22,7 +22,8 @@ add-word : tie.Need-add-word
 add-word c =
     let s = c .before .before .before in
     let m = s .args .mem .now in
-    raised-fits (getD m (1136 + s .args .i) 0) (getD m (1121 + 2 * s .args .i) 0) (record { sfits = c .signed .ok }) (c .signed .ensures) (c .before .before .slice-known .given (1121 + 2 * s .args .i)) (s .pre .2)
+    raised-fits (getD m (valuePlace (s .args .i)) 0) (getD m (windowHigh (s .args .i)) 0) (record { sfits = c .signed .ok }) (c .signed .ensures)
+    (c .before .before .slice-known .given (windowHigh (s .args .i))) (s .pre .2)
 
 word-requires : tie.Need-word-requires
 word-requires c κs = search needs
@@ -43,9 +44,11 @@ returns : tie.Need-returns
 returns c =
     let s = c .before .before .before .before in
     let m = s .args .mem .now in
-    let v = getD m (1136 + s .args .i) 0 in
-    wrote m (1136 + s .args .i) (c .word .result) (omega (arith, s .pre .1))
-    (raised (c .word .result) v (record { sfits = c .before .signed .ok }) (raised-fits v (getD m (1121 + 2 * s .args .i) 0) (record { sfits = c .before .signed .ok }) (c .before .signed .ensures) (c .before .before .before .slice-known .given (1121 + 2 * s .args .i)) (s .pre .2)) (c .before .signed .ensures) (c .word .ensures))
+    let v = getD m (valuePlace (s .args .i)) 0 in
+    wrote m (valuePlace (s .args .i)) (c .word .result) (omega (arith, s .pre .1))
+    (raised (c .word .result) v (record { sfits = c .before .signed .ok })
+    (raised-fits v (getD m (windowHigh (s .args .i)) 0) (record { sfits = c .before .signed .ok }) (c .before .signed .ensures)
+    (c .before .before .before .slice-known .given (windowHigh (s .args .i))) (s .pre .2)) (c .before .signed .ensures) (c .word .ensures))
 
 pub raise-spec : {M : Type 1} → statement M
 raise-spec =

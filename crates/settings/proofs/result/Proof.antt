@@ -36,7 +36,8 @@ signed-requires c κs = search needs
 returns : tie.Need-returns
 returns c =
     let s = c .before .before .before .before .before .before .before .args in
-    toZ-ofZ (record { sfits = c .signed .ok }) ∙ c .signed .ensures ∙ word-there (s .mem .now) (s .n) (c .before .before .before .before .v2 .given .0 .0) (c .before .before .if1 .taken) ∙ ap (λ (v : Value). numberIn (numbersIn (s .mem .now) (s .n)) (cellOf v)) (sym (c .before .before .before .before .v2 .given .1))
+    toZ-ofZ (record { sfits = c .signed .ok }) ∙ c .signed .ensures ∙ word-there (s .mem .now) (s .n) (c .before .before .before .before .v2 .given .0 .0) (c .before .before .if1 .taken)
+    ∙ ap (λ (v : Value). numberIn (numbersIn (s .mem .now) (s .n)) (cellOf v)) (sym (c .before .before .before .before .v2 .given .1))
 
 returns-2 : tie.Need-returns-2
 returns-2 c =

@@ -21,7 +21,8 @@ cast-result c = search needs
 returns-2 : tie.Need-returns-2
 returns-2 c =
     let s = c .before .before .before .args in
-    toZ-ofZ {w = w32} {z = pos (s .k)} (record { sfits = omega (arith, c .before .before .before .pre .0) }) ∙ word-second (s .result) (settingIn (s .mem .now) (s .k)) (s .j) (s .k) (c .if2 .taken) (setting-length (s .mem .now) (s .k))
+    toZ-ofZ {w = w32} {z = pos (s .k)} (record { sfits = omega (arith, c .before .before .before .pre .0) })
+    ∙ word-second (s .result) (settingIn (s .mem .now) (s .k)) (s .j) (s .k) (c .if2 .taken) (setting-length (s .mem .now) (s .k))
 
 sub-value : tie.Need-sub-value
 sub-value c = search needs

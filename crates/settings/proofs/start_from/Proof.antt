@@ -44,7 +44,13 @@ loop-less : tie.Need-loop-less Inv-loop μ-loop
 loop-less c = omega arith
 
 loop-again : tie.Need-loop-again Inv-loop μ-loop
-loop-again c = (omega arith, omega arith, simp length-set (c .before .before .loop .inv .2), anew-more (c .before .before .before .args .mem .now) (c .before .before .loop .mem) (c .before .before .before .args .i) (c .before .before .loop .j) (c .before .before .loop .inv .0) (omega arith) (omega (arith, c .before .before .loop .inv .2, c .before .before .before .pre .2)) (c .before .before .loop .inv .3))
+loop-again c = (
+  omega arith,
+  omega arith,
+  simp length-set (c .before .before .loop .inv .2),
+  anew-more (c .before .before .before .args .mem .now) (c .before .before .loop .mem) (c .before .before .before .args .i) (c .before .before .loop .j) (c .before .before .loop .inv .0)
+      (omega arith) (omega (arith, c .before .before .loop .inv .2, c .before .before .before .pre .2)) (c .before .before .loop .inv .3),
+)
 
 same-length : tie.Need-same-length Inv-loop μ-loop
 same-length c = c .before .loop .inv .2

@@ -1,6 +1,6 @@
 use mathlib.Core.Path.{_∙_}
-use Prim.Native.Nat.{_+_, _*_}
 use native.Mathlib.Omega.{arith}
+use Rattle.machine.specs.Layout.{numberPlace}
 use Rattle.settings.proofs.Entries.{wrote, word-of}
 use borrow.Author.Needs.{needs}
 use Rattle.settings.proofs.write_number.Statement.{statement}
@@ -30,7 +30,8 @@ same-length c = search needs
 returns : tie.Need-returns
 returns c =
     let s = c .before .before .before .before .args in
-    wrote (s .mem .now) (1207 + 12 * s .j) (c .word .result) (omega (arith, c .before .before .before .before .pre .1 .words)) (word-of (c .word .result) (record { sfits = c .before .number-at .ok }) (c .word .ensures) ∙ c .before .number-at .ensures)
+    wrote (s .mem .now) (numberPlace (s .j)) (c .word .result) (omega (arith, c .before .before .before .before .pre .1 .words))
+    (word-of (c .word .result) (record { sfits = c .before .number-at .ok }) (c .word .ensures) ∙ c .before .number-at .ensures)
 
 pub write-number-spec : {M : Type 1} → statement M
 write-number-spec =

@@ -46,8 +46,13 @@ loop-less c = omega arith
 loop-again : tie.Need-loop-again Inv-loop μ-loop
 loop-again c =
     let s = c .before .before .before .before .args in
-    let l = c .before .before .loop in
-    (omega arith, simp length-set (l .inv .1), wording-more (s .rows .now) (l .rows) (s .n) (l .j) (rowWith (toZ w32 (ofZ w32 (s .result))) (settingIn (s .mem .now) (s .k))) (toZ w32 (ofZ w32 (c .row-word .result))) (c .before .loop-test .taken) (omega (arith, l .inv .1, c .before .before .before .before .pre .2)) (toZ-ofZ (record { sfits = c .row-word .ok }) ∙ c .row-word .ensures) (l .inv .2))
+    let l = c .before .before .loop in (
+      omega arith,
+      simp length-set (l .inv .1),
+      wording-more (s .rows .now) (l .rows) (s .n) (l .j) (rowWith (toZ w32 (ofZ w32 (s .result))) (settingIn (s .mem .now) (s .k)))
+          (toZ w32 (ofZ w32 (c .row-word .result))) (c .before .loop-test .taken) (omega (arith, l .inv .1, c .before .before .before .before .pre .2))
+          (toZ-ofZ (record { sfits = c .row-word .ok }) ∙ c .row-word .ensures) (l .inv .2),
+    )
 
 same-length : tie.Need-same-length Inv-loop μ-loop
 same-length c = c .before .loop .inv .1

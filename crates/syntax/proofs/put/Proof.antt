@@ -3,8 +3,6 @@ use native.Mathlib.Omega.{arith}
 use borrow.Author.Needs.{needs}
 use Rattle.syntax.proofs.put.Statement.{statement}
 use Rattle.syntax.proofs.put.Tie as tie
-use Rattle.syntax.proofs.put.Reads as reads
-use Rattle.syntax.proofs.put.Lts as lts
 
 mul-nodes : tie.Need-mul-nodes
 mul-nodes c = search needs

@@ -4,15 +4,15 @@ use mathlib.Core.List.{[], _∷_}
 use native.Mathlib.Numerals.{add-one}
 use borrow.Author.Needs.{needs}
 use types.Run.{OneOf}
-use Rattle.text_rules.proofs.Items.{number, not-one}
-use Rattle.text_rules.specs.declared.item.Item.{Item}
-use Rattle.text_rules.specs.declared.item.Item.the-variants.{Function, Parameter, Thing, Opens, Closes, Declares, Uses, Calls, Ends}
+use Rattle.events.proofs.Variants.{number, not-one}
+use Rattle.events.specs.declared.event.Event.{Event}
+use Rattle.events.specs.declared.event.Event.the-variants.{Function, Parameter, Thing, Opens, Closes, Declares, Uses, Calls, Ends}
 use Rattle.text_rules.specs.Rules.{Tally, counted}
-use Rattle.text_rules.specs.Answers.{event}
+use Rattle.events.specs.Read.{asEvent}
 use Rattle.breaches.proofs.counts.count.Statement.{statement}
 use Rattle.breaches.proofs.counts.count.Tie as tie
 
-other : (t : Tally) (x : Item) → OneOf (2 ∷ 3 ∷ 4 ∷ 6 ∷ 7 ∷ 8 ∷ []) (number x) → counted t (event x) ≡ t
+other : (t : Tally) (x : Event) → OneOf (2 ∷ 3 ∷ 4 ∷ 6 ∷ 7 ∷ 8 ∷ []) (number x) → counted t (asEvent x) ≡ t
 unfolding counted
 other t (Function i) h = absurd (not-one 0 (2 ∷ 3 ∷ 4 ∷ 6 ∷ 7 ∷ 8 ∷ []) refl h)
 other t (Parameter i) h = absurd (not-one 1 (2 ∷ 3 ∷ 4 ∷ 6 ∷ 7 ∷ 8 ∷ []) refl h)

@@ -40,8 +40,8 @@ abbrev μ-loop : tie.MeasureT-loop
 loop-holds : tie.Need-loop-holds Inv-loop μ-loop
 loop-holds c = (search needs, omega arith, ahead-start counted over _ _ _)
 
-item-at-requires : tie.Need-item-at-requires Inv-loop μ-loop
-item-at-requires c κs = search needs
+event-at-requires : tie.Need-event-at-requires Inv-loop μ-loop
+event-at-requires c κs = search needs
 
 exceeds-requires : tie.Need-exceeds-requires Inv-loop μ-loop
 exceeds-requires c κs = search needs
@@ -58,7 +58,7 @@ loop-less : tie.Need-loop-less Inv-loop μ-loop
 loop-less c = search needs
 
 loop-again : tie.Need-loop-again Inv-loop μ-loop
-loop-again c = (search needs, rw (c .count .ensures) (within-more _ _ _ (c .before .before .before .before .loop .inv .1)), ahead-turn counted over _ _ _ _ _ (c .before .before .before .loop-test .taken) (c .before .before .item-at .ensures) (c .count .ensures) (c .before .exceeds .ensures) ∙ c .before .before .before .before .loop .inv .2)
+loop-again c = (search needs, rw (c .count .ensures) (within-more _ _ _ (c .before .before .before .before .loop .inv .1)), ahead-turn counted over _ _ _ _ _ (c .before .before .before .loop-test .taken) (c .before .before .event-at .ensures) (c .count .ensures) (c .before .exceeds .ensures) ∙ c .before .before .before .before .loop .inv .2)
 
 returns : tie.Need-returns Inv-loop μ-loop
 returns c = sym (ahead-end counted over _ _ _ _ _ (c .loop-test .left)) ∙ c .before .loop .inv .2
@@ -70,7 +70,7 @@ too-many-spec =
     Inv-loop
     μ-loop
     loop-holds
-    item-at-requires
+    event-at-requires
     exceeds-requires
     count-requires
     add-i

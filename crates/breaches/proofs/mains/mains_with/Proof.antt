@@ -11,7 +11,7 @@ use Rattle.breaches.proofs.mains.mains_with.Statement.{statement}
 use Rattle.breaches.proofs.mains.mains_with.Tie as tie
 
 abbrev Inv-loop : tie.InvT-loop
-Inv-loop text places values heads h best₀ k₀ best k = (k ≤ h) × (mainAhead (isMain text places values) heads h k (place best) ≡ least (withParameters (isMain text places values) (mains (isMain text places values) (storedHeads heads h))))
+Inv-loop text places values heads h best₀ k₀ best k = (k ≤ h) × (mainAhead (isMain text places values) heads h k (place best) ≡ least (withParameters (mains (isMain text places values) (storedHeads heads h))))
 
 abbrev μ-loop : tie.MeasureT-loop
 μ-loop text places values heads h best₀ k₀ best k = h - k

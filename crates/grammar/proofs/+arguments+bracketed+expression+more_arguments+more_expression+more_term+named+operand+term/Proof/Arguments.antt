@@ -9,8 +9,6 @@ use Rattle.grammar.specs.Parse.{readOperand, readArgs}
 use Rattle.grammar.proofs.Steps.{kept, room-for, written, unwritten, ready-in, ready-stored, ready-after, told, begin, not-so, eat, wrote, call, fail, found, hand, before, none-at}
 use Rattle.grammar.proofs.arguments.Reads as arguments
 use Rattle.grammar.proofs.+arguments+bracketed+expression+more_arguments+more_expression+more_term+named+operand+term.Lts-arguments as arguments-lts
-use Rattle.grammar.proofs.+arguments+bracketed+expression+more_arguments+more_expression+more_term+named+operand+term.{statement}
-use Rattle.grammar.proofs.+arguments+bracketed+expression+more_arguments+more_expression+more_term+named+operand+term.Tie.{close}
 use Rattle.grammar.proofs.+arguments+bracketed+expression+more_arguments+more_expression+more_term+named+operand+term.Proof.Falls.{arguments-at, arguments-C}
 
 pub arguments-store-requires : (t : ℕ) → arguments-lts.Need-store-requires (arguments-C t) (arguments-at t) arguments.Post

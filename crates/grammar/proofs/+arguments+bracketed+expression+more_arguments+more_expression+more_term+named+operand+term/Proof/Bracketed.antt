@@ -8,8 +8,6 @@ use Rattle.grammar.specs.Parse.{readOperand, readBracket}
 use Rattle.grammar.proofs.Steps.{kept, room-for, written, unwritten, ready-next, ready-after, told, begin, not-so, pass, eat, wrote, call, fail, stop, found}
 use Rattle.grammar.proofs.bracketed.Reads as bracketed
 use Rattle.grammar.proofs.+arguments+bracketed+expression+more_arguments+more_expression+more_term+named+operand+term.Lts-bracketed as bracketed-lts
-use Rattle.grammar.proofs.+arguments+bracketed+expression+more_arguments+more_expression+more_term+named+operand+term.{statement}
-use Rattle.grammar.proofs.+arguments+bracketed+expression+more_arguments+more_expression+more_term+named+operand+term.Tie.{close}
 use Rattle.grammar.proofs.+arguments+bracketed+expression+more_arguments+more_expression+more_term+named+operand+term.Proof.Falls.{bracketed-at, bracketed-C}
 
 pub bracketed-add-expression : (t : ℕ) → bracketed-lts.Need-add-expression (bracketed-C t) (bracketed-at t) bracketed.Post

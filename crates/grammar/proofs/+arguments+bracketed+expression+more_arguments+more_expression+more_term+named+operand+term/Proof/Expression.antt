@@ -8,8 +8,6 @@ use Rattle.grammar.specs.Parse.{readOperand, readSum}
 use Rattle.grammar.proofs.Steps.{ready-after, told, begin, call, fail, hand}
 use Rattle.grammar.proofs.expression.Reads as expression
 use Rattle.grammar.proofs.+arguments+bracketed+expression+more_arguments+more_expression+more_term+named+operand+term.Lts-expression as expression-lts
-use Rattle.grammar.proofs.+arguments+bracketed+expression+more_arguments+more_expression+more_term+named+operand+term.{statement}
-use Rattle.grammar.proofs.+arguments+bracketed+expression+more_arguments+more_expression+more_term+named+operand+term.Tie.{close}
 use Rattle.grammar.proofs.+arguments+bracketed+expression+more_arguments+more_expression+more_term+named+operand+term.Proof.Falls.{expression-at, expression-C}
 
 pub expression-term-requires : (t : ℕ) → expression-lts.Need-term-requires (expression-C t) (expression-at t) expression.Post

@@ -1,7 +1,6 @@
 -- What falls at each call of the cycle, and what is asked and learnt there.
 use Prim.Native.Nat.{ℕ, _<_, _*_, _-_, _+_}
 use lib.ListN.{length}
-use Rattle.grammar.proofs.Steps.{call}
 use borrow.Fn.Kinds.{In}
 use borrow.Fn.PlainCycle.{Measures, is, falls, and}
 use Rattle.grammar.proofs.arguments.Reads as arguments
@@ -33,8 +32,6 @@ use Rattle.grammar.proofs.term.Kinds as term-kinds
 use Rattle.grammar.proofs.+arguments+bracketed+expression+more_arguments+more_expression+more_term+named+operand+term.Lts-term as term-lts
 use Rattle.grammar.proofs.sign.Reads as sign-reads
 use Rattle.grammar.proofs.store.Reads as store-reads
-use Rattle.grammar.proofs.+arguments+bracketed+expression+more_arguments+more_expression+more_term+named+operand+term.{statement}
-use Rattle.grammar.proofs.+arguments+bracketed+expression+more_arguments+more_expression+more_term+named+operand+term.Tie.{close}
 
 abbrev pub μ-arguments : Measures 2 arguments-kinds.ps ℕ
 μ-arguments κs a = 8 * (length (a .0 .now) - a .1 .0) + 5

@@ -9,8 +9,6 @@ use Rattle.grammar.specs.Parse.{readOperand, moreArgs}
 use Rattle.grammar.proofs.Steps.{not-last, clash, kept, room-for, written, unwritten, ready-next, ready-stored, ready-after, told, begin, not-so, eat, wrote, call, fail, stop, found, hand}
 use Rattle.grammar.proofs.more_arguments.Reads as more-arguments
 use Rattle.grammar.proofs.+arguments+bracketed+expression+more_arguments+more_expression+more_term+named+operand+term.Lts-more_arguments as more-arguments-lts
-use Rattle.grammar.proofs.+arguments+bracketed+expression+more_arguments+more_expression+more_term+named+operand+term.{statement}
-use Rattle.grammar.proofs.+arguments+bracketed+expression+more_arguments+more_expression+more_term+named+operand+term.Tie.{close}
 use Rattle.grammar.proofs.+arguments+bracketed+expression+more_arguments+more_expression+more_term+named+operand+term.Proof.Falls.{more-arguments-at, more-arguments-C}
 
 pub more-arguments-shared-slice-read-k : (t : ℕ) → more-arguments-lts.Need-shared-slice-read-k (more-arguments-C t) (more-arguments-at t) more-arguments.Post

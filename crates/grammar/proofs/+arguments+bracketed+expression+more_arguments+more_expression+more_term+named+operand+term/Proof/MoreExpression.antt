@@ -8,8 +8,6 @@ use Rattle.grammar.proofs.Steps.{not-last, kept, room-for, written, unw
 use Rattle.grammar.proofs.Marks.{signed, unsigned}
 use Rattle.grammar.proofs.more_expression.Reads as more-expression
 use Rattle.grammar.proofs.+arguments+bracketed+expression+more_arguments+more_expression+more_term+named+operand+term.Lts-more_expression as more-expression-lts
-use Rattle.grammar.proofs.+arguments+bracketed+expression+more_arguments+more_expression+more_term+named+operand+term.{statement}
-use Rattle.grammar.proofs.+arguments+bracketed+expression+more_arguments+more_expression+more_term+named+operand+term.Tie.{close}
 use Rattle.grammar.proofs.+arguments+bracketed+expression+more_arguments+more_expression+more_term+named+operand+term.Proof.Falls.{more-expression-at, more-expression-C}
 
 pub more-expression-shared-slice-read-sign : (t : ℕ) → more-expression-lts.Need-shared-slice-read-sign (more-expression-C t) (more-expression-at t) more-expression.Post

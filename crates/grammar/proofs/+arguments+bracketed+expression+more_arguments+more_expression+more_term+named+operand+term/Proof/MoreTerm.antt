@@ -9,8 +9,6 @@ use Rattle.grammar.specs.Parse.{readOperand, moreTerm}
 use Rattle.grammar.proofs.Steps.{not-last, kept, room-for, written, unwritten, ready-next, ready-stored, ready-after, told, begin, not-so, eat, wrote, call, fail, found, hand}
 use Rattle.grammar.proofs.more_term.Reads as more-term
 use Rattle.grammar.proofs.+arguments+bracketed+expression+more_arguments+more_expression+more_term+named+operand+term.Lts-more_term as more-term-lts
-use Rattle.grammar.proofs.+arguments+bracketed+expression+more_arguments+more_expression+more_term+named+operand+term.{statement}
-use Rattle.grammar.proofs.+arguments+bracketed+expression+more_arguments+more_expression+more_term+named+operand+term.Tie.{close}
 use Rattle.grammar.proofs.+arguments+bracketed+expression+more_arguments+more_expression+more_term+named+operand+term.Proof.Falls.{more-term-at, more-term-C}
 
 pub more-term-shared-slice-read-if1 : (t : ℕ) → more-term-lts.Need-shared-slice-read-if1 (more-term-C t) (more-term-at t) more-term.Post

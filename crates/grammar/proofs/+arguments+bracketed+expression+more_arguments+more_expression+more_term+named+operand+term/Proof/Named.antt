@@ -8,8 +8,6 @@ use Rattle.grammar.specs.Parse.{readOperand, readCall}
 use Rattle.grammar.proofs.Steps.{not-last, kept, room-for, written, unwritten, ready-next, ready-up, ready-after, told, begin, not-so, pass, eat, wrote, call, fail, found}
 use Rattle.grammar.proofs.named.Reads as named
 use Rattle.grammar.proofs.+arguments+bracketed+expression+more_arguments+more_expression+more_term+named+operand+term.Lts-named as named-lts
-use Rattle.grammar.proofs.+arguments+bracketed+expression+more_arguments+more_expression+more_term+named+operand+term.{statement}
-use Rattle.grammar.proofs.+arguments+bracketed+expression+more_arguments+more_expression+more_term+named+operand+term.Tie.{close}
 use Rattle.grammar.proofs.+arguments+bracketed+expression+more_arguments+more_expression+more_term+named+operand+term.Proof.Falls.{named-at, named-C}
 
 pub named-add-if1 : (t : ℕ) → named-lts.Need-add-if1 (named-C t) (named-at t) named.Post

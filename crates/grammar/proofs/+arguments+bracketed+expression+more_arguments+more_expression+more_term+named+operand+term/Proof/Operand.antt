@@ -7,8 +7,6 @@ use Rattle.grammar.specs.Parse.{readOperand}
 use Rattle.grammar.proofs.Steps.{not-last, room-for, written, begin, yes-so, not-so, eat, wrote, stop, found, hand}
 use Rattle.grammar.proofs.operand.Reads as operand
 use Rattle.grammar.proofs.+arguments+bracketed+expression+more_arguments+more_expression+more_term+named+operand+term.Lts-operand as operand-lts
-use Rattle.grammar.proofs.+arguments+bracketed+expression+more_arguments+more_expression+more_term+named+operand+term.{statement}
-use Rattle.grammar.proofs.+arguments+bracketed+expression+more_arguments+more_expression+more_term+named+operand+term.Tie.{close}
 use Rattle.grammar.proofs.+arguments+bracketed+expression+more_arguments+more_expression+more_term+named+operand+term.Proof.Falls.{operand-at, operand-C}
 
 pub operand-shared-slice-read-k : (t : ℕ) → operand-lts.Need-shared-slice-read-k (operand-C t) (operand-at t) operand.Post

@@ -8,8 +8,6 @@ use Rattle.grammar.specs.Parse.{readOperand, readTerm}
 use Rattle.grammar.proofs.Steps.{ready-after, told, begin, call, fail, hand}
 use Rattle.grammar.proofs.term.Reads as term
 use Rattle.grammar.proofs.+arguments+bracketed+expression+more_arguments+more_expression+more_term+named+operand+term.Lts-term as term-lts
-use Rattle.grammar.proofs.+arguments+bracketed+expression+more_arguments+more_expression+more_term+named+operand+term.{statement}
-use Rattle.grammar.proofs.+arguments+bracketed+expression+more_arguments+more_expression+more_term+named+operand+term.Tie.{close}
 use Rattle.grammar.proofs.+arguments+bracketed+expression+more_arguments+more_expression+more_term+named+operand+term.Proof.Falls.{term-at, term-C}
 
 pub term-operand-requires : (t : ℕ) → term-lts.Need-operand-requires (term-C t) (term-at t) term.Post

@@ -8,8 +8,6 @@ use Rattle.grammar.specs.Parse.{readStmt, readBlock}
 use Rattle.grammar.proofs.Steps.{kept, room-for, written, unwritten, ready-next, ready-up, ready-after, told, begin, pass, wrote, call, fail, found}
 use Rattle.grammar.proofs.block.Reads as block
 use Rattle.grammar.proofs.+block+body+braces+if_else+statement+while_do.Lts-block as block-lts
-use Rattle.grammar.proofs.+block+body+braces+if_else+statement+while_do.{statement}
-use Rattle.grammar.proofs.+block+body+braces+if_else+statement+while_do.Tie.{close}
 use Rattle.grammar.proofs.+block+body+braces+if_else+statement+while_do.Proof.Falls.{block-at, block-C}
 
 pub block-add-braces : (t : ℕ) → block-lts.Need-add-braces (block-C t) (block-at t) block.Post

@@ -10,7 +10,6 @@ use Rattle.grammar.proofs.Steps.{kept, room-for, written, unwritten, re
 use Rattle.grammar.proofs.body.Reads as body
 use Rattle.grammar.proofs.+block+body+braces+if_else+statement+while_do.Lts-body as body-lts
 use Rattle.grammar.proofs.+block+body+braces+if_else+statement+while_do.{statement}
-use Rattle.grammar.proofs.+block+body+braces+if_else+statement+while_do.Tie.{close}
 use Rattle.grammar.proofs.+block+body+braces+if_else+statement+while_do.Proof.Falls.{body-at, body-C}
 
 pub body-shared-slice-read-if1 : (t : ℕ) → body-lts.Need-shared-slice-read-if1 (body-C t) (body-at t) body.Post

@@ -8,8 +8,6 @@ use Rattle.grammar.specs.Parse.{readStmt}
 use Rattle.grammar.proofs.Steps.{room-for, written, unwritten, ready-in, before}
 use Rattle.grammar.proofs.braces.Reads as braces
 use Rattle.grammar.proofs.+block+body+braces+if_else+statement+while_do.Lts-braces as braces-lts
-use Rattle.grammar.proofs.+block+body+braces+if_else+statement+while_do.{statement}
-use Rattle.grammar.proofs.+block+body+braces+if_else+statement+while_do.Tie.{close}
 use Rattle.grammar.proofs.+block+body+braces+if_else+statement+while_do.Proof.Falls.{braces-at, braces-C}
 
 pub braces-store-requires : (t : ℕ) → braces-lts.Need-store-requires (braces-C t) (braces-at t) braces.Post

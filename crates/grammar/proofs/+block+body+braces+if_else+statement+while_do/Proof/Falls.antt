@@ -1,7 +1,6 @@
 -- What falls at each call of the cycle, and what is asked and learnt there.
 use Prim.Native.Nat.{ℕ, _<_, _*_, _-_, _+_}
 use lib.ListN.{length}
-use Rattle.grammar.proofs.Steps.{call}
 use borrow.Fn.Kinds.{In}
 use borrow.Fn.PlainCycle.{Measures, is, falls, and}
 use Rattle.grammar.proofs.block.Reads as block
@@ -28,8 +27,6 @@ use Rattle.grammar.proofs.ended.Reads as ended-reads
 use Rattle.grammar.proofs.failing.Reads as failing-reads
 use Rattle.grammar.proofs.guard.Reads as guard-reads
 use Rattle.grammar.proofs.store.Reads as store-reads
-use Rattle.grammar.proofs.+block+body+braces+if_else+statement+while_do.{statement}
-use Rattle.grammar.proofs.+block+body+braces+if_else+statement+while_do.Tie.{close}
 
 abbrev pub μ-block : Measures 2 block-kinds.ps ℕ
 μ-block κs a = 16 * (length (a .0 .now) - a .1 .0) + 1

@@ -9,7 +9,6 @@ use Rattle.grammar.proofs.Steps.{not-last, kept, room-for, written, unw
 use Rattle.grammar.proofs.if_else.Reads as if-else
 use Rattle.grammar.proofs.+block+body+braces+if_else+statement+while_do.Lts-if_else as if-else-lts
 use Rattle.grammar.proofs.+block+body+braces+if_else+statement+while_do.{statement}
-use Rattle.grammar.proofs.+block+body+braces+if_else+statement+while_do.Tie.{close}
 use Rattle.grammar.proofs.+block+body+braces+if_else+statement+while_do.Proof.Falls.{if-else-at, if-else-C}
 
 pub if-else-add-guard : (t : ℕ) → if-else-lts.Need-add-guard (if-else-C t) (if-else-at t) if-else.Post

@@ -8,8 +8,6 @@ use Rattle.grammar.specs.Parse.{readStmt}
 use Rattle.grammar.proofs.Steps.{not-last, room-for, written, ready-next, begin, yes-so, not-so, eat, wrote, found, hand}
 use Rattle.grammar.proofs.statement.Reads as statement′
 use Rattle.grammar.proofs.+block+body+braces+if_else+statement+while_do.Lts-statement as statement-lts
-use Rattle.grammar.proofs.+block+body+braces+if_else+statement+while_do.{statement}
-use Rattle.grammar.proofs.+block+body+braces+if_else+statement+while_do.Tie.{close}
 use Rattle.grammar.proofs.+block+body+braces+if_else+statement+while_do.Proof.Falls.{statement-at, statement-C}
 
 pub statement-shared-slice-read-k : (t : ℕ) → statement-lts.Need-shared-slice-read-k (statement-C t) (statement-at t) statement′.Post

@@ -9,7 +9,6 @@ use Rattle.grammar.proofs.Steps.{kept, room-for, written, unwritten, re
 use Rattle.grammar.proofs.while_do.Reads as while-do
 use Rattle.grammar.proofs.+block+body+braces+if_else+statement+while_do.Lts-while_do as while-do-lts
 use Rattle.grammar.proofs.+block+body+braces+if_else+statement+while_do.{statement}
-use Rattle.grammar.proofs.+block+body+braces+if_else+statement+while_do.Tie.{close}
 use Rattle.grammar.proofs.+block+body+braces+if_else+statement+while_do.Proof.Falls.{while-do-at, while-do-C}
 
 pub while-do-add-guard : (t : ℕ) → while-do-lts.Need-add-guard (while-do-C t) (while-do-at t) while-do.Post

@@ -2,15 +2,14 @@ use Prim.Native.Nat.{ℕ, _+_, _-_, _*_, _≤_}
 use mathlib.Core.Path.{_≡_, refl, sym, ap, _∙_}
 use mathlib.Core.Bool.{Bool}
 use mathlib.Core.List.{List, _∷_}
-use mathlib.Core.Option.{Option, none, some}
 use native.Mathlib.Omega.{arith}
 use borrow.Author.Needs.{needs}
 use Rattle.text_rules.specs.Spelling.{sameName}
 use Rattle.text_rules.specs.Names.{sought}
-use Rattle.scopes.specs.Memory.{from, blocksOf, Ordered}
+use Rattle.scopes.specs.Memory.{scopeSlot, scopeWords, from, blocksOf, Ordered}
 use Rattle.scopes.specs.Answers.{slotOf}
 use Rattle.scopes.specs.declared.lookup.Sought.{Sought}
-use Rattle.scopes.specs.declared.lookup.Sought.the-variants.{Nothing, At}
+use Rattle.scopes.specs.declared.lookup.Sought.the-variants.{Nothing}
 use Rattle.scopes.proofs.Seeking.{hit, miss, over, taken, begins, nowhere}
 use Rattle.scopes.proofs.lookup.seek.Statement.{statement}
 use Rattle.scopes.proofs.lookup.seek.Tie as tie
@@ -99,7 +98,7 @@ returns : tie.Need-returns Inv-loop μ-loop Inv-blocks2 μ-blocks2
 returns c = (ap slotOf (c .before .blocks2 .inv .nothing) ∙ nowhere _ (c .before .before .before .before .before .before .args .scope .now) (c .before .before .before .before .before .before .args .i) (c .before .blocks2 .block) (c .before .blocks2 .end) (c .blocks2-test .left) ∙ c .before .blocks2 .inv .rest, rw (c .before .blocks2 .inv .nothing) (omega arith))
 
 returns-2 : tie.Need-returns-2 Inv-loop μ-loop Inv-blocks2 μ-blocks2
-returns-2 c = (hit _ (c .before .before .before .before .before .before .before .before .before .before .before .before .before .args .scope .now) _ (c .before .before .before .before .before .before .before .before .before .before .before .before .before .args .i) (c .before .before .before .before .before .loop .k) (c .before .before .before .before .before .before .before .before .blocks2 .end) (c .before .before .before .before .loop-test .taken) (c .before .before .before .word2 .ensures) (c .word3 .ensures) (sym (c .before .before .same-name .ensures) ∙ c .before .if1 .taken) ∙ c .before .before .before .before .before .loop .inv .rest, omega (arith, c .word3 .ensures, c .before .before .before .before .before .before .before .before .before .shared-slice-known4 .given (3 * (c .before .before .before .before .before .loop .k) + 1)))
+returns-2 c = (hit _ (c .before .before .before .before .before .before .before .before .before .before .before .before .before .args .scope .now) _ (c .before .before .before .before .before .before .before .before .before .before .before .before .before .args .i) (c .before .before .before .before .before .loop .k) (c .before .before .before .before .before .before .before .before .blocks2 .end) (c .before .before .before .before .loop-test .taken) (c .before .before .before .word2 .ensures) (c .word3 .ensures) (sym (c .before .before .same-name .ensures) ∙ c .before .if1 .taken) ∙ c .before .before .before .before .before .loop .inv .rest, omega (arith, c .word3 .ensures, c .before .before .before .before .before .before .before .before .before .shared-slice-known4 .given (scopeWords * (c .before .before .before .before .before .loop .k) + scopeSlot)))
 
 pub seek-spec : {M : Type 1} → statement M
 seek-spec =

@@ -2,17 +2,17 @@ use mathlib.Core.Path.{_≡_, refl}
 use mathlib.Core.List.{[], _∷_}
 use types.Run.{OneOf}
 use borrow.Author.Needs.{needs}
-use Rattle.text_rules.proofs.Items.{number, not-one}
-use Rattle.text_rules.specs.declared.item.Item.{Item}
-use Rattle.text_rules.specs.declared.item.Item.the-variants.{Function, Parameter, Thing, Opens, Closes, Declares, Uses, Calls, Ends}
-use Rattle.text_rules.specs.Answers.{event}
+use Rattle.events.proofs.Variants.{number, not-one}
+use Rattle.events.specs.declared.event.Event.{Event}
+use Rattle.events.specs.declared.event.Event.the-variants.{Function, Parameter, Thing, Opens, Closes, Declares, Uses, Calls, Ends}
+use Rattle.events.specs.Read.{asEvent}
 use Rattle.text_rules.specs.Names.{Scope, entered}
 use Rattle.scopes.specs.Memory.{tokenOf}
 use Rattle.scopes.proofs.Blocks.{as-parameter, stays}
 use Rattle.scopes.proofs.scope.enter.Statement.{statement}
 use Rattle.scopes.proofs.scope.enter.Tie as tie
 
-other : (x : Item) → OneOf (2 ∷ 6 ∷ 7 ∷ 8 ∷ []) (number x) → (s : Scope) → entered s (event x) ≡ s
+other : (x : Event) → OneOf (2 ∷ 6 ∷ 7 ∷ 8 ∷ []) (number x) → (s : Scope) → entered s (asEvent x) ≡ s
 unfolding entered
 other (Function i) h s = absurd (not-one 0 (2 ∷ 6 ∷ 7 ∷ 8 ∷ []) refl h)
 other (Parameter i) h s = absurd (not-one 1 (2 ∷ 6 ∷ 7 ∷ 8 ∷ []) refl h)
@@ -24,25 +24,25 @@ other (Uses i) h s = refl
 other (Calls i n) h s = refl
 other (Ends i b) h s = refl
 
-enum-known-item : tie.Need-enum-known-item
-enum-known-item c = search needs
+enum-known-event : tie.Need-enum-known-event
+enum-known-event c = search needs
 
 begin-function-requires : tie.Need-begin-function-requires
 begin-function-requires c κs = search needs
 
-enum-known-item-2 : tie.Need-enum-known-item-2
-enum-known-item-2 c = search needs
+enum-known-event-2 : tie.Need-enum-known-event-2
+enum-known-event-2 c = search needs
 
 declare-requires : tie.Need-declare-requires
 unfolding tokenOf
-declare-requires c κs = (c .before .before .before .before .before .pre .0, c .before .before .before .before .before .pre .1, rw (c .before .before .item2 .given .1) at (c .before .before .before .before .before .pre .2))
+declare-requires c κs = (c .before .before .before .before .before .pre .0, c .before .before .before .before .before .pre .1, rw (c .before .before .event2 .given .1) at (c .before .before .before .before .before .pre .2))
 
-enum-known-item-3 : tie.Need-enum-known-item-3
-enum-known-item-3 c = search needs
+enum-known-event-3 : tie.Need-enum-known-event-3
+enum-known-event-3 c = search needs
 
 declare-requires-2 : tie.Need-declare-requires-2
 unfolding tokenOf
-declare-requires-2 c κs = (c .before .before .before .before .before .pre .0, c .before .before .before .before .before .pre .1, rw (c .before .before .item3 .given .1) at (c .before .before .before .before .before .pre .2))
+declare-requires-2 c κs = (c .before .before .before .before .before .pre .0, c .before .before .before .before .before .pre .1, rw (c .before .before .event3 .given .1) at (c .before .before .before .before .before .pre .2))
 
 enum-told : tie.Need-enum-told
 enum-told c = search needs
@@ -60,19 +60,19 @@ same-length : tie.Need-same-length
 same-length c = search needs
 
 returns : tie.Need-returns
-returns c = rw (c .before .before .before .before .before .item .given .1) (c .before .before .begin-function .ensures)
+returns c = rw (c .before .before .before .before .before .event .given .1) (c .before .before .begin-function .ensures)
 
 same-length-2 : tie.Need-same-length-2
 same-length-2 c = search needs
 
 returns-2 : tie.Need-returns-2
-returns-2 c = rw (c .before .before .before .before .before .item2 .given .1) (as-parameter (c .before .before .declare .ensures))
+returns-2 c = rw (c .before .before .before .before .before .event2 .given .1) (as-parameter (c .before .before .declare .ensures))
 
 same-length-3 : tie.Need-same-length-3
 same-length-3 c = search needs
 
 returns-3 : tie.Need-returns-3
-returns-3 c = rw (c .before .before .before .before .before .item3 .given .1) (c .before .before .declare2 .ensures)
+returns-3 c = rw (c .before .before .before .before .before .event3 .given .1) (c .before .before .declare2 .ensures)
 
 same-length-4 : tie.Need-same-length-4
 same-length-4 c = search needs
@@ -87,17 +87,17 @@ returns-5 : tie.Need-returns-5
 returns-5 c = rw (c .before .before .enum-told2 .given .1) (c .close-block .ensures)
 
 returns-6 : tie.Need-returns-6
-returns-6 c = stays (c .before .before .pre .0) (other (c .before .before .args .item) (c .match .keys6) _)
+returns-6 c = stays (c .before .before .pre .0) (other (c .before .before .args .event) (c .match .keys6) _)
 
 pub enter-spec : {M : Type 1} → statement M
 enter-spec =
     tie.close
     (tie.spec
-    enum-known-item
+    enum-known-event
     begin-function-requires
-    enum-known-item-2
+    enum-known-event-2
     declare-requires
-    enum-known-item-3
+    enum-known-event-3
     declare-requires-2
     enum-told
     open-block-requires

@@ -4,7 +4,7 @@ use mathlib.Core.Path.{_≡_, sym, ap, _∙_}
 use borrow.Author.Needs.{needs}
 use native.Mathlib.Omega.{arith}
 use Rattle.text_rules.specs.Rules.{parameters}
-use Rattle.text_rules.specs.Answers.{event}
+use Rattle.events.specs.Read.{asEvent}
 use Rattle.text_rules.proofs.Scans.{rest}
 use Rattle.text_rules.proofs.Collects.{arity-more, arity-stop, arity-none}
 use Rattle.text_rules.proofs.heads.arity.Statement.{statement}
@@ -19,8 +19,8 @@ abbrev μ-loop : tie.MeasureT-loop
 loop-holds : tie.Need-loop-holds Inv-loop μ-loop
 loop-holds c = search needs
 
-item-at-requires : tie.Need-item-at-requires Inv-loop μ-loop
-item-at-requires c κs = search needs
+event-at-requires : tie.Need-event-at-requires Inv-loop μ-loop
+event-at-requires c κs = search needs
 
 enum-told : tie.Need-enum-told Inv-loop μ-loop
 enum-told c = search needs
@@ -30,7 +30,7 @@ sub-result c = search needs
 
 returns : tie.Need-returns Inv-loop μ-loop
 returns c =
-    let e = arity-stop (c .before .before .before .before .before .args .events .now) (c .before .before .before .before .before .args .n) (c .before .before .before .loop .i) (c .before .item-at .result) (c .before .before .loop-test .taken) (c .before .item-at .ensures) (c .match .keys2) in
+    let e = arity-stop (c .before .before .before .before .before .args .events .now) (c .before .before .before .before .before .args .n) (c .before .before .before .loop .i) (c .before .event-at .result) (c .before .before .loop-test .taken) (c .before .event-at .ensures) (c .match .keys2) in
     omega (arith, e, c .before .before .before .loop .inv .1)
 
 add-i : tie.Need-add-i Inv-loop μ-loop
@@ -41,7 +41,7 @@ loop-less c = search needs
 
 loop-again : tie.Need-loop-again Inv-loop μ-loop
 loop-again c =
-    let e = arity-more (c .before .before .before .before .before .before .args .events .now) (c .before .before .before .before .before .before .args .n) (c .before .before .before .before .loop .i) (c .before .before .before .loop-test .taken) (sym (ap event (c .enum-told .given .1)) ∙ c .before .before .item-at .ensures) in
+    let e = arity-more (c .before .before .before .before .before .before .args .events .now) (c .before .before .before .before .before .before .args .n) (c .before .before .before .before .loop .i) (c .before .before .before .loop-test .taken) (sym (ap asEvent (c .enum-told .given .1)) ∙ c .before .before .event-at .ensures) in
     (search needs, omega (arith, e, c .before .before .before .before .loop .inv .1))
 
 sub-result-2 : tie.Need-sub-result-2 Inv-loop μ-loop
@@ -59,7 +59,7 @@ arity-spec =
     Inv-loop
     μ-loop
     loop-holds
-    item-at-requires
+    event-at-requires
     enum-told
     sub-result
     returns

@@ -5,7 +5,8 @@ use mathlib.Core.Logic.{⊎-elim}
 use borrow.Author.Needs.{needs}
 use native.Mathlib.Omega.{arith}
 use lib.ListN.{getD}
-use Rattle.text_rules.specs.Answers.{event}
+use Rattle.events.specs.Read.{asEvent}
+use Rattle.events.specs.Stored.{eventToken, eventWords}
 use Rattle.text_rules.proofs.Collects.{few, function-word, Gathered, gathered-start, gathered-add, gathered-pass, gathered-end}
 use Rattle.text_rules.proofs.heads.collect_heads.Statement.{statement}
 use Rattle.text_rules.proofs.heads.collect_heads.Tie as tie
@@ -19,8 +20,8 @@ abbrev μ-loop : tie.MeasureT-loop
 loop-holds : tie.Need-loop-holds Inv-loop μ-loop
 loop-holds c = gathered-start _ _ _
 
-item-at-requires : tie.Need-item-at-requires Inv-loop μ-loop
-item-at-requires c κs = omega (arith, c .before .loop .inv .inside, c .before .before .before .before .pre)
+event-at-requires : tie.Need-event-at-requires Inv-loop μ-loop
+event-at-requires c κs = omega (arith, c .before .loop .inv .inside, c .before .before .before .before .pre)
 
 enum-known-name : tie.Need-enum-known-name Inv-loop μ-loop
 enum-known-name c = search needs
@@ -36,8 +37,8 @@ put-requires c κs =
     let g = c .before .before .before .before .before .before .before .loop .inv in
     let l = c .before .before .before .before .before .before .before .before .before .before .args .events .now in
     let i = c .before .before .before .before .before .before .before .loop .i in
-    let e = function-word _ (getD l (3 * i + 1) 0) _ _ (sym (ap event (c .before .before .before .name .given .1)) ∙ c .before .before .before .before .before .item-at .ensures) in
-    (omega (arith, g .few, g .sized), omega (arith, e, c .before .before .before .before .before .before .before .before .before .shared-slice-known .given (3 * i + 1)), omega (arith, few l (i + 1) (c .before .before .before .before .before .before .before .before .before .before .args .n - (i + 1)), c .arity .ensures))
+    let e = function-word _ (getD l (eventWords * i + eventToken) 0) _ _ (sym (ap asEvent (c .before .before .before .name .given .1)) ∙ c .before .before .before .before .before .event-at .ensures) in
+    (omega (arith, g .few, g .sized), omega (arith, e, c .before .before .before .before .before .before .before .before .before .shared-slice-known .given (eventWords * i + eventToken)), omega (arith, few l (i + 1) (c .before .before .before .before .before .before .before .before .before .before .args .n - (i + 1)), c .arity .ensures))
 
 add-h : tie.Need-add-h Inv-loop μ-loop
 add-h c = omega (arith, c .before .before .before .before .before .before .before .before .before .before .loop .inv .few)
@@ -51,8 +52,8 @@ loop-less c = search needs
 loop-again : tie.Need-loop-again Inv-loop μ-loop
 loop-again c =
     ⊎-elim
-    (λ w. rw (w .9) (gathered-add _ _ _ _ _ _ (c .before .before .before .loop .inv) (c .before .before .loop-test .taken) _ _ (c .before .before .before .before .before .before .pre .1) (sym (ap event (w .1 .given .1)) ∙ c .before .item-at .ensures) (w .4 .ensures) (w .8 ∙ w .5 .ensures)))
-    (λ w. rw (w .1, w .2) (gathered-pass _ _ _ _ _ _ (c .before .before .before .loop .inv) (c .before .before .loop-test .taken) (c .before .item-at .result) (c .before .item-at .ensures) (w .0 .keys2)))
+    (λ w. rw (w .9) (gathered-add _ _ _ _ _ _ (c .before .before .before .loop .inv) (c .before .before .loop-test .taken) _ _ (c .before .before .before .before .before .before .pre .1) (sym (ap asEvent (w .1 .given .1)) ∙ c .before .event-at .ensures) (w .4 .ensures) (w .8 ∙ w .5 .ensures)))
+    (λ w. rw (w .1, w .2) (gathered-pass _ _ _ _ _ _ (c .before .before .before .loop .inv) (c .before .before .loop-test .taken) (c .before .event-at .result) (c .before .event-at .ensures) (w .0 .keys2)))
     (c .match .came)
 
 same-length : tie.Need-same-length Inv-loop μ-loop
@@ -68,7 +69,7 @@ collect-heads-spec =
     Inv-loop
     μ-loop
     loop-holds
-    item-at-requires
+    event-at-requires
     enum-known-name
     add-arity
     arity-requires

@@ -1,4 +1,4 @@
-use mathlib.Core.Path.{_≡_, ap, _∙_}
+use mathlib.Core.Path.{ap, _∙_}
 use Rattle.lexer.specs.Lex.{same, bytes}
 use borrow.Author.Needs.{needs}
 use Rattle.text_rules.proofs.spelling.is_main.Statement.{statement}

@@ -1,4 +1,4 @@
-use mathlib.Core.Path.{_≡_, ap₂, _∙_}
+use mathlib.Core.Path.{ap₂, _∙_}
 use Rattle.lexer.specs.Lex.{same}
 use borrow.Author.Needs.{needs}
 use Rattle.text_rules.proofs.spelling.same_name.Statement.{statement}

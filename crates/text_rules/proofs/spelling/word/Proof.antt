@@ -1,6 +1,6 @@
 use native.Mathlib.Omega.{arith}
 use lib.ListN.{List·getD-eq-default}
-use mathlib.Core.Path.{_≡_, sym}
+use mathlib.Core.Path.{sym}
 use borrow.Author.Needs.{needs}
 use Rattle.text_rules.proofs.spelling.word.Statement.{statement}
 use Rattle.text_rules.proofs.spelling.word.Tie as tie

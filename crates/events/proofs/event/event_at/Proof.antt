@@ -1,9 +1,9 @@
--- `item_at` answers the event of the three words: an arm for each first word.
+-- `event_at` answers the event of the three words: an arm for each first word.
 use borrow.Author.Needs.{needs}
 use borrow.Author.Tests.{ne-eqb}
 use Rattle.events.specs.Stored.{eventOf}
-use Rattle.text_rules.proofs.item.item_at.Statement.{statement}
-use Rattle.text_rules.proofs.item.item_at.Tie as tie
+use Rattle.events.proofs.event.event_at.Statement.{statement}
+use Rattle.events.proofs.event.event_at.Tie as tie
 
 mul-wide : tie.Need-mul-wide
 mul-wide c = search needs
@@ -46,15 +46,15 @@ shared-slice-read-match c = search needs
 
 returns : tie.Need-returns
 unfolding eventOf
-returns c = rw (c .match .keys1, c .before .before .before .before .wide .ensures)
+returns c = rw (c .match .keys1, c .before .before .before .before .wide .ensures .0)
 
 returns-2 : tie.Need-returns-2
 unfolding eventOf
-returns-2 c = rw (c .match .keys2, c .before .before .before .before .wide .ensures)
+returns-2 c = rw (c .match .keys2, c .before .before .before .before .wide .ensures .0)
 
 returns-3 : tie.Need-returns-3
 unfolding eventOf
-returns-3 c = rw (c .match .keys3, c .before .before .before .before .wide .ensures, c .before .before .wide2 .ensures)
+returns-3 c = rw (c .match .keys3, c .before .before .before .before .wide .ensures .0, c .before .before .wide2 .ensures .0)
 
 returns-4 : tie.Need-returns-4
 unfolding eventOf
@@ -62,19 +62,19 @@ returns-4 c = rw (c .match .keys4)
 
 returns-5 : tie.Need-returns-5
 unfolding eventOf
-returns-5 c = rw (c .match .keys5, c .before .before .before .before .wide .ensures)
+returns-5 c = rw (c .match .keys5, c .before .before .before .before .wide .ensures .0)
 
 returns-6 : tie.Need-returns-6
 unfolding eventOf
-returns-6 c = rw (c .match .keys6, c .before .before .before .before .wide .ensures)
+returns-6 c = rw (c .match .keys6, c .before .before .before .before .wide .ensures .0)
 
 returns-7 : tie.Need-returns-7
 unfolding eventOf
-returns-7 c = rw (c .match .keys7, c .before .before .before .before .wide .ensures, c .before .before .wide2 .ensures)
+returns-7 c = rw (c .match .keys7, c .before .before .before .before .wide .ensures .0, c .before .before .wide2 .ensures .0)
 
 returns-8 : tie.Need-returns-8
 unfolding eventOf
-returns-8 c = rw (c .match .keys8, c .before .before .before .before .wide .ensures, c .before .before .wide2 .ensures)
+returns-8 c = rw (c .match .keys8, c .before .before .before .before .wide .ensures .0, c .before .before .wide2 .ensures .0)
 
 returns-9 : tie.Need-returns-9
 unfolding eventOf
@@ -82,8 +82,8 @@ returns-9 c =
     let r = c .match .rest in
     rw (ne-eqb _ _ (r .1), ne-eqb _ _ (r .0 .1), ne-eqb _ _ (r .0 .0 .1), ne-eqb _ _ (r .0 .0 .0 .1), ne-eqb _ _ (r .0 .0 .0 .0 .1), ne-eqb _ _ (r .0 .0 .0 .0 .0 .1), ne-eqb _ _ (r .0 .0 .0 .0 .0 .0 .1), ne-eqb _ _ (r .0 .0 .0 .0 .0 .0 .0 .1))
 
-pub item-at-spec : {M : Type 1} → statement M
-item-at-spec =
+pub event-at-spec : {M : Type 1} → statement M
+event-at-spec =
     tie.close
     (tie.spec
     mul-wide

@@ -104,13 +104,13 @@ heads-modest c (ends i b ∷ es) h = heads-modest c es h
 -- ---- main
 
 -- where rule 8 is kept, main is one of the functions
-pub main-lt : (isMain : ℕ → Bool) (end : ℕ) (hs : List Head) → badMain isMain end (mains isMain hs) ≡ [] → mainOf isMain hs < length hs
+pub main-lt : (isMain : ℕ → Bool) (end : ℕ) (hs : List Head) → badMain end (mains isMain hs) ≡ [] → mainOf isMain hs < length hs
 unfolding mains mainOf badMain
 main-lt isMain end [] e =
     let z : _≡_ {A = ℕ} 0 1 = cc in
     absurd (omega arith)
 main-lt isMain end (h ∷ hs) e = go (isMain (h .name)) (λ f. main-lt isMain end hs f) e
   where
-    go : (b : Bool) → (badMain isMain end (mains isMain hs) ≡ [] → mainOf isMain hs < length hs) → badMain isMain end (cond b (h ∷ mains isMain hs) (mains isMain hs)) ≡ [] → cond b 0 (suc (mainOf isMain hs)) < suc (length hs)
+    go : (b : Bool) → (badMain end (mains isMain hs) ≡ [] → mainOf isMain hs < length hs) → badMain end (cond b (h ∷ mains isMain hs) (mains isMain hs)) ≡ [] → cond b 0 (suc (mainOf isMain hs)) < suc (length hs)
     go true k e = omega arith
     go false k e = omega (arith, k e)

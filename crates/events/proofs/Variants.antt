@@ -1,18 +1,18 @@
--- What the last arm of a match on an item knows: the variant's number is one of those that are left.
+-- What the last arm of a match on an event knows: the variant's number is one of those that are left.
 use Prim.Native.Nat.{ℕ}
 use mathlib.Core.Path.{_≡_, refl}
 use mathlib.Core.Bool.{Bool, true, false, _||_}
 use mathlib.Core.List.{List, [], _∷_}
-use mathlib.Core.Logic.{_⊎_, inl, inr}
+use mathlib.Core.Logic.{inl, inr}
 use lib.Dec.{eqb}
 use borrow.Author.Tests.{eqb-false}
 use types.Run.{OneOf}
 use denote.Enum.Declared.{tagOf}
-use Rattle.text_rules.proofs.item.Item.{the-type}
-use Rattle.text_rules.specs.declared.item.Item.{Item}
+use Rattle.events.proofs.event.Event.{the-type}
+use Rattle.events.specs.declared.event.Event.{Event}
 
 -- the variant's number
-abbrev pub number : Item → ℕ
+abbrev pub number : Event → ℕ
 number x = tagOf the-type x
 
 abbrev among : ℕ → List ℕ → Bool
