@@ -1,5 +1,6 @@
 //! The program around list: the job line, then the text; what is printed.
 
+use crate::rules::{remarks, LEAST_OFFSETS};
 use crate::search::{list, Ending, Job, Listing, LEAST_SCRATCH, ROW_WORDS};
 use crate::Refusal;
 use std::fmt::Write;
@@ -68,4 +69,15 @@ fn number(bytes: &[u8]) -> Option<i32> {
     }
     let size = digits.iter().fold(0i64, |n, digit| 10 * n + i64::from(digit - b'0'));
     i32::try_from(sign * size).ok()
+}
+
+/// What the program `rule_check` prints for this standard input.
+pub fn checked(text: &[u8]) -> String {
+    match remarks(text, LEAST_OFFSETS) {
+        Ok(offsets) => {
+            let offsets: String = offsets.iter().map(|offset| format!(" {offset}")).collect();
+            format!("accepted{offsets}\n")
+        }
+        Err(refusal) => shown(&Err(refusal)),
+    }
 }
