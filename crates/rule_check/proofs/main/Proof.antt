@@ -1,0 +1,59 @@
+use mathlib.Core.Path.{sym}
+use lib.Seq.{length-take-le}
+use borrow.Author.Needs.{needs}
+use Rattle.rule_check.proofs.main.Statement.{statement}
+use Rattle.rule_check.proofs.main.Tie as tie
+use Rattle.rule_check.proofs.main.Reads as reads
+use Rattle.rule_check.proofs.main.Lts as lts
+use Rattle.io.proofs.write_all.Reads as write-all-reads
+use Rattle.rule_check.proofs.print_answer.Reads as print-answer-reads
+use Rattle.rule_check.proofs.read_input.Reads as read-input-reads
+
+slice-aggregate-read-input : tie.Need-slice-aggregate-read-input
+slice-aggregate-read-input c = search needs
+
+read-input-requires : tie.Need-read-input-requires
+read-input-requires c κs = search needs
+
+enum-known-n : tie.Need-enum-known-n
+enum-known-n c = search needs
+
+array-share-prefix-buffer : tie.Need-array-share-prefix-buffer
+array-share-prefix-buffer c = rw (c .before .n .given .1) at (c .before .before .before .before .read-input .ensures)
+
+slice-aggregate-print-answer : tie.Need-slice-aggregate-print-answer
+slice-aggregate-print-answer c = sym (length-take-le _ _ (rw (c .before .before .n .given .1) at (c .before .before .before .before .before .read-input .ensures)))
+
+print-answer-requires : tie.Need-print-answer-requires
+print-answer-requires c κs = search needs
+
+enum-told : tie.Need-enum-told
+enum-told c = search needs
+
+slice-aggregate-write-all : tie.Need-slice-aggregate-write-all
+slice-aggregate-write-all c = search needs
+
+write-all-requires : tie.Need-write-all-requires
+write-all-requires c κs = search needs
+
+returns : tie.Need-returns
+returns c = search needs
+
+returns-2 : tie.Need-returns-2
+returns-2 c = search needs
+
+pub main-spec : {M : Type 1} → statement M
+main-spec =
+    tie.close
+    (tie.spec
+    slice-aggregate-read-input
+    read-input-requires
+    enum-known-n
+    array-share-prefix-buffer
+    slice-aggregate-print-answer
+    print-answer-requires
+    enum-told
+    slice-aggregate-write-all
+    write-all-requires
+    returns
+    returns-2)
