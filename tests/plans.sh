@@ -8,6 +8,7 @@ home=$PWD plans=$PWD/plans passed=0 failed=0
 work=$(mktemp -d) || exit 2
 trap 'rm -rf "$work"' EXIT
 cd "$work" || exit 2
+"$plans" --check "$home/rules/a.muli" > /dev/null || exit 2 # the programs are built now, if they were not
 
 ok() { # NAME COMMAND..: the command must succeed
     local name=$1

@@ -1,9 +1,10 @@
 //! Compares a program that reads a job line and a text, and prints the list,
-//! with the reference: `program PATH CASES SEED`. First the rules of the
-//! folder `rules/`, whose lists stand there, and inputs at the limits; then
-//! random inputs.
+//! with the reference: `program PATH CASES SEED [CHECKER]`. First the rules of
+//! the folder `rules/`, whose lists stand there, and inputs at the limits; then
+//! random inputs. The same for the program CHECKER, which reads a text and
+//! prints what check and remarks answer.
 
-use reference::lister::print;
+use reference::lister::{checked, print};
 use reference::random::Random;
 use reference::{generate, rule_files, with_room};
 use std::io::{Read, Write};
@@ -14,8 +15,8 @@ const A: &str = "int main() { int y free; if (y < 2) return y; else fail; }";
 
 fn main() {
     let arguments: Vec<String> = std::env::args().skip(1).collect();
-    let [path, count, seed] = &arguments[..] else {
-        eprintln!("program PATH CASES SEED");
+    let ([path, count, seed] | [path, count, seed, _]) = &arguments[..] else {
+        eprintln!("program PATH CASES SEED [CHECKER]");
         std::process::exit(2);
     };
     let count: u64 = count.parse().expect("a number of cases");
@@ -42,13 +43,13 @@ fn main() {
     for (name, input) in &open {
         let expected = with_room(|| print(input));
         assert_eq!(
-            answered_while_open(path, input),
+            answered_while_open(path, input, 60_000),
             Some(expected.into_bytes()),
             "{name}, left open"
         );
     }
     assert_eq!(
-        answered_while_open(path, b"job 0 3 100\nint main() { return 0; }"),
+        answered_while_open(path, b"job 0 3 100\nint main() { return 0; }", 500),
         None,
         "a text may go on"
     );
@@ -60,6 +61,41 @@ fn main() {
         compare(path, &format!("case {case}"), &input, expected.as_bytes(), None);
     }
     println!("{count} inputs of the program agreed, seed {seed}");
+    if let Some(path) = arguments.get(3) {
+        check(path, count, seed);
+    }
+}
+
+/// The program that checks a text: its bytes may be any, and 2,049 of them settle the answer.
+fn check(path: &str, count: u64, seed: u64) {
+    let mut texts: Vec<Vec<u8>> = rule_files::jobs()
+        .iter()
+        .map(|job| job.input.split(|byte| *byte == b'\n').skip(1).collect::<Vec<_>>().join(&b'\n'))
+        .collect();
+    texts.extend([
+        b"".to_vec(),
+        b"\0".to_vec(),
+        b"\x01".to_vec(),
+        b"int\x01main() { fail; }".to_vec(),
+    ]);
+    for length in [2_047, 2_048, 2_049, 2_050, 70_000, 300_000] {
+        let mut text = A.as_bytes().to_vec();
+        text.resize(length, b' ');
+        texts.push(text);
+    }
+    for case in 0..count {
+        let mut random = Random::new(seed.wrapping_mul(1_000_003).wrapping_add(case));
+        texts.push(generate::text(&mut random));
+    }
+    for (case, text) in texts.iter().enumerate() {
+        let expected = with_room(|| checked(text));
+        let piece = (case < 12).then_some(text.len() / 6 + 1);
+        compare(path, &format!("text {case}"), text, expected.as_bytes(), piece);
+    }
+    let long = [b' '; 2_049];
+    assert_eq!(answered_while_open(path, &long, 60_000), Some(b"refused 1 at 2048\n".to_vec()));
+    assert_eq!(answered_while_open(path, &long[1..], 500), None, "a text may go on");
+    println!("{} texts of the checking program agreed, seed {seed}", texts.len());
 }
 
 /// Ends with exit code 1 where the program prints something else.
@@ -116,8 +152,8 @@ fn printed_by(path: &str, input: &[u8], piece: Option<usize>) -> Result<Vec<u8>,
     }
 }
 
-/// What the program prints while its input is left open; none if it goes on to read for half a second.
-fn answered_while_open(path: &str, input: &[u8]) -> Option<Vec<u8>> {
+/// What the program prints while its input is left open; none if it goes on to read for so many milliseconds.
+fn answered_while_open(path: &str, input: &[u8], wait: u64) -> Option<Vec<u8>> {
     let (mut child, mut stdin, mut stdout) = started(path);
     stdin.write_all(input).expect("the input can be written");
     let (sender, receiver) = std::sync::mpsc::channel();
@@ -126,26 +162,11 @@ fn answered_while_open(path: &str, input: &[u8]) -> Option<Vec<u8>> {
         stdout.read_to_end(&mut printed).expect("the output can be read");
         let _ = sender.send(printed);
     });
-    // A program that answers is waited for as long as it takes; one that reads on is told from it by a text that may go on.
-    let wait = if enough(input) { 60_000 } else { 500 };
     let printed = receiver.recv_timeout(Duration::from_millis(wait)).ok();
     drop(stdin);
     reader.join().expect("the output ends");
     child.wait().expect("the program ends");
     printed
-}
-
-/// Whether an input settles what is printed, whatever follows: a line that is refused, or 2,049 bytes of a text.
-fn enough(input: &[u8]) -> bool {
-    match input.iter().position(|byte| *byte == b'\n') {
-        None => input.len() >= 40,
-        Some(end) => {
-            let refused = print(&input[..=end]);
-            let by_line = ["refused 12 ", "refused 13 ", "refused 14 ", "refused 16 "];
-            by_line.iter().any(|refusal| refused.starts_with(refusal))
-                || input.len() > end + 1 + 2048
-        }
-    }
 }
 
 /// Inputs that settle the answer before they end.
