@@ -93,11 +93,13 @@ ln -s link 'link to a link'
 plans="$work/link to a link" try 0 'whole 4 rows' '' "$sample" 0 3 100
 cp "$sample" 'a rule.muli'
 try 0 'whole 4 rows' '' 'a rule.muli' 0 3 100
-run "$sample" 0 3 100
-timeout 60 "$plans" "$sample" 0 3 100 > /dev/full 2> err
-status=$?
-ok 'a full disk: status 2' ended 2
-ok 'a full disk is named' says "can't write" err
+for arguments in "$sample 0 3 100" "--check $sample" "--against $list $sample 0 3 100" "--against $list $sample 0 3 10" --help --version; do
+    # shellcheck disable=SC2086
+    timeout 60 "$plans" $arguments > /dev/full 2> err
+    status=$?
+    ok "$arguments, to a full disk: status 2" ended 2
+    ok "$arguments: a full disk is named" says "can't write" err
+done
 timeout 60 "$plans" "$sample" 0 3 100 >&- 2> err
 status=$?
 ok 'no standard output: status 2' ended 2
