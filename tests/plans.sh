@@ -150,6 +150,8 @@ refused 4 3:10 'no `for`' 'int main() {\n  int i;\n  for (i = 0; i < 3; i++) ;\n
 refused 4 1:21 'No brackets stand round conditions' 'int main() { if ((1 < 2) && (2 < 3)) fail; else fail; }'
 refused 4 1:20 'stands only in the brackets' 'int main() { x = 1 < 2; fail; }'
 refused 4 1:20 'write `==`' 'int main() { if (x = 2) fail; else fail; }'
+refused 4 1:20 'Write `>=`' 'int main() { if (x => 2) fail; else fail; }'
+refused 4 1:21 'Write `!=`' 'int main() { if (x <> 2) fail; else fail; }'
 refused 4 1:19 'as `x != 0`' 'int main() { if (x) fail; else fail; }'
 refused 4 3:3 'after `free` in line 2' 'int main() {\n  int x free\n  return x;\n}\n'
 refused 4 1:22 'write `0 - x`' 'int main() { return -x; }'
