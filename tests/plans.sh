@@ -249,7 +249,9 @@ chmod +x bin/rt
 cp -r "$home/plans" "$home/help" repository/
 printf 'syntax: # below all\nlexer: syntax\ngrammar: syntax\nspare: syntax\nlister: lexer grammar io\nrule_check: lexer\n' > repository/crates.txt
 plans=$work/repository/plans
-PATH=/usr/bin:/bin try 2 '' 'rt (the Rattle toolchain) is not on the path' "$sample" 0 3 100
+mkdir tools
+for tool in bash env timeout dirname readlink head mktemp rm find grep; do ln -s "$(command -v "$tool")" tools/; done
+PATH=$work/tools try 2 '' 'rt (the Rattle toolchain) is not on the path' "$sample" 0 3 100
 export PATH="$work/bin:$PATH" PROGRAMS="$home/target/bin"
 BAD=grammar try 2 '' 'rt: grammar NOT PROVED' "$sample" 0 3 100
 ok 'a failed build leaves no mark' test ! -e repository/target/plans.mark
@@ -258,6 +260,13 @@ ok 'a line for each crate' test "$(grep -c '^\[[123] of 5\] ' err)" -eq 3
 try 0 'whole 4 rows' '' "$sample" 0 3 100
 try 0 'toolchain a kit of the tests' '' --version
 touch -d '+1 minute' repository/crates/syntax
+if command -v script > /dev/null; then
+    script -qec "'$plans' '$sample' 0 3 100" /dev/null < /dev/null > out 2> err
+    status=$?
+    ok 'a terminal: one line, rewritten' says "$(printf '\r\033[K[1 of 5] syntax, about')" out
+    ok 'a terminal: no other lines' test "$(grep -c ' of 5' out)" -eq 1
+    rm repository/target/plans.mark
+fi
 for signal in INT TERM; do
     rm -f repository/target/ended
     set -m
