@@ -11,8 +11,14 @@ use std::collections::{BTreeMap, BTreeSet};
 use std::path::{Path, PathBuf};
 
 /// The documents whose paths, functions and edits are looked up.
-pub const ALL: [&str; 5] =
-    ["README.md", "docs/ARCHITECTURE.md", "docs/DECISIONS.md", "docs/TRUST.md", "tests/README.md"];
+pub const ALL: [&str; 6] = [
+    "README.md",
+    "docs/ARCHITECTURE.md",
+    "docs/CALLING.md",
+    "docs/DECISIONS.md",
+    "docs/TRUST.md",
+    "tests/README.md",
+];
 
 pub const TRUST: &str = "docs/TRUST.md";
 

@@ -22,6 +22,12 @@ fn the_sample() {
     assert_eq!(printed(&stored("lister", "stdin")), text(stored("lister", "stdout")));
 }
 
+#[test]
+fn the_checked_rule() {
+    let checked = with_room(|| lister::checked(&stored("rule_check", "stdin")));
+    assert_eq!(checked, text(stored("rule_check", "stdout")));
+}
+
 /// A byte 1 stands after each input.
 #[test]
 fn the_program_cases() {

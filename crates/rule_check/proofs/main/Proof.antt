@@ -3,11 +3,6 @@ use lib.Seq.{length-take-le}
 use borrow.Author.Needs.{needs}
 use Rattle.rule_check.proofs.main.Statement.{statement}
 use Rattle.rule_check.proofs.main.Tie as tie
-use Rattle.rule_check.proofs.main.Reads as reads
-use Rattle.rule_check.proofs.main.Lts as lts
-use Rattle.io.proofs.write_all.Reads as write-all-reads
-use Rattle.rule_check.proofs.print_answer.Reads as print-answer-reads
-use Rattle.rule_check.proofs.read_input.Reads as read-input-reads
 
 slice-aggregate-read-input : tie.Need-slice-aggregate-read-input
 slice-aggregate-read-input c = search needs

@@ -1,13 +1,7 @@
 use borrow.Author.Needs.{needs}
-use native.Mathlib.Omega.{arith}
 use Prim.Native.Nat.{_≤_, _-_}
 use Rattle.rule_check.proofs.print_offsets.Statement.{statement}
 use Rattle.rule_check.proofs.print_offsets.Tie as tie
-use Rattle.rule_check.proofs.print_offsets.Reads as reads
-use Rattle.rule_check.proofs.print_offsets.Lts as lts
-use Rattle.io.proofs.print_decimal.Reads as print-decimal-reads
-use Rattle.io.proofs.write_all.Reads as write-all-reads
-use Rattle.rule_check.proofs.wide.Reads as wide-reads
 
 abbrev Inv-loop : tie.InvT-loop
 Inv-loop offsets count k₀ t4 k = k ≤ count

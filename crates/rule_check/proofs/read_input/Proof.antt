@@ -5,10 +5,6 @@ use Prim.Native.Nat.{_≤_, _-_}
 use lib.ListN.{length}
 use Rattle.rule_check.proofs.read_input.Statement.{statement}
 use Rattle.rule_check.proofs.read_input.Tie as tie
-use Rattle.rule_check.proofs.read_input.Reads as reads
-use Rattle.rule_check.proofs.read_input.Lts as lts
-use Rattle.io.proofs.count.Reads as count-reads
-use Rattle.libc.proofs.read.Reads as read-reads
 
 abbrev Inv-loop : tie.InvT-loop
 Inv-loop buffer₀ n₀ buffer n = (n ≤ length buffer) × (length buffer ≡ length buffer₀)
