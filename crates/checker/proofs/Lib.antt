@@ -4,6 +4,7 @@ pub mod Inspecting
 pub mod Settling
 pub mod Analysing
 pub mod Small
+pub mod Long
 pub mod Exactly
 pub mod Inside
 pub mod Refusals

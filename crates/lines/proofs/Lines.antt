@@ -3,7 +3,7 @@ use Prim.Native.Nat.{ℕ, zero, suc, _+_, _-_, _*_, _≤_, _<_, min}
 use native.Mathlib.Omega.{arith}
 use native.Mathlib.Numerals.{add-one}
 use mathlib.Core.Path.{_≡_, refl, sym, _∙_, ap}
-use mathlib.Core.List.{List, [], _∷_, _++_, append-assoc, append-nil}
+use mathlib.Core.List.{List, [], _∷_, _++_, map, map-append, append-assoc, append-nil}
 use lib.ListN.{length, take, drop, getD, length-drop}
 use lib.Seq.{take-suc, getD-drop, drop-drop}
 use lib.IntN.{ℤ, pos, negsuc}
@@ -56,6 +56,14 @@ spaced-more ws from k h =
     let n : k < length (drop from ws) = omega (arith, length-drop from ws) in
     let e : take (k + 1) (drop from ws) ≡ take k (drop from ws) ++ (getD ws (from + k) (pos 0) ∷ []) = ap (λ (i : ℕ). take i (drop from ws)) (add-one k) ∙ take-suc (drop from ws) k (pos 0) n ∙ ap (λ (x : ℤ). take k (drop from ws) ++ (x ∷ [])) (getD-drop from ws k (pos 0)) in
     sym (ap spaced e ∙ spaced-append (take k (drop from ws)) (getD ws (from + k) (pos 0) ∷ []) ∙ ap (λ (l : List ℕ). spaced (take k (drop from ws)) ++ l) (spaced-one (getD ws (from + k) (pos 0))))
+
+-- ---- offsets, as values
+
+pub offsets-more : (os : List ℕ) (k : ℕ) → k < length os → spaced (map pos (take k os)) ++ (bytes " " ++ integer (pos (getD os k 0))) ≡ spaced (map pos (take (k + 1) os))
+offsets-more os k h =
+    let e : take (k + 1) os ≡ take k os ++ (getD os k 0 ∷ []) = ap (λ (i : ℕ). take i os) (add-one k) ∙ take-suc os k 0 h in
+    let m : map pos (take (k + 1) os) ≡ map pos (take k os) ++ (pos (getD os k 0) ∷ []) = ap (λ (l : List ℕ). map pos l) e ∙ map-append pos (take k os) (getD os k 0 ∷ []) in
+    sym (ap spaced m ∙ spaced-append (map pos (take k os)) (pos (getD os k 0) ∷ []) ∙ ap (λ (l : List ℕ). spaced (map pos (take k os)) ++ l) (spaced-one (pos (getD os k 0))))
 
 -- ---- rows
 

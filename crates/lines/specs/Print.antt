@@ -1,7 +1,7 @@
--- What the program prints: document 01, "The program".
+-- What the programs print: document 01, "The program", and the line for a text that is only checked.
 use Prim.Native.Nat.{ℕ, zero, suc, _+_, _/_, _%_}
 use mathlib.Core.Bool.{true, false}
-use mathlib.Core.List.{List, [], _∷_, _++_}
+use mathlib.Core.List.{List, [], _∷_, _++_, map}
 use lib.ListN.{length}
 use lib.Dec.{ltb}
 use lib.IntN.{ℤ, pos, negsuc}
@@ -56,3 +56,7 @@ lastLine c rows moves = ending c ++ bytes " " ++ natural rows ++ bytes " rows " 
 -- all that is printed of an answer
 unfoldable pub printed : Answer → List ℕ
 printed a = rowLines (a .rows) ++ lastLine (a .close) (length (a .rows)) (a .moves)
+
+-- ---- what the checking program prints for a text that is accepted: the word, and the offsets of remarks as a row's values
+unfoldable pub acceptance : List ℕ → List ℕ
+acceptance offsets = bytes "accepted" ++ spaced (map pos offsets) ++ lineEnd

@@ -1,6 +1,7 @@
-// What the program reads and prints, as functions on slices.
+// What the programs read and print, as functions on slices.
 ghost use mathlib.Core.Path.{_≡_};
-ghost use mathlib.Core.List.{_++_};
+ghost use mathlib.Core.List.{_++_, map};
+ghost use lib.IntN.{pos};
 ghost use mir.Syntax.{w32};
 ghost use mir.Val.{toZ};
 ghost use Rattle.lexer.specs.Lex.{bytes};
@@ -9,7 +10,7 @@ ghost use lib.ListN.{length, take, drop};
 ghost use Rattle.lines.specs.JobLine.{numberOf, place as placeOf, before, after, jobWith, jobIn, lineJob, lineSettled};
 ghost use Rattle.lines.specs.Parts.{read, valued, magnitudeOf};
 ghost use Rattle.lines.specs.Written.{Put, countOf, endingAt, rowFrom, rowsFrom};
-ghost use Rattle.lines.specs.Print.{natural, integer, spaced, rowLine, rowLines, ending, lastLine, refusal};
+ghost use Rattle.lines.specs.Print.{natural, integer, spaced, rowLine, rowLines, ending, lastLine, refusal, acceptance};
 
 // A job: the window, the step limit, and where the text begins.
 pub struct Job {
@@ -337,4 +338,34 @@ pub fn put_rows(out: &mut [u8], at: usize, rows: &[i32], from: usize, n: usize) 
         k += 1;
     }
     p
+}
+
+fn integer_of(offset: u16) -> i32
+    ensures { λ r. ⌜ r ≡ pos offset ⌝ }
+{
+    offset as i32
+}
+
+// The first n offsets, a blank before each.
+fn put_offsets(out: &mut [u8], at: usize, offsets: &[u16], n: usize) -> usize
+    requires { ⌜ (at + 12 * n ≤ length (now out)) × (n ≤ length (now offsets)) ⌝ }
+    ensures { λ r. ⌜ Put (now (out .entry)) at (spaced (map pos (take n (now (offsets .entry))))) (now (out .exit)) r × (r ≤ at + 12 * n) ⌝ }
+{
+    let mut p = at;
+    let mut k = 0;
+    while k < n {
+        p = put_value(out, p, integer_of(offsets[k]));
+        k += 1;
+    }
+    p
+}
+
+// A text that is accepted, with the first n offsets.
+pub fn put_acceptance(out: &mut [u8], at: usize, offsets: &[u16], n: usize) -> usize
+    requires { ⌜ (at + 12 * n + 9 ≤ length (now out)) × (n ≤ length (now offsets)) ⌝ }
+    ensures { λ r. ⌜ Put (now (out .entry)) at (acceptance (take n (now (offsets .entry)))) (now (out .exit)) r × (r ≤ at + 12 * n + 9) ⌝ }
+{
+    let p = put_bytes(out, at, b"accepted");
+    let q = put_offsets(out, p, offsets, n);
+    put_bytes(out, q, b"\n")
 }

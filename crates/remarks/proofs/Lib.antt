@@ -5,3 +5,4 @@ pub mod Accepted
 pub mod Places
 pub mod Telling
 pub mod Texts
+pub mod Answered

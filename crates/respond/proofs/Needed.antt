@@ -10,10 +10,9 @@ use lib.Seq.{take-all, length-take-le}
 use lib.IntN.{ℤ}
 use lib.Dec.{ltb}
 use borrow.Author.Tests.{lt-ltb, le-leb, ltb-true, ltb-false}
-use Rattle.lexer.specs.Lex as L
-use Rattle.lexer.specs.Lex.{lexed}
 use Rattle.checker.specs.Check as C
 use Rattle.checker.specs.Check.{checked}
+use Rattle.checker.proofs.Long.{long-text}
 use Rattle.semantics.specs.Search.{Answer}
 use Rattle.list.specs.List.{ground, list, answering}
 use Rattle.lines.specs.declared.Job.{Job}
@@ -24,16 +23,6 @@ use Rattle.lines.proofs.Reach.{line-settled}
 use Rattle.lines.proofs.Good.{good-holds}
 use Rattle.respond.specs.Output.{textOf, rowWords, scratchWords, listing, linesOf, output, isSome, jobEnough, enoughInput}
 use Rattle.respond.proofs.Printed.{bad-line, good-line, ground-line}
-
--- ---- a text of over 2,048 bytes is refused, whatever they are
-
-long-lexed : (text : List ℕ) → 2048 < length text → lexed text ≡ L.refused 1 2048
-unfolding lexed
-long-lexed text h = rw (lt-ltb 2048 (length text) h, lexed)
-
-long-text : (text : List ℕ) → 2048 < length text → checked text ≡ C.refused 1 2048
-unfolding checked
-long-text text h = rw (long-lexed text h, checked)
 
 -- of a text that check refuses, list uses no more than that
 same-refusal : (rows : List ℤ) (scratch : List ℕ) (a b : Answer) (n p : ℕ) (g : Option ℕ) → answering rows scratch a g (C.refused n p) ≡ answering rows scratch b g (C.refused n p)

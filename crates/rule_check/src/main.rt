@@ -1,5 +1,4 @@
-// Checks one rule: reads a text and prints what check and remarks answer for it, a line `accepted` with the offsets of remarks behind it, or `refused N at P`.
-use checker::Checked;
+// Checks one rule: reads a text and prints the line that `verdicts` gives for it: `accepted` with the offsets of remarks behind it, or `refused N at P`.
 use libc::STDERR_FILENO;
 use libc::STDIN_FILENO;
 use libc::STDOUT_FILENO;
@@ -32,51 +31,20 @@ fn read_input(buffer: &mut [u8]) -> Input
     Input::Bytes(n)
 }
 
-fn wide(x: u16) -> u64 {
-    x as u64
-}
-
-fn print_offsets(offsets: &[u16], count: usize) {
-    let mut k = 0;
-    while k < count {
-        if k < offsets.len() {
-            io::write_all(STDOUT_FILENO, b" ");
-            io::print_decimal(STDOUT_FILENO, wide(offsets[k]));
-        }
-        k += 1;
+fn print_verdict(text: &[u8]) {
+    let mut out = [0u8; verdicts::LINE];
+    let n = verdicts::verdict(text, &mut out);
+    if io::write_all(STDOUT_FILENO, &out[..n]) {
+        return;
     }
-}
-
-fn print_remarks(text: &[u8]) {
-    let mut offsets = [0u16; 16];
-    match remarks::remarks(text, &mut offsets) {
-        remarks::Answer::Refused(_, _) => {}
-        remarks::Answer::Count(count) => print_offsets(&offsets, count),
-    }
-}
-
-fn print_answer(text: &[u8]) {
-    match checker::check(text) {
-        Checked::Accepted => {
-            io::write_all(STDOUT_FILENO, b"accepted");
-            print_remarks(text);
-            io::write_all(STDOUT_FILENO, b"\n");
-        }
-        Checked::Refused(number, place) => {
-            io::write_all(STDOUT_FILENO, b"refused ");
-            io::print_decimal(STDOUT_FILENO, number as u64);
-            io::write_all(STDOUT_FILENO, b" at ");
-            io::print_decimal(STDOUT_FILENO, place as u64);
-            io::write_all(STDOUT_FILENO, b"\n");
-        }
-    }
+    io::write_all(STDERR_FILENO, b"rule_check: cannot write the output\n");
 }
 
 // 2,049 bytes settle what is printed: a text of more than 2,048 is refused.
 fn main() {
     let mut buffer = [0u8; 2049];
     match read_input(&mut buffer) {
-        Input::Bytes(n) => print_answer(&buffer[..n]),
+        Input::Bytes(n) => print_verdict(&buffer[..n]),
         Input::Failed => {
             io::write_all(STDERR_FILENO, b"rule_check: cannot read the input\n");
         }

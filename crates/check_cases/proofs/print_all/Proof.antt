@@ -27,17 +27,17 @@ place-requires c κs = search needs
 add-end : tie.Need-add-end Inv-loop μ-loop
 add-end c = search needs
 
-sub-print-answer : tie.Need-sub-print-answer Inv-loop μ-loop
-sub-print-answer c = search needs
+sub-print-verdict : tie.Need-sub-print-verdict Inv-loop μ-loop
+sub-print-verdict c = search needs
 
-part-print-answer-start : tie.Need-part-print-answer-start Inv-loop μ-loop
-part-print-answer-start c = search needs
+part-print-verdict-start : tie.Need-part-print-verdict-start Inv-loop μ-loop
+part-print-verdict-start c = search needs
 
-part-print-answer-end : tie.Need-part-print-answer-end Inv-loop μ-loop
-part-print-answer-end c = search needs
+part-print-verdict-end : tie.Need-part-print-verdict-end Inv-loop μ-loop
+part-print-verdict-end c = search needs
 
-print-answer-requires : tie.Need-print-answer-requires Inv-loop μ-loop
-print-answer-requires c κs = search needs
+print-verdict-requires : tie.Need-print-verdict-requires Inv-loop μ-loop
+print-verdict-requires c κs = search needs
 
 add-at : tie.Need-add-at Inv-loop μ-loop
 add-at c = search needs
@@ -63,10 +63,10 @@ print-all-spec =
     part-place-end
     place-requires
     add-end
-    sub-print-answer
-    part-print-answer-start
-    part-print-answer-end
-    print-answer-requires
+    sub-print-verdict
+    part-print-verdict-start
+    part-print-verdict-end
+    print-verdict-requires
     add-at
     loop-less
     loop-again

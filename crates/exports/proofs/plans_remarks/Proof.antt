@@ -1,7 +1,7 @@
 use native.Mathlib.Omega.{arith}
 use lib.ListN.{length-set}
 use mathlib.Core.Path.{refl}
-use Rattle.exports.proofs.Places.{low-remark, low-count}
+use Rattle.remarks.proofs.Answered.{low-remark, low-count}
 use Rattle.remarks.specs.declared.Answer.the-variants as A
 use borrow.Author.Needs.{needs}
 use Rattle.exports.proofs.plans_remarks.Statement.{statement}

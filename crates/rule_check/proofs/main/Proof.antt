@@ -16,11 +16,11 @@ enum-known-n c = search needs
 array-share-prefix-buffer : tie.Need-array-share-prefix-buffer
 array-share-prefix-buffer c = rw (c .before .n .given .1) at (c .before .before .before .before .read-input .ensures)
 
-slice-aggregate-print-answer : tie.Need-slice-aggregate-print-answer
-slice-aggregate-print-answer c = sym (length-take-le _ _ (rw (c .before .before .n .given .1) at (c .before .before .before .before .before .read-input .ensures)))
+slice-aggregate-print-verdict : tie.Need-slice-aggregate-print-verdict
+slice-aggregate-print-verdict c = sym (length-take-le _ _ (rw (c .before .before .n .given .1) at (c .before .before .before .before .before .read-input .ensures)))
 
-print-answer-requires : tie.Need-print-answer-requires
-print-answer-requires c κs = search needs
+print-verdict-requires : tie.Need-print-verdict-requires
+print-verdict-requires c κs = search needs
 
 enum-told : tie.Need-enum-told
 enum-told c = search needs
@@ -45,8 +45,8 @@ main-spec =
     read-input-requires
     enum-known-n
     array-share-prefix-buffer
-    slice-aggregate-print-answer
-    print-answer-requires
+    slice-aggregate-print-verdict
+    print-verdict-requires
     enum-told
     slice-aggregate-write-all
     write-all-requires
