@@ -1,5 +1,5 @@
 # Says what an answer of the proved programs means for a text: a refusal with its line, a caret under the place and what to do; or the functions that remarks names.
-# Reads refusals.txt, characters.txt and the text's bytes as od -An -v -tu1 prints them. The environment has ANSWER (the program's line), NAME (the text's), and LOW, HIGH and STEPS.
+# Reads refusals.txt, characters.txt and the text's bytes as od -An -v -tu1 prints them. The environment has ANSWER (the program's line), NAME (the text's), MOST (the bytes that were read at most), and LOW, HIGH and STEPS.
 # Nothing here decides what is refused: where its own reading of the text does not stop at the refusal's place, it only says less.
 
 FILENAME ~ /refusals\.txt$/ { split($0, cell, / *\| */); what[cell[2]] = cell[3]; todo[cell[2]] = cell[5]; next }
@@ -96,7 +96,7 @@ function quoted(i) { return kind[i] == "end" ? word[i] : "`" word[i] "`" }
 
 # What more there is to say of a refusal; cause is left as a sentence of its own.
 function details(number) {
-    if (number == 1) return "it has " size
+    if (number == 1) return "it has " size (size < ENVIRON["MOST"] + 0 ? "" : " or more")
     if (number == 2) return stray()
     if (number == 3) return kind[at] == "name" ? "this name has " length(word[at]) : quoted(at)
     if (number == 4) return syntax()

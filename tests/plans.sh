@@ -87,6 +87,7 @@ try 0 'whole 4 rows' '' /dev/stdin 0 3 100 < "$sample"
 try 0 'whole 4 rows' '' <(cat "$sample") 0 3 100
 try 1 'refused 8 at 0' 'standard input:1:1:' - 0 3 100 < /dev/null
 try 1 'refused 1 at 2048' 'standard input:1:2049:' - 0 3 100 < /dev/zero
+ok 'a text without end' says 'it has 1000000 or more' err
 try 2 '' "can't read standard input" - 0 3 100 <&-
 ln -s "$plans" link
 ln -s link 'link to a link'
@@ -224,7 +225,10 @@ try 3 'Nothing can be said' 'Give more steps' --against "$list" "$sample" 0 3 10
 try 1 'refused 2 at 13' ':1:14: ' --against "$list" <(printf 'int main() { /') 0 3 10
 try 1 'refused 12 at 0' 'LOW is above HIGH' --against "$list" "$sample" 3 0 10
 
-# The words of README's tables are those that the command reads
+# README shows what the command says, and the words of its tables are those that the command reads
+printf 'int main() {\n  int x = 3;\n  return x;\n}\n' > rule.muli
+run --check rule.muli
+ok 'the refusal in README' cmp -s err <(sed -n '/^    rule\.muli:2:9:/,/^$/s/^    //p' "$home/README.md")
 status=0
 ok 'refusals in README' cmp -s <(sed -n '/^## If it is refused/,/^## What/p' "$home/README.md" | grep '^| [0-9]') "$home/help/refusals.txt"
 ok 'endings in README' cmp -s <(grep -E '^\| .(whole|cut|full|spent). \|' "$home/README.md") "$home/help/endings.txt"
@@ -267,6 +271,15 @@ if command -v script > /dev/null; then
     ok 'a terminal: no other lines' test "$(grep -c ' of 5' out)" -eq 1
     rm repository/target/plans.mark
 fi
+rm -f repository/target/plans.mark repository/target/ended
+for k in 1 2; do WAIT=1 "$plans" "$sample" 0 3 100 > "out.$k" 2> "err.$k" & done
+wait
+cat err.1 err.2 > err
+status=0
+ok 'two first calls: both list' test "$(cat out.1 out.2)" = "$(cat "$list" "$list")"
+ok 'two first calls: one waits' says 'waiting for it' err
+ok 'two first calls: one builds' test "$(wc -l < repository/target/ended)" -eq 3
+rm -f repository/target/plans.mark
 for signal in INT TERM; do
     rm -f repository/target/ended
     set -m
