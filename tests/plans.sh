@@ -232,6 +232,7 @@ ok 'the refusal in README' cmp -s err <(sed -n '/^    rule\.muli:2:9:/,/^$/s/^  
 status=0
 ok 'refusals in README' cmp -s <(sed -n '/^## If it is refused/,/^## What/p' "$home/README.md" | grep '^| [0-9]') "$home/help/refusals.txt"
 ok 'endings in README' cmp -s <(grep -E '^\| .(whole|cut|full|spent). \|' "$home/README.md") "$home/help/endings.txt"
+ok 'each crate has its cost' test "$(comm -23 <(sed 's/#.*//; s/:.*//; /^ *$/d' "$home/crates.txt" | sort) <(cut -d' ' -f1 "$home/help/costs.txt" | sort) | xargs)" = 'check_cases exports program_cases'
 
 # The build, with a stand-in for rt: what is shown, what a failure says, and that nothing half built is trusted
 mkdir -p bin repository/crates/syntax
@@ -271,6 +272,7 @@ if command -v script > /dev/null; then
     ok 'a terminal: no other lines' test "$(grep -c ' of 5' out)" -eq 1
     rm repository/target/plans.mark
 fi
+touch repository/crates/syntax
 rm -f repository/target/plans.mark repository/target/ended
 for k in 1 2; do WAIT=1 "$plans" "$sample" 0 3 100 > "out.$k" 2> "err.$k" & done
 wait
@@ -296,7 +298,6 @@ for signal in INT TERM; do
     sleep 1.2
     ok "$signal: rt has stopped too" test "$(wc -l < repository/target/ended)" -eq 1
 done
-touch repository/crates/syntax
 try 0 'whole 4 rows' '[3 of 5] grammar' "$sample" 0 3 100
 
 printf '%d cases of ./plans answered, %d failed\n' "$passed" "$failed"
