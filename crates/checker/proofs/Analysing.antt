@@ -16,7 +16,7 @@ use Rattle.lexer.specs.declared.Lexed.{Lexed}
 use Rattle.lexer.specs.declared.Lexed.the-variants as X
 use Rattle.lexer.proofs.Theorems.{Ended, the-end, before-end, lexed-tokens, end-last, count, stored-length, stored-kinds, stored-places}
 use Rattle.grammar.specs.Text.{Tokens}
-use Rattle.checker.specs.Check.{Verdict, accepted, refused, checkedTokens, checked, kinds, places, values}
+use Rattle.checker.specs.Check.{Verdict, accepted, refused, kinds, places, values, source, checkedTokens, checked}
 use Rattle.checker.specs.Sizes.{TOKENS}
 use Rattle.checker.specs.Analysis.{Settles, Analyses}
 use Rattle.checker.specs.Analysis as N
@@ -92,28 +92,29 @@ module _ {text ks ps vs : List ℕ} {n : ℕ} (x : Into text ks ps vs n) where
   few-listed h = omega (arith, as-long ks h, few-tokens)
 
   -- what check says is what is said of the tokens
-  is-checked : n ≤ length ks → n ≤ length ps → n ≤ length vs → checked text ≡ checkedTokens text (take n ks) (take n ps) (take n vs)
+  is-checked : n ≤ length ks → n ≤ length ps → n ≤ length vs → checked text ≡ checkedTokens (source text (take n ks) (take n ps) (take n vs))
   unfolding checked
   is-checked h i j = rw (x .is, checked) (rw (stored-kinds n ks ps vs h, stored-places n ks ps vs i, stored-values n ks ps vs j))
 
-  pub analysed : {nodes items heads before slots : List ℕ} {r : Analysed} → n ≤ length ks → n ≤ length ps → n ≤ length vs
-      → Settles text (take n ks) (take n ps) (take n vs) nodes items heads before slots r (checkedTokens text (take n ks) (take n ps) (take n vs))
-      → Analyses text ks ps vs nodes items heads before slots r (checked text)
-  analysed {nodes} {items} {heads} {before} {slots} h i j s = rw (is-checked h i j) (go s)
+  pub analysed : {nodes events heads before slots : List ℕ} {r : Analysed} → n ≤ length ks → n ≤ length ps → n ≤ length vs
+      → Settles (source text (take n ks) (take n ps) (take n vs)) nodes events heads before slots r (checkedTokens (source text (take n ks) (take n ps) (take n vs)))
+      → Analyses text ks ps vs nodes events heads before slots r (checked text)
+  analysed {nodes} {events} {heads} {before} {slots} h i j s = rw (is-checked h i j) (go s)
     where
-      go : {r : Analysed} {v : Verdict} → Settles text (take n ks) (take n ps) (take n vs) nodes items heads before slots r v → Analyses text ks ps vs nodes items heads before slots r v
+      go : {r : Analysed} {v : Verdict} → Settles (source text (take n ks) (take n ps) (take n vs)) nodes events heads before slots r v → Analyses text ks ps vs nodes events heads before slots r v
       go N.Settles.refuses = N.rejects
-      go (N.Settles.accepts {root = root} {e = k} {h = f} q w) = subst (λ (m : ℕ). Analyses text ks ps vs nodes items heads before slots (Fine m root k f) accepted) (as-long ks h ∙ sym q) (N.has (x .is) w)
+      go (N.Settles.accepts {root = root} {e = k} {h = f} q w) =
+          subst (λ (m : ℕ). Analyses text ks ps vs nodes events heads before slots (Fine m root k f) accepted) (as-long ks h ∙ sym q) (N.has (x .is) w)
 
-pub refused-so : {text ks ps vs ks′ ps′ vs′ nodes items heads before slots : List ℕ} {c p : ℕ} {r : Lexed} → Lexes text ks ps vs ks′ ps′ vs′ r → r ≡ X.Refused c p
-    → Analyses text ks′ ps′ vs′ nodes items heads before slots (Refused c p) (checked text)
+pub refused-so : {text ks ps vs ks′ ps′ vs′ nodes events heads before slots : List ℕ} {c p : ℕ} {r : Lexed} → Lexes text ks ps vs ks′ ps′ vs′ r → r ≡ X.Refused c p
+    → Analyses text ks′ ps′ vs′ nodes events heads before slots (Refused c p) (checked text)
 unfolding checked
 refused-so {ks′ = ks′} {ps′ = ps′} {vs′ = vs′} {c = c} {p = p} h e = let q : lexed _ ≡ L.refused c p = h .answer ∙ ap (W.answerOf ks′ ps′ vs′) e in rw (q, checked) N.rejects
 
 -- what an analysis says of its text
-module _ {text ks ps vs nodes items heads before slots : List ℕ} where
-  pub says-refused : {c p : ℕ} {v : Verdict} → Analyses text ks ps vs nodes items heads before slots (Refused c p) v → refused c p ≡ v
+module _ {text ks ps vs nodes events heads before slots : List ℕ} where
+  pub says-refused : {c p : ℕ} {v : Verdict} → Analyses text ks ps vs nodes events heads before slots (Refused c p) v → refused c p ≡ v
   says-refused N.rejects = refl
 
-  pub says-accepted : {n root e h : ℕ} {v : Verdict} → Analyses text ks ps vs nodes items heads before slots (Fine n root e h) v → accepted ≡ v
+  pub says-accepted : {n root e h : ℕ} {v : Verdict} → Analyses text ks ps vs nodes events heads before slots (Fine n root e h) v → accepted ≡ v
   says-accepted (N.has i w) = refl

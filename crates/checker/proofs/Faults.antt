@@ -1,52 +1,57 @@
 -- The first broken rule, from what each rule says.
 use Prim.Native.Nat.{ℕ}
 use mathlib.Core.Path.{_≡_, refl, sym, ap, _∙_, subst}
-use mathlib.Core.Bool.{Bool}
 use mathlib.Core.List.{List}
-use mathlib.Core.Option.{none}
-use Rattle.events.specs.Event.{Event}
-use Rattle.text_rules.specs.Scan.{least}
-use Rattle.text_rules.specs.Rules.{heads, mainless}
-use Rattle.text_rules.specs.Answers.{storedHeads, place}
+use mathlib.Core.Option.{Option, none, some}
+use lib.ListN.{take-append-drop}
+use Rattle.syntax.specs.Ast as A
+use Rattle.syntax.specs.Ast.{Ast}
+use Rattle.events.specs.Event.{Event, events}
+use Rattle.text_rules.specs.Answers.{place}
 use Rattle.text_rules.specs.declared.broken.Broken as B
 use Rattle.text_rules.specs.declared.broken.Broken.the-variants as b
-use Rattle.names.specs.Steps.{Named}
-use Rattle.checker.specs.Check.{fault, orElse, rules, firstBroken}
-use Rattle.checker.specs.Judge.{faultOf, Understands, unless, chosen, Ruled, Judges}
+use Rattle.checker.specs.Check.{Source, Rule, rulesOf, Fault, firstBroken}
+use Rattle.checker.specs.Judge.{firstRules, lastRules, faultOf, judgedBy, Understands, Judges, JudgesPart}
 use Rattle.checker.specs.declared.Judged.{Judged}
 use Rattle.checker.specs.declared.Judged.the-variants.{Broken, Kept}
+use Rattle.checker.proofs.Table.{orLater, first-append}
 
-fault-unless : (n : ℕ) (x : B.Broken) (later : Judged) → faultOf (unless n x later) ≡ orElse n (place x) (faultOf later)
-fault-unless n b.Nowhere later = refl
-fault-unless n (b.At i) later = refl
+-- a rule is broken at a token, or nowhere
+pub at : {x : B.Broken} {o : Option ℕ} {i : ℕ} → place x ≡ o → x ≡ b.At i → o ≡ some i
+at h e = sym h ∙ ap place e
 
-module _ (same : ℕ → ℕ → Bool) (es : List Event) (slots slots′ heads′ : List ℕ) where
-  known-unless : (n : ℕ) (x : B.Broken) (later : Judged) → Understands same es slots slots′ heads′ later → Understands same es slots slots′ heads′ (unless n x later)
-  known-unless n b.Nowhere later k = k
-  known-unless n (b.At i) later k = tt
+pub nowhere : {x : B.Broken} {o : Option ℕ} → place x ≡ o → x ≡ b.Nowhere → o ≡ none
+nowhere h e = sym h ∙ ap place e
 
-fault-chosen : (d m c a u y : B.Broken) (h : ℕ) → faultOf (chosen d m c a u y h) ≡ orElse 5 (place d) (orElse 6 (place m) (orElse 7 (place c) (orElse 8 (place a) (orElse 9 (place u) (orElse 10 (place y) none)))))
-fault-chosen d m c a u y h =
-    fault-unless 5 d _
-    ∙ ap (orElse 5 (place d)) (fault-unless 6 m _
-    ∙ ap (orElse 6 (place m)) (fault-unless 7 c _
-    ∙ ap (orElse 7 (place c)) (fault-unless 8 a _
-    ∙ ap (orElse 8 (place a)) (fault-unless 9 u _
-    ∙ ap (orElse 9 (place u)) (fault-unless 10 y (Kept h))))))
+-- ---- the two parts of the table
 
--- rule 6 and the others, put together
-pub judges : (same : ℕ → ℕ → Bool) (isMain : ℕ → Bool) (end : ℕ) (es : List Event) (slots slots′ heads′ : List ℕ) (h : ℕ) (misnamed : B.Broken) (r : Judged)
-    → storedHeads heads′ h ≡ heads es
-    → Named same es slots (place misnamed) slots′
-    → Ruled same isMain end es (storedHeads heads′ h) h misnamed r
-    → Judges same isMain end es slots slots′ heads′ r
-unfolding rules firstBroken
-judges same isMain end es slots slots′ heads′ h misnamed r hs named ruled =
-    let e : faultOf r ≡ orElse 5 (place (ruled .deep)) (orElse 6 (place misnamed) (orElse 7 (place (ruled .miscalled)) (orElse 8 (place (ruled .mainless)) (orElse 9 (place (ruled .unended)) (orElse 10 (place (ruled .many)) none))))) =
-    ap faultOf (ruled .is) ∙ fault-chosen (ruled .deep) misnamed (ruled .miscalled) (ruled .mainless) (ruled .unended) (ruled .many) h in
-    let k : (n : ℕ) (x : B.Broken) (later : Judged) → Understands same es slots slots′ heads′ later → Understands same es slots slots′ heads′ (unless n x later) = known-unless same es slots slots′ heads′ in
-    record {
-      fault = rw (e, ruled .rule5, named .least, ruled .rule7, ruled .rule8, ruled .rule9, ruled .rule10, hs);
-      known = subst (Understands same es slots slots′ heads′) (sym (ruled .is))
-          (k 5 (ruled .deep) _ (k 6 misnamed _ (k 7 (ruled .miscalled) _ (k 8 (ruled .mainless) _ (k 9 (ruled .unended) _ (k 10 (ruled .many) (Kept h) (hs, named .means)))))));
-    }
+by-parts : (s : Source) (p : Ast A.prog) → firstBroken (rulesOf s p) ≡ orLater (firstBroken (firstRules s p)) (firstBroken (lastRules s p))
+by-parts s p = ap firstBroken (sym (take-append-drop 5 (rulesOf s p))) ∙ first-append (firstRules s p) (lastRules s p)
+
+fault-judged : (h : ℕ) (o : Option Fault) → faultOf (judgedBy h o) ≡ o
+fault-judged h none = refl
+fault-judged h (some f) = refl
+
+known-judged : (s : Source) (p : Ast A.prog) (slots slots′ heads′ : List ℕ) (h : ℕ) (o : Option Fault)
+    → Understands s p slots slots′ heads′ (Kept h) → Understands s p slots slots′ heads′ (judgedBy h o)
+known-judged s p slots slots′ heads′ h none k = k
+known-judged s p slots slots′ heads′ h (some f) k = tt
+
+module _ {s : Source} {es : List Event} {slots slots′ heads′ : List ℕ} where
+  -- where the rules before are kept, the answer of all is that of the later ones
+  pub goes-on : {of later : Ast A.prog → List Rule} {h : ℕ} {r : Judged} → JudgesPart later es h r
+      → ((p : Ast A.prog) → es ≡ events p → firstBroken (of p) ≡ firstBroken (later p))
+      → ((p : Ast A.prog) → es ≡ events p → Understands s p slots slots′ heads′ (Kept h))
+      → Judges s of es slots slots′ heads′ r
+  goes-on {later = later} {h = h} j f k = record {
+    fault = λ p e. ap faultOf (j .is p e) ∙ fault-judged h (firstBroken (later p)) ∙ sym (f p e);
+    known = λ p e. subst (Understands s p slots slots′ heads′) (sym (j .is p e)) (known-judged s p slots slots′ heads′ h (firstBroken (later p)) (k p e));
+  }
+
+  -- one of the first rules is broken
+  pub first-broken : {n i : ℕ} → Judges s (firstRules s) es slots slots′ heads′ (Broken n i) → Judges s (rulesOf s) es slots slots′ heads′ (Broken n i)
+  first-broken j = record { fault = λ p e. sym (by-parts s p ∙ ap (λ (o : Option Fault). orLater o (firstBroken (lastRules s p))) (sym (j .fault p e))); known = λ p e. tt }
+
+  -- they are kept, and then the last rules
+  pub first-kept : {h : ℕ} {r : Judged} → Judges s (firstRules s) es slots slots′ heads′ (Kept h) → JudgesPart (lastRules s) es h r → Judges s (rulesOf s) es slots slots′ heads′ r
+  first-kept j l = goes-on l (λ p e. by-parts s p ∙ ap (λ (o : Option Fault). orLater o (firstBroken (lastRules s p))) (sym (j .fault p e))) (j .known)

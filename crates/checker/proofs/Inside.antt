@@ -1,5 +1,5 @@
 -- The tokens that break a rule are tokens of the text.
-use Prim.Native.Nat.{ℕ, _+_, _-_, _<_}
+use Prim.Native.Nat.{ℕ, _+_, _<_}
 use mathlib.Core.Path.{_≡_, sym, ap, _∙_, subst}
 use mathlib.Core.Bool.{Bool, true, false, cond, not, _||_}
 use mathlib.Core.List.{List, [], _∷_, _++_, List·Memᴰ·head as here, List·Memᴰ·tail as there, List·Memᴰ·not-nil as nowhere}
@@ -9,6 +9,8 @@ use lib.ListN.{length}
 use lib.Dec.{eqb, leb, ltb}
 use Rattle.syntax.specs.Token.{kEnd}
 use Rattle.syntax.specs.Tree.{Tree, prog, width, numbered}
+use Rattle.syntax.specs.Ast as A
+use Rattle.syntax.specs.Ast.{Ast}
 use Rattle.syntax.specs.Abstract.{ast}
 use Rattle.grammar.specs.Text as G
 use Rattle.events.specs.Event.{Event, function, parameter, thing, opens, closes, declares, uses, calls, ends, events}
@@ -20,7 +22,7 @@ use Rattle.semantics.specs.Demand.{_∈_}
 use Rattle.text_rules.specs.Scan.{scan, on, when}
 use Rattle.text_rules.specs.Rules.{Head, heads, deep, wrong, arityOf, miscounted, mains, withParameters, badMain, unended, Tally, tally, counted, over, functionOf}
 use Rattle.text_rules.specs.Names.{Scope, nowhere as outside, entered, sought, misnamed, unlessFound, ifFound, uncalled, repeated, badNames}
-use Rattle.checker.specs.Check.{Rule, rules}
+use Rattle.checker.specs.Check.{Source, sameIn, mainIn, endOf, Rule, rulesOf}
 
 -- every number is below m
 pub data Low (m : ℕ) : List ℕ → Type 0 where
@@ -206,13 +208,13 @@ pub data Lows (m : ℕ) : List Rule → Type 0 where
   done : Lows m []
   also : {r : Rule} {rs : List Rule} → Low m (r .broken) → Lows m rs → Lows m (r ∷ rs)
 
-rules-low : (m : ℕ) (same : ℕ → ℕ → Bool) (isMain : ℕ → Bool) (end : ℕ) (es : List Event) → end < m → Each m es → Lows m (rules same isMain end es)
-unfolding rules
-rules-low m same isMain end es e l =
+rules-low : (m : ℕ) (s : Source) (p : Ast A.prog) → endOf s < m → Each m (events p) → Lows m (rulesOf s p)
+unfolding rulesOf
+rules-low m s p e l =
     also (low-on m deep (low-deep m) l)
-    (also (low-names m same l)
-    (also (low-on m (miscounted same (heads es)) (low-miscounted m same (heads es)) l)
-    (also (low-main m isMain e (low-mains m isMain (low-heads m l)))
+    (also (low-names m (sameIn s) l)
+    (also (low-on m (miscounted (sameIn s) (heads (events p))) (low-miscounted m (sameIn s) (heads (events p))) l)
+    (also (low-main m (mainIn s) e (low-mains m (mainIn s) (low-heads m l)))
     (also (low-on m unended (low-unended m) l)
     (also (low-scan m counted over (low-over m) (tally 0 0 0) l) done)))))
 
@@ -224,7 +226,7 @@ events-low ks t k =
     let b : Below (length ks) (ast (numbered 0 t)) = numbered-below 0 (length ks) t (omega (arith, w)) in
     events-within (length ks) 1 (ast t) (subst (λ (x : Tree prog). Below (length ks) (ast x)) (sym (k .numbers)) b)
 
-pub broken-low : (ks : List ℕ) (t : Tree prog) → G.KeepsGrammar ks t → (same : ℕ → ℕ → Bool) (isMain : ℕ → Bool) → Lows (length ks) (rules same isMain (length ks - 1) (events (ast t)))
-broken-low ks t k same isMain =
-    let w : length ks ≡ width t + 1 = ap length (k .tokens) ∙ onto-length t (kEnd ∷ []) in
-    rules-low (length ks) same isMain (length ks - 1) (events (ast t)) (omega (arith, w)) (events-low ks t k)
+pub broken-low : (s : Source) (t : Tree prog) → G.KeepsGrammar (s .kinds) t → Lows (length (s .kinds)) (rulesOf s (ast t))
+broken-low s t k =
+    let w : length (s .kinds) ≡ width t + 1 = ap length (k .tokens) ∙ onto-length t (kEnd ∷ []) in
+    rules-low (length (s .kinds)) s (ast t) (omega (arith, w)) (events-low (s .kinds) t k)

@@ -1,4 +1,5 @@
 -- Theorems about check.
+pub mod Table
 pub mod Faults
 pub mod Inspecting
 pub mod Settling
@@ -9,3 +10,4 @@ pub mod Exactly
 pub mod Inside
 pub mod Refusals
 pub mod Texts
+pub mod Resolving

@@ -18,14 +18,13 @@ use Rattle.syntax.specs.Abstract.{ast}
 use Rattle.grammar.specs.Parse.{Res, parsed, ok, bad}
 use Rattle.grammar.specs.Text as G
 use Rattle.grammar.proofs.Grammar as Q
-use Rattle.events.specs.Event.{events}
 use Rattle.text_rules.specs.Scan.{least, lesser}
-use Rattle.text_rules.specs.Spelling.{sameName, isMain}
 use Rattle.semantics.specs.Demand.{_∈_}
-use Rattle.checker.specs.Check.{Verdict, accepted, refused, Fault, fault, Rule, orElse, firstBroken, verdict, rulesOf, checkedTokens, checked, kinds, places, values}
+use Rattle.checker.specs.Check.{Verdict, accepted, refused, kinds, places, sourceOf, Rule, rulesOf, Fault, fault, orElse, firstBroken, verdict, checkedTokens, checked}
 use Rattle.checker.specs.Accepted.{KeepsRules}
 use Rattle.checker.specs.Refusal.{Smallest, Breaks, Refusal, too-long, no-token, too-large, no-program, breaks-rule}
-use Rattle.checker.proofs.Exactly.{least-none, token-list, read-so, exactly}
+use Rattle.checker.proofs.Table.{AllKept, none-kept, also-kept, least-none, kept-exactly, first-append}
+use Rattle.checker.proofs.Exactly.{token-list, read-so, exactly}
 use Rattle.checker.proofs.Inside.{Low, low-at, Lows, also, broken-low}
 
 -- ---- the least of a list
@@ -75,14 +74,10 @@ places-ascend (above q a) (suc i) (suc j) h k = places-ascend a i j (omega (arit
 
 -- ---- the first rule that is broken
 
-none-before : (r : Rule) → r ∈ [] → r .broken ≡ []
-none-before r m = absurd (nowhere m)
-
 -- it is found
-finds : (before : List Rule) (r : Rule) (after : List Rule) (i : ℕ) → ((q : Rule) → q ∈ before → q .broken ≡ []) → least (r .broken) ≡ some i → firstBroken (before ++ r ∷ after) ≡ some (fault (r .number) i)
-unfolding firstBroken least
-finds [] r after i k e = rw (e, firstBroken)
-finds (q ∷ qs) r after i k e = rw (k q (here refl), firstBroken) (finds qs r after i (λ x m. k x (there m)) e)
+finds : (before : List Rule) (r : Rule) (after : List Rule) (i : ℕ) → AllKept before → least (r .broken) ≡ some i → firstBroken (before ++ r ∷ after) ≡ some (fault (r .number) i)
+unfolding firstBroken
+finds before r after i k e = first-append before (r ∷ after) ∙ rw (kept-exactly before .1 k, e)
 
 -- what a fault says
 abbrev Found : List Token → List Rule → Option Fault → Type 0
@@ -90,11 +85,8 @@ Found ts rs none = Unit
 Found ts rs (some f) = Breaks ts rs (f .number) (getD (places ts) (f .token) 0)
 
 later : {ts : List Token} {rs : List Rule} {n p : ℕ} (r : Rule) → r .broken ≡ [] → Breaks ts rs n p → Breaks ts (r ∷ rs) n p
-later r e b = record { before = r ∷ b .before; broken = b .broken; after = b .after; order = ap (λ (l : List Rule). r ∷ l) (b .order); kept = kept; number = b .number; place = b .place }
-  where
-    kept : (q : Rule) → q ∈ r ∷ b .before → q .broken ≡ []
-    kept q (here f) = ap (λ (x : Rule). x .broken) f ∙ e
-    kept q (there m) = b .kept q m
+later r e b =
+    record { before = r ∷ b .before; broken = b .broken; after = b .after; order = ap (λ (l : List Rule). r ∷ l) (b .order); kept = also-kept e (b .kept); number = b .number; place = b .place }
 
 module _ (ts : List Token) (a : Ascending 0 ts) where
   now : (r : Rule) (rs : List Rule) (i : ℕ) → Low (length ts) (r .broken) → least (r .broken) ≡ some i → Breaks ts (r ∷ rs) (r .number) (getD (places ts) i 0)
@@ -105,7 +97,7 @@ module _ (ts : List Token) (a : Ascending 0 ts) where
         broken = r;
         after = rs;
         order = refl;
-        kept = none-before;
+        kept = none-kept;
         number = refl;
         place = record { token = i; breaks = s .among; stands = refl; inside = low-at l; smallest = λ j m. places-ascend a i j (s .lowest j m) (low-at l j m) };
       }
@@ -162,14 +154,14 @@ module _ (text : List ℕ) where
 
   -- numbers 5 to 10
   by-rules : (ts : List Token) → lexed text ≡ L.tokens ts → (t : Tree prog) → G.KeepsGrammar (kinds ts) t
-      → Says text (verdict (places ts) (firstBroken (rulesOf text (places ts) (values ts) (length (kinds ts)) (events (ast t)))))
+      → Says text (verdict (places ts) (firstBroken (rulesOf (sourceOf text ts) (ast t))))
   by-rules ts l t k = go (firstBroken rs) (first-found ts (ascending (lexed-tokens text ts l .1)) rs low)
     where
       rs : List Rule
-      rs = rulesOf text (places ts) (values ts) (length (kinds ts)) (events (ast t))
+      rs = rulesOf (sourceOf text ts) (ast t)
 
       low : Lows (length ts) rs
-      low = subst (λ (m : ℕ). Lows m rs) (length-kinds ts) (broken-low (kinds ts) t k (sameName text (places ts) (values ts)) (isMain text (places ts) (values ts)))
+      low = subst (λ (m : ℕ). Lows m rs) (length-kinds ts) (broken-low (sourceOf text ts) t k)
 
       go : (o : Option Fault) → Found ts rs o → Says text (verdict (places ts) o)
       go none b = tt
@@ -181,11 +173,11 @@ module _ (text : List ℕ) where
   says = go (lexed text) refl (lexed-right text)
     where
       read : (ts : List Token) → lexed text ≡ L.tokens ts → (r : Res prog) → parsed (kinds ts) ≡ r
-          → Says text (elim r [ bad m ↦ refused 4 (getD (places ts) m 0) | ok t m ↦ verdict (places ts) (firstBroken (rulesOf text (places ts) (values ts) (length (kinds ts)) (events (ast t)))) ])
+          → Says text (elim r [ bad m ↦ refused 4 (getD (places ts) m 0) | ok t m ↦ verdict (places ts) (firstBroken (rulesOf (sourceOf text ts) (ast t))) ])
       read ts l (bad m) e = no-program l (Q.first-bad (kinds ts) (token-list text ts l) e)
       read ts l (ok t m) e = by-rules ts l t (Q.kept (kinds ts) (token-list text ts l) e)
 
-      go : (a : L.Lexing) → lexed text ≡ a → Right text a → Says text (elim a [ L.refused n p ↦ refused n p | L.tokens ts ↦ checkedTokens text (kinds ts) (places ts) (values ts) ])
+      go : (a : L.Lexing) → lexed text ≡ a → Right text a → Says text (elim a [ L.refused n p ↦ refused n p | L.tokens ts ↦ checkedTokens (sourceOf text ts) ])
       go (L.refused n p) l r = by-lexer (L.refused n p) r
       go (L.tokens ts) l r = read ts l (parsed (kinds ts)) refl
 

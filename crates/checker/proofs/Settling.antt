@@ -17,7 +17,7 @@ use Rattle.grammar.proofs.Grammar.{kept}
 use Rattle.events.specs.Walk.{Ready}
 use Rattle.events.proofs.Widths.{onto-length}
 use Rattle.events.proofs.Enough.{ready}
-use Rattle.checker.specs.Check.{Verdict, checkedTokens}
+use Rattle.checker.specs.Check.{Verdict, Source, checkedTokens}
 use Rattle.checker.specs.Sizes.{NODES}
 use Rattle.checker.specs.Analysis.{Inspects, Inspected, Settles, Lent}
 use Rattle.checker.specs.Analysis as N
@@ -40,23 +40,23 @@ pub is-tree : {l : List ℕ} {root count : ℕ} {v : Res T.prog} → G.Parses l 
 is-tree (G.tree {t = t} {m = m} {k = k} p q a) = record { tree = t; after = m; is = refl; holds = record { kind = k; at = a }; room = omega (arith, p, q) }
 
 -- the tree can be walked
-pub can-walk : {ks nodes l items heads scope : List ℕ} {root : ℕ} → Lent ks nodes items heads scope → length l ≡ length nodes → Read l root (parsed ks) → Ready l root items
+pub can-walk : {ks nodes l events heads scope : List ℕ} {root : ℕ} → Lent ks nodes events heads scope → length l ≡ length nodes → Read l root (parsed ks) → Ready l root events
 can-walk {ks} {l = l} {root = root} h e r =
     let k = kept ks (h .tokens) (r .is) in
     let w : length ks ≡ width (r .tree) + 1 = ap length (k .tokens) ∙ onto-length (r .tree) (kEnd ∷ []) in
     ready (r .tree) (omega (arith, w, h .few)) (subst (λ (t : Tree T.prog). Holds l root (ast t)) (k .numbers) (r .holds)) (r .room) (omega (arith, r .room, e, h .table)) (omega (arith, h .words))
 
-module _ (text ks ps vs nodes items heads before slots : List ℕ) where
-  pub settles-bad : {m : ℕ} → parsed ks ≡ bad m → Settles text ks ps vs nodes items heads before slots (Refused 4 (getD ps m 0)) (checkedTokens text ks ps vs)
+module _ (s : Source) (nodes events heads before slots : List ℕ) where
+  pub settles-bad : {m : ℕ} → parsed (s .kinds) ≡ bad m → Settles s nodes events heads before slots (Refused 4 (getD (s .places) m 0)) (checkedTokens s)
   unfolding checkedTokens
   settles-bad e = rw (e, checkedTokens) N.refuses
 
-  pub settles-tree : {root : ℕ} {r : Analysed} → (h : Read nodes root (parsed ks)) → length nodes ≡ NODES
-      → Inspected text ps vs nodes items heads before slots (length ks) root r
-      → Settles text ks ps vs nodes items heads before slots r (checkedTokens text ks ps vs)
+  pub settles-tree : {root : ℕ} {r : Analysed} → (h : Read nodes root (parsed (s .kinds))) → length nodes ≡ NODES
+      → Inspected s nodes events heads before slots root r
+      → Settles s nodes events heads before slots r (checkedTokens s)
   unfolding checkedTokens
   settles-tree {root} {r} h f g = rw (h .is, checkedTokens) (go (g .inspects (ast (h .tree)) (h .holds)))
     where
-      go : {r : Analysed} {v : Verdict} → Inspects text ps vs items heads before slots (length ks) root (ast (h .tree)) r v → Settles text ks ps vs nodes items heads before slots r v
+      go : {r : Analysed} {v : Verdict} → Inspects s events heads before slots root (ast (h .tree)) r v → Settles s nodes events heads before slots r v
       go N.Inspects.refuses = N.refuses
       go (N.Inspects.accepts u k) = N.accepts refl (record { tree = h .tree; after = h .after; parses = h .is; holds = h .holds; room = h .room; few = omega (arith, h .room, f); kept = k; unbroken = u })

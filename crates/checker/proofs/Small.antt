@@ -12,8 +12,7 @@ use Rattle.lexer.proofs.Theorems.{Right, has-tokens, too-long, no-token, too-la
 use Rattle.grammar.specs.Parse.{Res, ok, bad, parsed}
 use Rattle.syntax.specs.Tree as T
 use Rattle.syntax.specs.Abstract.{ast}
-use Rattle.events.specs.Event as E
-use Rattle.checker.specs.Check.{Verdict, accepted, refused, Fault, verdict, firstBroken, rulesOf, checkedTokens, checked, kinds, places, values}
+use Rattle.checker.specs.Check.{Verdict, accepted, refused, places, Source, sourceOf, rulesOf, Fault, firstBroken, verdict, checkedTokens, checked}
 
 -- a verdict whose place, if it has one, is at most n
 pub data Within (n : ℕ) : Verdict → Type 0 where
@@ -30,13 +29,13 @@ verdict-low : (n : ℕ) (ps : List ℕ) → ((i : ℕ) → getD ps i 0 ≤ n) �
 verdict-low n ps h none = fine
 verdict-low n ps h (some f) = low (h (f .token))
 
-tokens-low : (n : ℕ) (text ks ps vs : List ℕ) → ((i : ℕ) → getD ps i 0 ≤ n) → Within n (checkedTokens text ks ps vs)
+tokens-low : (n : ℕ) (s : Source) → ((i : ℕ) → getD (s .places) i 0 ≤ n) → Within n (checkedTokens s)
 unfolding checkedTokens
-tokens-low n text ks ps vs h = go (parsed ks)
+tokens-low n s h = go (parsed (s .kinds))
   where
-    go : (r : Res T.prog) → Within n (elim r [ bad m ↦ refused 4 (getD ps m 0) | ok t m ↦ verdict ps (firstBroken (rulesOf text ps vs (length ks) (E.events (ast t)))) ])
+    go : (r : Res T.prog) → Within n (elim r [ bad m ↦ refused 4 (getD (s .places) m 0) | ok t m ↦ verdict (s .places) (firstBroken (rulesOf s (ast t))) ])
     go (bad m) = low (h m)
-    go (ok t m) = verdict-low n ps h (firstBroken (rulesOf text ps vs (length ks) (E.events (ast t))))
+    go (ok t m) = verdict-low n (s .places) h (firstBroken (rulesOf s (ast t)))
 
 -- where a byte begins no token, and the first large token
 large-low : {text : List ℕ} {p q : ℕ} {ts : List Token} → Scans text p (found ts) → FirstLarge ts q → q ≤ length text
@@ -55,8 +54,8 @@ pub checked-low : (text : List ℕ) → Within 2048 (checked text)
 unfolding checked
 checked-low text = go (lexed text) (lexed-right text)
   where
-    go : (a : L.Lexing) → Right text a → Within 2048 (elim a [ L.refused n p ↦ refused n p | L.tokens ts ↦ checkedTokens text (kinds ts) (places ts) (values ts) ])
-    go (L.tokens ts) (has-tokens h s m) = tokens-low 2048 text (kinds ts) (places ts) (values ts) (λ i. omega (arith, place-low s i, h))
+    go : (a : L.Lexing) → Right text a → Within 2048 (elim a [ L.refused n p ↦ refused n p | L.tokens ts ↦ checkedTokens (sourceOf text ts) ])
+    go (L.tokens ts) (has-tokens h s m) = tokens-low 2048 (sourceOf text ts) (λ i. omega (arith, place-low s i, h))
     go (L.refused c p) r = low (first r)
       where
         first : Right text (L.refused c p) → p ≤ 2048

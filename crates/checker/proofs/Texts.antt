@@ -10,7 +10,7 @@ use Rattle.text_rules.specs.Scan as R
 use Rattle.text_rules.specs.Scan.{on, least, lesser}
 use Rattle.text_rules.specs.Rules.{deep, parameters, heads, functionOf, arityOf, wrong, miscounted, mains, withParameters, badMain, unended, counted, over}
 use Rattle.text_rules.specs.Names.{declared, outer, entered, inBlock, sought, misnamed, uncalled, repeated}
-use Rattle.checker.specs.Check.{Verdict, accepted, refused, rules, firstBroken, checkedTokens, checked}
+use Rattle.checker.specs.Check.{Verdict, accepted, refused, rulesOf, firstBroken, checkedTokens, checked}
 
 pub record Case : Type 0 where
   pub text : String
@@ -31,5 +31,5 @@ unfoldable pub given : Case → Verdict
 given c = checked (bytes (c .text))
 
 pub right : map given table ≡ map (λ c. c .answer) table
-unfolding given checked lexed noneLarge scan front valueOf decimal longestWithin kindOf kindIn same all ast readText moreProg readFun readParams moreParams readStmt readDecl readBlock readEnded readFail readGuard readNamed readIf readWhile moreBody readCond moreCond readConj moreConj readAtom readCmp readSum moreSum readTerm moreTerm readOperand readBracket readCall readArgs moreArgs events eventsAt stops count first on R.scan least lesser deep parameters heads functionOf arityOf wrong miscounted mains withParameters badMain unended counted over declared outer entered inBlock sought misnamed uncalled repeated rules firstBroken checkedTokens
+unfolding given checked lexed noneLarge scan front valueOf decimal longestWithin kindOf kindIn same all ast readText moreProg readFun readParams moreParams readStmt readDecl readBlock readEnded readFail readGuard readNamed readIf readWhile moreBody readCond moreCond readConj moreConj readAtom readCmp readSum moreSum readTerm moreTerm readOperand readBracket readCall readArgs moreArgs events eventsAt stops count first on R.scan least lesser deep parameters heads functionOf arityOf wrong miscounted mains withParameters badMain unended counted over declared outer entered inBlock sought misnamed uncalled repeated rulesOf firstBroken checkedTokens
 right = refl

@@ -7,9 +7,11 @@ use lib.ListN.{length, getD}
 use Rattle.lexer.specs.Lex as L
 use Rattle.lexer.specs.Lex.{Token, lexed}
 use Rattle.syntax.specs.Tree.{Tree, prog}
+use Rattle.syntax.specs.Ast as A
+use Rattle.syntax.specs.Ast.{Ast}
 use Rattle.syntax.specs.Abstract.{ast}
 use Rattle.grammar.specs.Parse.{parsed, ok, bad}
-use Rattle.events.specs.Event.{Event, events}
+use Rattle.events.specs.Event.{events}
 use Rattle.text_rules.specs.Scan.{least}
 use Rattle.text_rules.specs.Spelling.{sameName, isMain}
 use Rattle.text_rules.specs.Rules.{heads, tooDeep, miscalls, mainless, openEnds, tooMany}
@@ -32,6 +34,29 @@ places ts = map (λ t. t .place) ts
 abbrev pub values : List Token → List ℕ
 values ts = map (λ t. t .value) ts
 
+-- a text with the kinds, places and values of its tokens, of which the last is the end
+pub record Source : Type 0 where
+  pub text : List ℕ
+  pub kinds : List ℕ
+  pub places : List ℕ
+  pub values : List ℕ
+
+abbrev pub source : (text kinds places values : List ℕ) → Source
+source text ks ps vs = record { text = text; kinds = ks; places = ps; values = vs }
+
+abbrev pub sourceOf : List ℕ → List Token → Source
+sourceOf text ts = source text (kinds ts) (places ts) (values ts)
+
+-- two tokens of a text spell the same name; a token spells main; the number of the end's token, which stands at the text's length
+abbrev pub sameIn : Source → ℕ → ℕ → Bool
+sameIn s = sameName (s .text) (s .places) (s .values)
+
+abbrev pub mainIn : Source → ℕ → Bool
+mainIn s = isMain (s .text) (s .places) (s .values)
+
+abbrev pub endOf : Source → ℕ
+endOf s = length (s .kinds) - 1
+
 -- a rule's number, and the tokens that break it
 pub record Rule : Type 0 where
   pub number : ℕ
@@ -40,13 +65,14 @@ pub record Rule : Type 0 where
 abbrev pub rule : ℕ → List ℕ → Rule
 rule n is = record { number = n; broken = is }
 
--- rules 5 to 10 of a text with these events; the token `end` is the end, at the text's length
-unfoldable pub rules : (same : ℕ → ℕ → Bool) (isMain : ℕ → Bool) (end : ℕ) → List Event → List Rule
-rules same isMain end es =
+-- the table: the rules of a text with the tree p, in the order of checking, which goes on from the numbers 1 to 4
+unfoldable pub rulesOf : Source → Ast A.prog → List Rule
+rulesOf s p =
+    let es = events p in
     rule 5 (tooDeep es)
-    ∷ rule 6 (badNames same es)
-    ∷ rule 7 (miscalls same es)
-    ∷ rule 8 (mainless isMain end es)
+    ∷ rule 6 (badNames (sameIn s) es)
+    ∷ rule 7 (miscalls (sameIn s) es)
+    ∷ rule 8 (mainless (mainIn s) (endOf s) es)
     ∷ rule 9 (openEnds es)
     ∷ rule 10 (tooMany es)
     ∷ []
@@ -72,17 +98,13 @@ abbrev pub verdict : List ℕ → Option Fault → Verdict
 verdict ps none = accepted
 verdict ps (some f) = refused (f .number) (getD ps (f .token) 0)
 
--- the rules 5 to 10 of a text whose tokens have these places and values (of a name, its size), n tokens with the end
-abbrev pub rulesOf : (text ps vs : List ℕ) → ℕ → List Event → List Rule
-rulesOf text ps vs n es = rules (sameName text ps vs) (isMain text ps vs) (n - 1) es
-
 -- "4 the first token that no program could have there", and then the other rules
-unfoldable pub checkedTokens : (text ks ps vs : List ℕ) → Verdict
-checkedTokens text ks ps vs = elim (parsed ks) [ bad m ↦ refused 4 (getD ps m 0) | ok t m ↦ verdict ps (firstBroken (rulesOf text ps vs (length ks) (events (ast t)))) ]
+unfoldable pub checkedTokens : Source → Verdict
+checkedTokens s = elim (parsed (s .kinds)) [ bad m ↦ refused 4 (getD (s .places) m 0) | ok t m ↦ verdict (s .places) (firstBroken (rulesOf s (ast t))) ]
 
 -- numbers 1 to 3 are the lexer's
 unfoldable pub checked : List ℕ → Verdict
-checked text = elim (lexed text) [ L.refused n p ↦ refused n p | L.tokens ts ↦ checkedTokens text (kinds ts) (places ts) (values ts) ]
+checked text = elim (lexed text) [ L.refused n p ↦ refused n p | L.tokens ts ↦ checkedTokens (sourceOf text ts) ]
 
 -- ---- the program of a text
 

@@ -10,9 +10,8 @@ use Rattle.syntax.specs.Tree.{Tree, prog}
 use Rattle.syntax.specs.Abstract.{ast}
 use Rattle.grammar.specs.Text as G
 use Rattle.grammar.specs.Text.{First-bad}
-use Rattle.events.specs.Event.{events}
 use Rattle.semantics.specs.Demand.{_∈_}
-use Rattle.checker.specs.Check.{Rule, rulesOf, kinds, places, values}
+use Rattle.checker.specs.Check.{Rule, sourceOf, rulesOf, kinds, places}
 
 -- "the smallest place within a number winning, a token's place being its first byte": of the tokens `is`, one stands at p, and none before p. All are tokens of the text
 pub record Smallest (ts : List Token) (is : List ℕ) (p : ℕ) : Type 0 where
@@ -43,5 +42,5 @@ pub data Refusal (text : List ℕ) : (number place : ℕ) → Type 0 where
   no-program : {ts : List Token} {m : ℕ} → lexed text ≡ L.tokens ts → First-bad (kinds ts) m → Refusal text 4 (getD (places ts) m 0)
   -- numbers 5 to 10: the text keeps the grammar, its tokens being those of a tree, which breaks one of the rules
   breaks-rule : {ts : List Token} {t : Tree prog} {n p : ℕ} → lexed text ≡ L.tokens ts → G.KeepsGrammar (kinds ts) t
-      → Breaks ts (rulesOf text (places ts) (values ts) (length (kinds ts)) (events (ast t))) n p
+      → Breaks ts (rulesOf (sourceOf text ts) (ast t)) n p
       → Refusal text n p

@@ -2,13 +2,13 @@
 ghost use mathlib.Core.Path.{_≡_};
 ghost use Prim.Native.Nat.{_*_, _≤_, _<_};
 ghost use lib.ListN.{length};
-ghost use Rattle.events.specs.Stored.{stored};
-ghost use Rattle.text_rules.specs.Spelling.{sameName, isMain};
-ghost use Rattle.text_rules.specs.Answers.{storedHeads};
+ghost use Rattle.events.specs.Stored.{eventWords, stored};
 ghost use Rattle.events.specs.Walk.{Ready};
+ghost use Rattle.text_rules.specs.Rules as R;
+ghost use Rattle.text_rules.specs.Answers.{headWords, storedHeads};
 ghost use Rattle.checker.specs.Sizes.{EVENTS, HEADS, SCOPE};
-ghost use Rattle.checker.specs.Judge.{unless, chosen, Ruled, Judges};
-ghost use Rattle.checker.specs.Check.{checkedTokens, checked};
+ghost use Rattle.checker.specs.Judge.{firstRules, functionRules, lastRules, Judgeable, Judges, JudgesPart};
+ghost use Rattle.checker.specs.Check.{Source, source, rulesOf, checkedTokens, checked};
 ghost use Rattle.checker.specs.Analysis.{concluded, Inspected, Lent, Settles, Slices, Analyses, verdictOf};
 use grammar::Parsed;
 use lexer::Lexed;
@@ -17,87 +17,107 @@ use text_rules::spelling::word;
 
 pub mod sizes;
 
-// What the rules 5 to 10 say of a text: the number of a broken one with the first token that breaks it, or how many functions there are.
+// What the rules say of a text: the number of the first that is broken, with the first token that breaks it, or how many functions there are.
 enum Judged {
     Broken(u32, usize),
     Kept(usize),
 }
 
-// What a rule with this number says, before what the later rules say.
-fn before(number: u32, broken: Broken, later: Judged) -> Judged
-    ensures { λ r. ⌜ r ≡ unless number broken later ⌝ }
-{
-    match broken {
-        Broken::Nowhere => later,
-        Broken::At(i) => Judged::Broken(number, i),
-    }
-}
-
-// The first of the rules 5 to 10 that is broken, where h functions are there.
-fn choose(
-    deep: Broken,
-    misnamed: Broken,
-    miscalled: Broken,
-    mainless: Broken,
-    unended: Broken,
-    many: Broken,
-    h: usize,
-) -> Judged
-    ensures { λ r. ⌜ r ≡ chosen deep misnamed miscalled mainless unended many h ⌝ }
-{
-    let last = before(10, many, Judged::Kept(h));
-    let ends = before(9, unended, last);
-    let main = before(8, mainless, ends);
-    let calls = before(7, miscalled, main);
-    let names = before(6, misnamed, calls);
-    before(5, deep, names)
-}
-
-// What the rules say of n events with the h functions `heads`, where `misnamed` is what rule 6 says. `end` is the number of the end's token.
-fn rule_all(
+// The rules 7 to 9, on calls, main and the ends of bodies, of n events with the functions `heads`, h of them.
+fn judge_functions(
     text: &[u8],
+    kinds: &[u8],
     places: &[u32],
     values: &[u32],
     events: &[u32],
     n: usize,
-    end: usize,
     heads: &[u32],
     h: usize,
-    misnamed: Broken,
 ) -> Judged
-    requires { ⌜ (3 * n ≤ length (now events)) × (2 * h ≤ length (now heads)) ⌝ }
-    ensures { λ r. ⌜ Ruled (sameName (now (text .entry)) (now (places .entry)) (now (values .entry)))
-        (isMain (now (text .entry)) (now (places .entry)) (now (values .entry)))
-        end (stored (now (events .entry)) n) (storedHeads (now (heads .entry)) h) h misnamed r ⌝ }
+    requires { ⌜ (0 < length (now kinds)) × (eventWords * n ≤ length (now events)) × (headWords * h ≤ length (now heads))
+        × (storedHeads (now heads) h ≡ R.heads (stored (now events) n)) ⌝ }
+    ensures { λ r. ⌜ JudgesPart (functionRules (source (now (text .entry)) (now (kinds .entry)) (now (places .entry)) (now (values .entry))))
+        (stored (now (events .entry)) n) h r ⌝ }
 {
-    let deep = breaches::depth::too_deep(events, n);
-    let miscalled = breaches::calls::miscalls(text, places, values, events, n, heads, h);
-    let mainless = breaches::mains::main_rule(text, places, values, heads, h, end);
-    let unended = breaches::ends::open_ends(events, n);
-    let many = breaches::counts::too_many(events, n);
-    choose(deep, misnamed, miscalled, mainless, unended, many, h)
+    if let Broken::At(i) = breaches::calls::miscalls(text, places, values, events, n, heads, h) {
+        return Judged::Broken(7, i);
+    }
+    if let Broken::At(i) = breaches::mains::main_rule(
+        text,
+        places,
+        values,
+        heads,
+        h,
+        kinds.len() - 1,
+    ) {
+        return Judged::Broken(8, i);
+    }
+    if let Broken::At(i) = breaches::ends::open_ends(events, n) {
+        return Judged::Broken(9, i);
+    }
+    Judged::Kept(h)
+}
+
+// The rules 5 to 9 of n events, in the order of checking. The functions are left in `heads`, and what each name means in `slots`.
+fn judge_first(
+    text: &[u8],
+    kinds: &[u8],
+    places: &[u32],
+    values: &[u32],
+    events: &[u32],
+    n: usize,
+    heads: &mut [u32],
+    scope: &mut [u32],
+    slots: &mut [u32],
+) -> Judged
+    requires { ⌜ Judgeable (now kinds) (now events) n (now heads) (now scope) ⌝ }
+    ensures { λ r. ⌜ Judges (source (now (text .entry)) (now (kinds .entry)) (now (places .entry)) (now (values .entry)))
+        (firstRules (source (now (text .entry)) (now (kinds .entry)) (now (places .entry)) (now (values .entry))))
+        (stored (now (events .entry)) n) (now (slots .entry)) (now (slots .exit)) (now (heads .exit)) r ⌝ }
+{
+    if let Broken::At(i) = breaches::depth::too_deep(events, n) {
+        return Judged::Broken(5, i);
+    }
+    let h = text_rules::heads::collect_heads(events, n, heads);
+    if let Broken::At(i) = names::resolve(text, places, values, events, n, heads, h, scope, slots) {
+        return Judged::Broken(6, i);
+    }
+    judge_functions(text, kinds, places, values, events, n, heads, h)
+}
+
+// The rules after 9, of n events of a text with h functions that keeps the rules 5 to 9.
+fn judge_last(events: &[u32], n: usize, h: usize) -> Judged
+    requires { ⌜ eventWords * n ≤ length (now events) ⌝ }
+    ensures { λ r. ⌜ ((s : Source) → JudgesPart (lastRules s) (stored (now (events .entry)) n) h r) ⌝ }
+{
+    if let Broken::At(i) = breaches::counts::too_many(events, n) {
+        return Judged::Broken(10, i);
+    }
+    Judged::Kept(h)
 }
 
 // What the rules say of n events.
 fn judge(
     text: &[u8],
+    kinds: &[u8],
     places: &[u32],
     values: &[u32],
     events: &[u32],
     n: usize,
-    end: usize,
     heads: &mut [u32],
     scope: &mut [u32],
     slots: &mut [u32],
 ) -> Judged
-    requires { ⌜ (3 * n ≤ length (now events)) × (2 * n ≤ length (now heads)) × (3 * n ≤ length (now scope)) × (n < 4294967296) ⌝ }
-    ensures { λ r. ⌜ Judges (sameName (now (text .entry)) (now (places .entry)) (now (values .entry)))
-        (isMain (now (text .entry)) (now (places .entry)) (now (values .entry)))
-        end (stored (now (events .entry)) n) (now (slots .entry)) (now (slots .exit)) (now (heads .exit)) r ⌝ }
+    requires { ⌜ Judgeable (now kinds) (now events) n (now heads) (now scope) ⌝ }
+    ensures { λ r. ⌜ Judges (source (now (text .entry)) (now (kinds .entry)) (now (places .entry)) (now (values .entry)))
+        (rulesOf (source (now (text .entry)) (now (kinds .entry)) (now (places .entry)) (now (values .entry))))
+        (stored (now (events .entry)) n) (now (slots .entry)) (now (slots .exit)) (now (heads .exit)) r ⌝ }
 {
-    let h = text_rules::heads::collect_heads(events, n, heads);
-    let misnamed = names::resolve(text, places, values, events, n, heads, h, scope, slots);
-    rule_all(text, places, values, events, n, end, heads, h, misnamed)
+    let first = judge_first(text, kinds, places, values, events, n, heads, scope, slots);
+    let Judged::Kept(h) = first else {
+        return first;
+    };
+    judge_last(events, n, h)
 }
 
 // What an analysis answers: a refusal's number and place, or the count of tokens, the root of the tree, the count of events and the count of functions.
@@ -132,27 +152,27 @@ fn conclude(places: &[u32], judged: Judged, tokens: usize, root: usize, events: 
     }
 }
 
-// The rules of a text of n tokens whose tree stands at node `root`.
+// The rules of a text whose tree stands at node `root`.
 fn inspect(
     text: &[u8],
+    kinds: &[u8],
     places: &[u32],
     values: &[u32],
     nodes: &[u32],
     root: usize,
-    n: usize,
-    items: &mut [u32],
+    events: &mut [u32],
     heads: &mut [u32],
     scope: &mut [u32],
     slots: &mut [u32],
 ) -> Analysed
-    requires { ⌜ Ready (now nodes) root (now items) × (length (now items) ≡ EVENTS)
-        × (HEADS ≤ length (now heads)) × (SCOPE ≤ length (now scope)) × (0 < n) ⌝ }
-    ensures { λ r. ⌜ Inspected (now (text .entry)) (now (places .entry)) (now (values .entry)) (now (nodes .entry))
-        (now (items .exit)) (now (heads .exit)) (now (slots .entry)) (now (slots .exit)) n root r ⌝ }
+    requires { ⌜ Ready (now nodes) root (now events) × (length (now events) ≡ EVENTS)
+        × (HEADS ≤ length (now heads)) × (SCOPE ≤ length (now scope)) × (0 < length (now kinds)) ⌝ }
+    ensures { λ r. ⌜ Inspected (source (now (text .entry)) (now (kinds .entry)) (now (places .entry)) (now (values .entry)))
+        (now (nodes .entry)) (now (events .exit)) (now (heads .exit)) (now (slots .entry)) (now (slots .exit)) root r ⌝ }
 {
-    let e = events::walk(nodes, root, items);
-    let judged = judge(text, places, values, items, e, n - 1, heads, scope, slots);
-    conclude(places, judged, n, root, e)
+    let e = events::walk(nodes, root, events);
+    let judged = judge(text, kinds, places, values, events, e, heads, scope, slots);
+    conclude(places, judged, kinds.len(), root, e)
 }
 
 // The tree of a text's tokens, and its rules.
@@ -162,27 +182,27 @@ fn settle(
     places: &[u32],
     values: &[u32],
     nodes: &mut [u32],
-    items: &mut [u32],
+    events: &mut [u32],
     heads: &mut [u32],
     scope: &mut [u32],
     slots: &mut [u32],
 ) -> Analysed
-    requires { ⌜ Lent (now kinds) (now nodes) (now items) (now heads) (now scope) ⌝ }
-    ensures { λ r. ⌜ Settles (now (text .entry)) (now (kinds .entry)) (now (places .entry)) (now (values .entry))
-        (now (nodes .exit)) (now (items .exit)) (now (heads .exit)) (now (slots .entry)) (now (slots .exit))
-        r (checkedTokens (now (text .entry)) (now (kinds .entry)) (now (places .entry)) (now (values .entry))) ⌝ }
+    requires { ⌜ Lent (now kinds) (now nodes) (now events) (now heads) (now scope) ⌝ }
+    ensures { λ r. ⌜ Settles (source (now (text .entry)) (now (kinds .entry)) (now (places .entry)) (now (values .entry)))
+        (now (nodes .exit)) (now (events .exit)) (now (heads .exit)) (now (slots .entry)) (now (slots .exit))
+        r (checkedTokens (source (now (text .entry)) (now (kinds .entry)) (now (places .entry)) (now (values .entry)))) ⌝ }
 {
     match grammar::parse(kinds, nodes) {
         Parsed::Bad(m) => Analysed::Refused(4, word(places, m)),
         Parsed::Tree { root, count: _ } => {
             inspect(
                 text,
+                kinds,
                 places,
                 values,
                 nodes,
                 root,
-                kinds.len(),
-                items,
+                events,
                 heads,
                 scope,
                 slots,
@@ -198,14 +218,14 @@ pub fn analyse(
     places: &mut [u32],
     values: &mut [u32],
     nodes: &mut [u32],
-    items: &mut [u32],
+    events: &mut [u32],
     heads: &mut [u32],
     scope: &mut [u32],
     slots: &mut [u32],
 ) -> Analysed
-    requires { ⌜ Slices (now kinds) (now places) (now values) (now nodes) (now items) (now heads) (now scope) ⌝ }
+    requires { ⌜ Slices (now kinds) (now places) (now values) (now nodes) (now events) (now heads) (now scope) ⌝ }
     ensures { λ r. ⌜ Analyses (now (text .entry)) (now (kinds .exit)) (now (places .exit)) (now (values .exit))
-        (now (nodes .exit)) (now (items .exit)) (now (heads .exit)) (now (slots .entry)) (now (slots .exit))
+        (now (nodes .exit)) (now (events .exit)) (now (heads .exit)) (now (slots .entry)) (now (slots .exit))
         r (checked (now (text .entry))) ⌝ }
 {
     match lexer::lex(text, kinds, places, values) {
@@ -217,7 +237,7 @@ pub fn analyse(
                 &places[..n],
                 &values[..n],
                 nodes,
-                items,
+                events,
                 heads,
                 scope,
                 slots,
@@ -234,7 +254,7 @@ pub fn check(text: &[u8]) -> Checked
     let mut places = [0u32; sizes::TOKENS];
     let mut values = [0u32; sizes::TOKENS];
     let mut nodes = [0u32; sizes::NODES];
-    let mut items = [0u32; sizes::EVENTS];
+    let mut events = [0u32; sizes::EVENTS];
     let mut heads = [0u32; sizes::HEADS];
     let mut scope = [0u32; sizes::SCOPE];
     let mut slots = [0u32; sizes::TOKENS];
@@ -244,7 +264,7 @@ pub fn check(text: &[u8]) -> Checked
         &mut places,
         &mut values,
         &mut nodes,
-        &mut items,
+        &mut events,
         &mut heads,
         &mut scope,
         &mut slots,

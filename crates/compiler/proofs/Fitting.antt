@@ -1,19 +1,19 @@
 -- What the compiler asks of an accepted text, from the rules that the text keeps: the tree is sound, it has at most 16 functions, and its code has room where the text's tokens have.
 use Prim.Native.Nat.{ℕ, suc, _+_, _*_, _≤_, _<_}
-use mathlib.Core.Path.{_≡_, refl, sym, subst}
+use mathlib.Core.Path.{_≡_, refl, sym, ap, subst}
 use mathlib.Core.Bool.{Bool, not}
 use mathlib.Core.List.{List, [], _∷_, _++_}
-use native.Mathlib.Nat.{zero-add}
 use native.Mathlib.Omega.{arith}
-use lib.ListN.{length}
+use lib.ListN.{length, length-map}
 use Rattle.syntax.specs.Tree.{Tree, width, numbered}
 use Rattle.syntax.specs.Tree as T
 use Rattle.syntax.specs.Ast.{Sort, Ast, prog}
 use Rattle.syntax.specs.Ast as A
 use Rattle.syntax.specs.Abstract.{ast}
 use Rattle.syntax.specs.Table.{nodeWords, Holds}
-use Rattle.events.specs.Event.{Event, function, parameter, thing, opens, closes, declares, uses, calls, ends, stops, closing, first, eventsAt, events}
+use Rattle.events.specs.Event.{Event, function, thing, opens, closes, ends, stops, closing, first, eventsAt, events}
 use Rattle.events.specs.Walk.{Below}
+use Rattle.events.proofs.Rising.{text-rises}
 use Rattle.events.proofs.Tokens.{numbered-below}
 use Rattle.text_rules.specs.Rules.{heads, miscalls, mainless, tooMany}
 use Rattle.text_rules.specs.Names.{badNames, meant, meanings}
@@ -26,17 +26,17 @@ use Rattle.compiler.specs.Coded.{word, program}
 use Rattle.compiler.specs.Sound.{Sound}
 use Rattle.compiler.specs.Compile.{Tokens, Ready, Compiled}
 use Rattle.compiler.proofs.Agreeing.{sound-same, part-same}
-use Rattle.compiler.proofs.Parts.{funs, funs-length}
 use Rattle.compiler.proofs.Lengths.{code-short}
 use Rattle.compiler.proofs.Meanings.{AllGood, good}
 use Rattle.compiler.proofs.Placing.{fits-program, placed-code}
 use Rattle.text_rules.proofs.Counts.{few-functions, main-lt}
+use Rattle.text_rules.proofs.Programs.{functions, headOf, heads-are, bodies-are}
 
 -- ---- good events
 
-module _ (same : ℕ → ℕ → Bool) (means : ℕ → ℕ) where
+module _ (means : ℕ → ℕ) where
   abbrev All : List Event → Type 0
-  All es = AllGood same means es
+  All es = AllGood means es
 
   front : (xs ys : List Event) → All (xs ++ ys) → All xs
   front [] ys h = tt
@@ -99,85 +99,11 @@ module _ (same : ℕ → ℕ → Bool) (means : ℕ → ℕ) where
     sound d A.noFuns w h = tt
     sound d (A.moreFuns l f) w h = (sound d l (w .0) (front (eventsAt d l) (eventsAt d f) h), sound d f (w .1) (back (eventsAt d l) (eventsAt d f) h))
 
--- ---- the functions of a tree are those of its events
-
-heads-append : (xs ys : List Event) → length (heads (xs ++ ys)) ≡ length (heads xs) + length (heads ys)
-unfolding heads
-heads-append [] ys = sym (zero-add (length (heads ys)))
-heads-append (function i ∷ xs) ys = omega (arith, heads-append xs ys)
-heads-append (parameter i ∷ xs) ys = heads-append xs ys
-heads-append (thing d i ∷ xs) ys = heads-append xs ys
-heads-append (opens ∷ xs) ys = heads-append xs ys
-heads-append (closes ∷ xs) ys = heads-append xs ys
-heads-append (declares i ∷ xs) ys = heads-append xs ys
-heads-append (uses i ∷ xs) ys = heads-append xs ys
-heads-append (calls i n ∷ xs) ys = heads-append xs ys
-heads-append (ends i b ∷ xs) ys = heads-append xs ys
-
-abbrev Many : (s : Sort) → Ast s → ℕ
-Many A.expr t = 0
-Many A.args t = 0
-Many A.mark t = 0
-Many A.cond t = 0
-Many A.stmt t = 0
-Many A.stmts t = 0
-Many A.body t = 0
-Many A.params t = 0
-Many A.fun t = 1
-Many A.prog t = funs t
-
-two : (d : ℕ) {s₁ s₂ : Sort} (x : Ast s₁) (y : Ast s₂) {a b : ℕ} → length (heads (eventsAt d x)) ≡ a → length (heads (eventsAt d y)) ≡ b → length (heads (eventsAt d x ++ eventsAt d y)) ≡ a + b
-two d x y e f = omega (arith, heads-append (eventsAt d x) (eventsAt d y))
-
-pub heads-many : {s : Sort} (d : ℕ) (t : Ast s) → length (heads (eventsAt d t)) ≡ Many s t
-unfolding eventsAt heads funs
-heads-many d (A.number i) = refl
-heads-many d (A.negative i) = refl
-heads-many d (A.name i) = refl
-heads-many d (A.call i a) = heads-many (suc d) a
-heads-many d (A.bracket i e) = heads-many (suc d) e
-heads-many d (A.times a b) = two d a b (heads-many d a) (heads-many d b)
-heads-many d (A.plus a b) = two d a b (heads-many d a) (heads-many d b)
-heads-many d (A.minus a b) = two d a b (heads-many d a) (heads-many d b)
-heads-many d A.noArgs = refl
-heads-many d (A.moreArgs l e) = omega (arith, heads-append (eventsAt d l) (thing d (first e) ∷ eventsAt d e), heads-many d l, heads-many d e)
-heads-many d (A.cmpMark o) = refl
-heads-many d A.always = refl
-heads-many d A.never = refl
-heads-many d (A.compare a o b) = two d a b (heads-many d a) (heads-many d b)
-heads-many d (A.both a b) = two d a b (heads-many d a) (heads-many d b)
-heads-many d (A.either a b) = two d a b (heads-many d a) (heads-many d b)
-heads-many d (A.empty i) = refl
-heads-many d (A.declare i) = refl
-heads-many d (A.declareFree i) = refl
-heads-many d (A.assign i e) = heads-many d e
-heads-many d (A.eval e) = heads-many d e
-heads-many d (A.block i b) = heads-many (suc d) b
-heads-many d (A.ifElse i c s t) =
-    let xs = thing d i ∷ eventsAt d c in
-    let ys = opens ∷ eventsAt (suc d) s in
-    let zs = closes ∷ opens ∷ eventsAt (suc d) t in
-    omega (arith, heads-append ((xs ++ ys) ++ zs) (closes ∷ []), heads-append (xs ++ ys) zs, heads-append xs ys, heads-many d c, heads-many (suc d) s, heads-many (suc d) t)
-heads-many d (A.while i c s) =
-    let xs = thing d i ∷ eventsAt d c in
-    let ys = opens ∷ eventsAt (suc d) s in
-    omega (arith, heads-append (xs ++ ys) (closes ∷ []), heads-append xs ys, heads-many d c, heads-many (suc d) s)
-heads-many d (A.return i e) = heads-many d e
-heads-many d (A.fail i) = refl
-heads-many d A.noStmts = refl
-heads-many d (A.moreStmts l s) = two d l s (heads-many d l) (heads-many d s)
-heads-many d (A.braced l j) = omega (arith, heads-append (opens ∷ eventsAt d l) (closes ∷ []), heads-many d l)
-heads-many d A.noParams = refl
-heads-many d (A.moreParams l i) = omega (arith, heads-append (eventsAt d l) (parameter i ∷ []), heads-many d l)
-heads-many d (A.function i p b) =
-    let xs = function i ∷ eventsAt d p in
-    omega (arith, heads-append (xs ++ eventsAt d b) (ends (closing b) (not (stops b)) ∷ []), heads-append xs (eventsAt d b), heads-many d p, heads-many d b)
-heads-many d A.noFuns = refl
-heads-many d (A.moreFuns l f) = omega (arith, heads-append (eventsAt d l) (eventsAt d f), heads-many d l, heads-many d f)
+-- ---- a body for each function
 
 pub functions-few : (value means : ℕ → ℕ) (p : Ast prog) → tooMany (events p) ≡ [] → length (part value means p []) ≤ 16
-unfolding events
-functions-few value means p ten = omega (arith, funs-length value means p, heads-many 1 p, few-functions (eventsAt 1 p) ten)
+functions-few value means p ten =
+    omega (arith, ap length (bodies-are value means p), length-map (functions p) (part value means), ap length (heads-are p), length-map (functions p) headOf, few-functions (events p) ten)
 
 -- ---- an accepted text
 
@@ -198,9 +124,9 @@ module _ (same : ℕ → ℕ → Bool) (t : Tree T.prog) (f : ℕ → ℕ) where
   pub accepted-below : (m : ℕ) → t ≡ numbered 0 t → width t ≤ m → Below m tree
   accepted-below m e h = subst (λ (u : Tree T.prog). Below m (ast u)) (sym e) (numbered-below 0 m t (omega arith))
 
-  pub accepted-sound : (m : ℕ) → Below m tree → (value : ℕ → ℕ) → ((i : ℕ) → i < m → value i < 2147483648) → Keeps → Sound m value meaningOf tree
+  accepted-sound : (m : ℕ) → t ≡ numbered 0 t → Below m tree → (value : ℕ → ℕ) → ((i : ℕ) → i < m → value i < 2147483648) → Keeps → Sound m value meaningOf tree
   unfolding events
-  accepted-sound m h value small k = sound same meaningOf m value small 1 tree h (good same f (eventsAt 1 tree) (k .six) (k .seven) (k .ten))
+  accepted-sound m e h value small k = sound meaningOf m value small 1 tree h (good same f (text-rises t e) (k .six) (k .seven) (k .ten))
 
   -- the tree stands at node i, the slices hold the values and the meanings of the text's m tokens, and there is room for two words a token
   pub record Given (l : List ℕ) (i : ℕ) (values slots : List ℕ) (g : ℕ) (code : List ℕ) (m : ℕ) : Type 0 where
@@ -221,7 +147,7 @@ module _ (same : ℕ → ℕ → Bool) (t : Tree T.prog) (f : ℕ → ℕ) where
     within = accepted-below m (given .numbers) (given .wide)
 
     stands : Sound m (word values) (word slots) tree
-    stands = sound-same m (word values) meaningOf (word values) (word slots) (record { at = λ j h. refl }) (record { at = λ j h. sym (given .agree j h) }) tree (accepted-sound m within (word values) (given .small) k)
+    stands = sound-same m (word values) meaningOf (word values) (word slots) (record { at = λ j h. refl }) (record { at = λ j h. sym (given .agree j h) }) tree (accepted-sound m (given .numbers) within (word values) (given .small) k)
 
     size : length (codeOf (program values slots g tree) .entries) ≤ 3 + width t
     size = code-short (word values) (word slots) t g

@@ -7,4 +7,5 @@ pub mod Steps
 pub mod Widths
 pub mod Capacity
 pub mod Tokens
+pub mod Rising
 pub mod Enough

@@ -14,7 +14,7 @@ use Rattle.lexer.specs.Parts.{stored}
 use Rattle.lexer.proofs.Theorems.{stored-kinds, stored-places, stored-length}
 use Rattle.grammar.specs.Text as G
 use Rattle.grammar.proofs.Grammar.{kept}
-use Rattle.events.specs.Event.{events}
+use Rattle.events.specs.Event as E
 use Rattle.events.proofs.Widths.{onto-length}
 use Rattle.text_rules.specs.Spelling.{sameName, isMain}
 use Rattle.text_rules.specs.Rules as R
@@ -23,12 +23,12 @@ use Rattle.text_rules.specs.Resolve.{mainOf, resolved}
 use Rattle.text_rules.specs.Answers.{storedHeads}
 use Rattle.text_rules.proofs.Functions.{length-heads}
 use Rattle.names.proofs.Meanings.{meant-at}
-use Rattle.checker.specs.Check.{Verdict, kinds, programOf}
+use Rattle.checker.specs.Check.{Verdict, kinds, source, rulesOf, programOf}
 use Rattle.checker.specs.Analysis.{Known, Analyses}
 use Rattle.checker.specs.Analysis as N
 use Rattle.checker.specs.declared.Analysed.the-variants as A
 use Rattle.checker.proofs.Analysing.{Into, few-tokens, token-list, stored-values}
-use Rattle.checker.proofs.Exactly.{Unbroken, unbroken}
+use Rattle.checker.proofs.Table.{brokenBy, unbroken}
 use Rattle.semantics.specs.Program.{Program}
 use Rattle.simulation.specs.Code.{codeOf}
 use Rattle.simulation.specs.Words.{codeIn, wordsIn}
@@ -71,25 +71,31 @@ module _ {text ps vs nodes : List ℕ} {root : ℕ} {heads : List ℕ} {h : ℕ}
   most : length vs ≤ 2049
   most = omega (arith, u .few, ap length (u .valued), length-map (u .tokens) (λ t. t .value))
 
-  unbroken-so : Unbroken same (isMain text ps vs) (length (kinds (u .tokens)) - 1) (events (ast tree))
-  unbroken-so = unbroken same (isMain text ps vs) (length (kinds (u .tokens)) - 1) (events (ast tree)) (u .known .unbroken)
+  -- the text keeps the rules 6, 7, 8 and 10
+  rules : (r : ℕ) → brokenBy r (rulesOf (source text (kinds (u .tokens)) ps vs) (ast tree)) ≡ []
+  rules = unbroken _ (u .known .unbroken)
 
   keeps-so : Keeps same tree (λ i. 0)
-  keeps-so = record { six = unbroken-so .names; seven = unbroken-so .calls; ten = unbroken-so .counts }
+  unfolding rulesOf
+  keeps-so = record { six = rules 6; seven = rules 7; ten = rules 10 }
 
-  means-so : (j : ℕ) → j < length vs → getD slots j 0 ≡ meant (λ i. 0) (meanings same (events (ast tree))) j
+  main-kept : R.mainless (isMain text ps vs) (length (kinds (u .tokens)) - 1) (E.events (ast tree)) ≡ []
+  unfolding rulesOf
+  main-kept = rules 8
+
+  means-so : (j : ℕ) → j < length vs → getD slots j 0 ≡ meant (λ i. 0) (meanings same (E.events (ast tree))) j
   means-so j l =
       u .known .kept .means j (omega (arith, l, most, length-replicate {A = ℕ} 2049 0))
-      ∙ meant-at (λ i. getD {A = ℕ} (replicate 2049 0) i 0) (λ i. 0) (meanings same (events (ast tree))) j (no-meaning j)
+      ∙ meant-at (λ i. getD {A = ℕ} (replicate 2049 0) i 0) (λ i. 0) (meanings same (E.events (ast tree))) j (no-meaning j)
 
   small-so : (j : ℕ) → getD vs j 0 < 2147483648
   small-so j = subst (λ (l : List ℕ). getD l j 0 < 2147483648) (u .valued) (small-values text (u .tokens) (u .lexes) j)
 
   pub few-heads : 2 * h ≤ length heads
-  few-heads = omega (arith, sym (length-heads heads 0 h) ∙ ap length (u .known .kept .functions), few-functions (events (ast tree)) (unbroken-so .counts), u .functions)
+  few-heads = omega (arith, sym (length-heads heads 0 h) ∙ ap length (u .known .kept .functions), few-functions (E.events (ast tree)) (keeps-so .ten), u .functions)
 
   module _ (g : ℕ) (code : List ℕ) (main : g ≡ mainOf (isMain text ps vs) (storedHeads heads h)) (size : length code ≡ 4120) where
-    main-so : g ≡ mainOf (isMain text ps vs) (R.heads (events (ast tree)))
+    main-so : g ≡ mainOf (isMain text ps vs) (R.heads (E.events (ast tree)))
     main-so = main ∙ ap (mainOf (isMain text ps vs)) (u .known .kept .functions)
 
     given-so : Given same tree (λ i. 0) nodes root vs slots g code (length vs)
@@ -102,7 +108,7 @@ module _ {text ps vs nodes : List ℕ} {root : ℕ} {heads : List ℕ} {h : ℕ}
       wide = omega (arith, many);
       small = λ j l. small-so j;
       agree = means-so;
-      main = omega (arith, main-so, accepted-main same tree (λ i. 0) (isMain text ps vs) (length (kinds (u .tokens)) - 1) (unbroken-so .main) keeps-so);
+      main = omega (arith, main-so, accepted-main same tree (λ i. 0) (isMain text ps vs) (length (kinds (u .tokens)) - 1) main-kept keeps-so);
       less = omega (arith, many, most);
       space = omega (arith, many, most, size);
     }
@@ -110,7 +116,7 @@ module _ {text ps vs nodes : List ℕ} {root : ℕ} {heads : List ℕ} {h : ℕ}
     pub ready-so : Ready nodes root vs slots g code
     ready-so = accepted-ready same tree (λ i. 0) given-so keeps-so
 
-    program-is : program text ≡ resolved (λ i. getD vs i 0) (λ i. meant (λ j. 0) (meanings same (events (ast tree))) i) (isMain text ps vs) (R.heads (events (ast tree))) (ast tree)
+    program-is : program text ≡ resolved (λ i. getD vs i 0) (λ i. meant (λ j. 0) (meanings same (E.events (ast tree))) i) (isMain text ps vs) (R.heads (E.events (ast tree))) (ast tree)
     unfolding program programOf
     program-is = rw (u .lexes, program) (rw (u .known .parses, program) (rw (u .placed, u .valued)))
 
@@ -123,17 +129,18 @@ module _ {text ps vs nodes : List ℕ} {root : ℕ} {heads : List ℕ} {h : ℕ}
 
 -- ---- from the analysis
 
-pub refused-so : {text ks ps vs nodes items heads before slots code : List ℕ} {c p : ℕ} {v : Verdict} → Analyses text ks ps vs nodes items heads before slots (A.Refused c p) v → Translates text code (Refused c p) v
+pub refused-so : {text ks ps vs nodes events heads before slots code : List ℕ} {c p : ℕ} {v : Verdict} → Analyses text ks ps vs nodes events heads before slots (A.Refused c p) v
+    → Translates text code (Refused c p) v
 refused-so N.rejects = refuses
 
-module _ {text ks ps vs nodes items heads slots : List ℕ} {n root e h : ℕ} where
-  pub translated : {before code : List ℕ} {v : Verdict} {r : ℕ} → Analyses text ks ps vs nodes items heads before slots (A.Fine n root e h) v → Codes text code r → Translates text code (Entries r) v
+module _ {text ks ps vs nodes events heads slots : List ℕ} {n root e h : ℕ} where
+  pub translated : {before code : List ℕ} {v : Verdict} {r : ℕ} → Analyses text ks ps vs nodes events heads before slots (A.Fine n root e h) v → Codes text code r → Translates text code (Entries r) v
   translated (N.has i k) c = has c
 
-  pub tokens-few : {before : List ℕ} {v : Verdict} → Analyses text ks ps vs nodes items heads before slots (A.Fine n root e h) v → n ≤ 2049
+  pub tokens-few : {before : List ℕ} {v : Verdict} → Analyses text ks ps vs nodes events heads before slots (A.Fine n root e h) v → n ≤ 2049
   tokens-few (N.has i k) = few-tokens (record { is = i })
 
-  pub understood : {before : List ℕ} {v : Verdict} → Analyses text ks ps vs nodes items heads before slots (A.Fine n root e h) v → before ≡ replicate 2049 0
+  pub understood : {before : List ℕ} {v : Verdict} → Analyses text ks ps vs nodes events heads before slots (A.Fine n root e h) v → before ≡ replicate 2049 0
       → length ks ≡ 2049 → length ps ≡ 2049 → length vs ≡ 2049 → 2049 ≤ length slots → 8192 ≤ length heads
       → Understood text (take n ps) (take n vs) nodes root heads h slots
   understood {before} (N.has i k) z a b c d f =
@@ -147,10 +154,10 @@ module _ {text ks ps vs nodes items heads slots : List ℕ} {n root e h : ℕ} w
         valued = stored-values n ks ps vs (omega (arith, w, c));
         ended = subst G.Tokens (sym q) (token-list x (omega (arith, w, a)));
         few = omega (arith, w, stored-length n ks ps vs);
-        items = items;
-        events = e;
+        events = events;
+        count = e;
         named = d;
         functions = f;
-        known = subst (λ (l : List ℕ). Known text (kinds (stored n ks ps vs)) (take n ps) (take n vs) nodes items heads l slots root e h) z
-            (subst (λ (l : List ℕ). Known text l (take n ps) (take n vs) nodes items heads before slots root e h) (sym q) k);
+        known = subst (λ (l : List ℕ). Known (source text (kinds (stored n ks ps vs)) (take n ps) (take n vs)) nodes events heads l slots root e h) z
+            (subst (λ (l : List ℕ). Known (source text l (take n ps) (take n vs)) nodes events heads before slots root e h) (sym q) k);
       }

@@ -7,7 +7,7 @@ use lib.IntN.{ℤ}
 use Rattle.lexer.specs.Lex as L
 use Rattle.lexer.specs.Lex.{Token, lexed}
 use Rattle.grammar.specs.Text.{Tokens}
-use Rattle.checker.specs.Check.{Verdict, accepted, refused, kinds, places, values}
+use Rattle.checker.specs.Check.{Verdict, accepted, refused, kinds, places, values, source}
 use Rattle.checker.specs.Sizes.{TOKENS, HEADS}
 use Rattle.checker.specs.Analysis.{Known}
 use Rattle.simulation.specs.Words.{codeIn}
@@ -26,11 +26,11 @@ pub record Understood (text ps vs nodes : List ℕ) (root : ℕ) (heads : List �
   pub valued : values tokens ≡ vs
   pub ended : Tokens (kinds tokens)
   pub few : length tokens ≤ TOKENS
-  pub items : List ℕ
-  pub events : ℕ
+  pub events : List ℕ
+  pub count : ℕ
   pub named : TOKENS ≤ length slots
   pub functions : HEADS ≤ length heads
-  pub known : Known text (kinds tokens) ps vs nodes items heads (replicate TOKENS 0) slots root events h
+  pub known : Known (source text (kinds tokens) ps vs) nodes events heads (replicate TOKENS 0) slots root count h
 
 -- n entries in these words are the code of the text's program
 pub record Codes (text code : List ℕ) (n : ℕ) : Type 0 where

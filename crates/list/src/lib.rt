@@ -115,13 +115,13 @@ fn translate(
     places: &mut [u32],
     values: &mut [u32],
     nodes: &mut [u32],
-    items: &mut [u32],
+    events: &mut [u32],
     heads: &mut [u32],
     scope: &mut [u32],
     slots: &mut [u32],
     code: &mut [u32],
 ) -> Coded
-    requires { ⌜ Slices (now kinds) (now places) (now values) (now nodes) (now items) (now heads) (now scope) × (now slots ≡ replicate 2049 0) × (length (now code) ≡ 4120) ⌝ }
+    requires { ⌜ Slices (now kinds) (now places) (now values) (now nodes) (now events) (now heads) (now scope) × (now slots ≡ replicate 2049 0) × (length (now code) ≡ 4120) ⌝ }
     ensures { λ r. ⌜ Translates (now (text .entry)) (now (code .exit)) r (checked (now (text .entry))) ⌝ }
 {
     let analysed = checker::analyse(
@@ -130,7 +130,7 @@ fn translate(
         places,
         values,
         nodes,
-        items,
+        events,
         heads,
         scope,
         slots,
@@ -168,7 +168,7 @@ fn code_of(text: &[u8], code: &mut [u32]) -> Coded
     let mut places = [0u32; sizes::TOKENS];
     let mut values = [0u32; sizes::TOKENS];
     let mut nodes = [0u32; sizes::NODES];
-    let mut items = [0u32; sizes::EVENTS];
+    let mut events = [0u32; sizes::EVENTS];
     let mut heads = [0u32; sizes::HEADS];
     let mut scope = [0u32; sizes::SCOPE];
     let mut slots = [0u32; sizes::TOKENS];
@@ -178,7 +178,7 @@ fn code_of(text: &[u8], code: &mut [u32]) -> Coded
         &mut places,
         &mut values,
         &mut nodes,
-        &mut items,
+        &mut events,
         &mut heads,
         &mut scope,
         &mut slots,

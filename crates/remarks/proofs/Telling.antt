@@ -9,11 +9,11 @@ use Rattle.syntax.specs.Abstract.{ast}
 use Rattle.lexer.specs.Parts.{stored}
 use Rattle.lexer.proofs.Theorems.{stored-kinds, stored-places}
 use Rattle.grammar.specs.Parse.{parsed}
-use Rattle.events.specs.Event.{events}
+use Rattle.events.specs.Event as E
 use Rattle.text_rules.specs.Spelling.{sameName, isMain}
 use Rattle.text_rules.specs.Rules as R
 use Rattle.text_rules.specs.Resolve.{mainOf}
-use Rattle.checker.specs.Check.{Verdict, accepted, checked, values}
+use Rattle.checker.specs.Check.{Verdict, accepted, values, source, checked}
 use Rattle.checker.specs.Sizes.{TOKENS, EVENTS, HEADS}
 use Rattle.checker.specs.Analysis.{Known, Analyses}
 use Rattle.checker.specs.Analysis as N
@@ -35,27 +35,27 @@ other-offset {B} {off} {off′} {before} {after} {k} f r = record { all = λ g b
     two : (j : ℕ) → (g : ℕ) × B g × (getD after j 0 ≡ off g) → (g : ℕ) × B g × (getD after j 0 ≡ off′ g)
     two j w = (w .0, w .1, w .2 ∙ f (w .0) (w .1))
 
-module _ {text ks ps vs nodes items heads before slots : List ℕ} {n root e h : ℕ} (x : Into text ks ps vs n) (inks : n ≤ length ks) (inps : n ≤ length ps) (invs : n ≤ length vs)
-    (k : Known text (take n ks) (take n ps) (take n vs) nodes items heads before slots root e h) where
+module _ {text ks ps vs nodes events heads before slots : List ℕ} {n root e h : ℕ} (x : Into text ks ps vs n) (inks : n ≤ length ks) (inps : n ≤ length ps) (invs : n ≤ length vs)
+    (k : Known (source text (take n ks) (take n ps) (take n vs)) nodes events heads before slots root e h) where
   -- what is written, with these places and values of the tokens
   abbrev Noted : (ps vs b a : List ℕ) (c : ℕ) → Type 0
   Noted qs ws b a c =
       Remarked
-      (Unreached (callsOf (sameName text qs ws) (events (ast (k .tree)))) (length (R.heads (events (ast (k .tree))))) (mainOf (isMain text qs ws) (R.heads (events (ast (k .tree))))))
-      (nameOffset qs (R.heads (events (ast (k .tree)))))
+      (Unreached (callsOf (sameName text qs ws) (E.events (ast (k .tree)))) (length (R.heads (E.events (ast (k .tree))))) (mainOf (isMain text qs ws) (R.heads (E.events (ast (k .tree))))))
+      (nameOffset qs (R.heads (E.events (ast (k .tree)))))
       b
       a
       c
 
-  told-so : {b a : List ℕ} {c : ℕ} → Lists text (take n ps) (take n vs) items e heads h b a c → Noted (take n ps) (take n vs) b a c
+  told-so : {b a : List ℕ} {c : ℕ} → Lists text (take n ps) (take n vs) events e heads h b a c → Noted (take n ps) (take n vs) b a c
   told-so {b} {a} {c} l =
-      let cs = callsOf (sameName text (take n ps) (take n vs)) (events (ast (k .tree))) in
-      let m = mainOf (isMain text (take n ps) (take n vs)) (R.heads (events (ast (k .tree)))) in
+      let cs = callsOf (sameName text (take n ps) (take n vs)) (E.events (ast (k .tree))) in
+      let m = mainOf (isMain text (take n ps) (take n vs)) (R.heads (E.events (ast (k .tree)))) in
       let l′ : Remarked (Unreached cs h m) (offsetIn (take n ps) heads) b a c = rw (k .kept .functions, k .kept .listed) at l in
-      subst (λ (i : ℕ). Remarked (Unreached cs i m) (nameOffset (take n ps) (R.heads (events (ast (k .tree))))) b a c) (as-many-functions x inks k)
+      subst (λ (i : ℕ). Remarked (Unreached cs i m) (nameOffset (take n ps) (R.heads (E.events (ast (k .tree))))) b a c) (as-many-functions x inks k)
       (other-offset (λ g u. ap (λ (i : ℕ). getD (take n ps) i 0) (name-is x inks k g (u .function))) l′)
 
-  pub told : {b a : List ℕ} {c : ℕ} → Lists text (take n ps) (take n vs) items e heads h b a c → Answers text b a (Count c) accepted
+  pub told : {b a : List ℕ} {c : ℕ} → Lists text (take n ps) (take n vs) events e heads h b a c → Answers text b a (Count c) accepted
   told {b} {a} {c} l =
       counts {n = c} {m = k .after} {ts = stored n ks ps vs} {t = k .tree} (x .is) (ap parsed (stored-kinds n ks ps vs inks) ∙ k .parses)
       (subst (λ (qs : List ℕ). Noted qs (values (stored n ks ps vs)) b a c) (sym (stored-places n ks ps vs inps))
@@ -63,19 +63,20 @@ module _ {text ks ps vs nodes items heads before slots : List ℕ} {n root e h :
 
 -- ---- from the analysis
 
-module _ {text ks ps vs nodes items heads before slots : List ℕ} where
-  pub refused-so : {c p : ℕ} {v : Verdict} {b a : List ℕ} → a ≡ b → Analyses text ks ps vs nodes items heads before slots (A.Refused c p) v → Answers text b a (Refused c p) v
+module _ {text ks ps vs nodes events heads before slots : List ℕ} where
+  pub refused-so : {c p : ℕ} {v : Verdict} {b a : List ℕ} → a ≡ b → Analyses text ks ps vs nodes events heads before slots (A.Refused c p) v → Answers text b a (Refused c p) v
   refused-so e N.rejects = refuses e
 
   module _ {n root e h : ℕ} where
-    pub tokens-few : {v : Verdict} → Analyses text ks ps vs nodes items heads before slots (A.Fine n root e h) v → n ≤ TOKENS
+    pub tokens-few : {v : Verdict} → Analyses text ks ps vs nodes events heads before slots (A.Fine n root e h) v → n ≤ TOKENS
     tokens-few (N.has i k) = few-tokens (record { is = i })
 
-    pub fair-so : {v : Verdict} → Analyses text ks ps vs nodes items heads before slots (A.Fine n root e h) v → length ks ≡ TOKENS → length items ≡ EVENTS → HEADS ≤ length heads → Fair text (take n ps) (take n vs) items e heads h
+    pub fair-so : {v : Verdict} → Analyses text ks ps vs nodes events heads before slots (A.Fine n root e h) v → length ks ≡ TOKENS → length events ≡ EVENTS → HEADS ≤ length heads
+        → Fair text (take n ps) (take n vs) events e heads h
     fair-so (N.has i k) p q r = let x : Into text ks ps vs n = record { is = i } in fair x (omega (arith, p, few-tokens x)) k (omega (arith, q)) r
 
-    pub counted-so : {v : Verdict} {b a : List ℕ} {c : ℕ} → Analyses text ks ps vs nodes items heads before slots (A.Fine n root e h) v → length ks ≡ TOKENS → length ps ≡ TOKENS → length vs ≡ TOKENS
-        → Lists text (take n ps) (take n vs) items e heads h b a c → Answers text b a (Count c) v
+    pub counted-so : {v : Verdict} {b a : List ℕ} {c : ℕ} → Analyses text ks ps vs nodes events heads before slots (A.Fine n root e h) v → length ks ≡ TOKENS → length ps ≡ TOKENS → length vs ≡ TOKENS
+        → Lists text (take n ps) (take n vs) events e heads h b a c → Answers text b a (Count c) v
     counted-so (N.has i k) p q r l =
         let x : Into text ks ps vs n = record { is = i } in
         let f = few-tokens x in

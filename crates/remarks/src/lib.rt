@@ -201,13 +201,13 @@ fn remark(
     places: &mut [u32],
     values: &mut [u32],
     nodes: &mut [u32],
-    items: &mut [u32],
+    events: &mut [u32],
     heads: &mut [u32],
     scope: &mut [u32],
     slots: &mut [u32],
     offsets: &mut [u16],
 ) -> Answer
-    requires { ⌜ Slices (now kinds) (now places) (now values) (now nodes) (now items) (now heads) (now scope) × (16 ≤ length (now offsets)) ⌝ }
+    requires { ⌜ Slices (now kinds) (now places) (now values) (now nodes) (now events) (now heads) (now scope) × (16 ≤ length (now offsets)) ⌝ }
     ensures { λ r. ⌜ Answers (now (text .entry)) (now (offsets .entry)) (now (offsets .exit)) r (checked (now (text .entry))) ⌝ }
 {
     let analysed = checker::analyse(
@@ -216,7 +216,7 @@ fn remark(
         places,
         values,
         nodes,
-        items,
+        events,
         heads,
         scope,
         slots,
@@ -226,15 +226,15 @@ fn remark(
         Analysed::Fine {
             tokens,
             root: _,
-            events,
+            events: n,
             functions,
         } => {
             let count = list(
                 text,
                 &places[..tokens],
                 &values[..tokens],
-                items,
                 events,
+                n,
                 heads,
                 functions,
                 offsets,
@@ -255,7 +255,7 @@ pub fn remarks(text: &[u8], offsets: &mut [u16]) -> Answer
     let mut places = [0u32; sizes::TOKENS];
     let mut values = [0u32; sizes::TOKENS];
     let mut nodes = [0u32; sizes::NODES];
-    let mut items = [0u32; sizes::EVENTS];
+    let mut events = [0u32; sizes::EVENTS];
     let mut heads = [0u32; sizes::HEADS];
     let mut scope = [0u32; sizes::SCOPE];
     let mut slots = [0u32; sizes::TOKENS];
@@ -265,7 +265,7 @@ pub fn remarks(text: &[u8], offsets: &mut [u16]) -> Answer
         &mut places,
         &mut values,
         &mut nodes,
-        &mut items,
+        &mut events,
         &mut heads,
         &mut scope,
         &mut slots,

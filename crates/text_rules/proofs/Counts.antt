@@ -1,15 +1,15 @@
--- A text that keeps rule 10 has at most 16 functions, with at most 4 parameters each; and with rule 8, main is one of them.
+-- A text that keeps rule 10 has at most 16 functions, with at most 4 parameters each; and with rule 8, main is one of them, with none.
 use Prim.Native.Nat.{ℕ, suc, _+_, _≤_, _<_}
 use mathlib.Core.Path.{_≡_, refl}
 use mathlib.Core.Bool.{Bool, true, false, cond, _||_}
-use mathlib.Core.List.{List, [], _∷_, _++_}
+use mathlib.Core.List.{List, [], _∷_, _++_, map}
 use native.Mathlib.Omega.{arith}
-use borrow.Author.Tests.{leb-false}
-use lib.ListN.{length}
-use lib.Dec.{leb}
+use borrow.Author.Tests.{leb-false, ltb-false}
+use lib.ListN.{length, getD}
+use lib.Dec.{leb, ltb}
 use Rattle.events.specs.Event.{Event, function, parameter, thing, opens, closes, declares, uses, calls, ends}
 use Rattle.text_rules.specs.Scan.{scan, when}
-use Rattle.text_rules.specs.Rules.{Head, heads, parameters, Tally, tally, counted, over, tooMany, mains, badMain}
+use Rattle.text_rules.specs.Rules.{Head, heads, parameters, Tally, tally, counted, over, tooMany, withParameters, mains, badMain}
 use Rattle.text_rules.specs.Resolve.{mainOf}
 
 -- ---- lists that are empty
@@ -45,6 +45,10 @@ or-right true b e =
 or-right false b e = e
 
 -- ---- counts
+
+-- how many parameters each function has
+abbrev pub arities : List Head → List ℕ
+arities hs = map (λ h. h .arity) hs
 
 heads-few : (c : Tally) (es : List Event) → c .functions ≤ 16 → scan counted over c es ≡ [] → c .functions + length (heads es) ≤ 16
 unfolding scan counted over heads
@@ -114,3 +118,14 @@ main-lt isMain end (h ∷ hs) e = go (isMain (h .name)) (λ f. main-lt isMain en
     go : (b : Bool) → (badMain end (mains isMain hs) ≡ [] → mainOf isMain hs < length hs) → badMain end (cond b (h ∷ mains isMain hs) (mains isMain hs)) ≡ [] → cond b 0 (suc (mainOf isMain hs)) < suc (length hs)
     go true k e = omega arith
     go false k e = omega (arith, k e)
+
+-- and it has no parameters
+pub main-bare : (isMain : ℕ → Bool) (end : ℕ) (hs : List Head) → badMain end (mains isMain hs) ≡ [] → getD (arities hs) (mainOf isMain hs) 0 ≡ 0
+unfolding mains mainOf badMain withParameters
+main-bare isMain end [] e = refl
+main-bare isMain end (h ∷ hs) e = go (isMain (h .name)) (λ f. main-bare isMain end hs f) e
+  where
+    go : (b : Bool) → (badMain end (mains isMain hs) ≡ [] → getD (arities hs) (mainOf isMain hs) 0 ≡ 0)
+        → badMain end (cond b (h ∷ mains isMain hs) (mains isMain hs)) ≡ [] → getD (arities (h ∷ hs)) (cond b 0 (suc (mainOf isMain hs))) 0 ≡ 0
+    go true k e = omega (arith, ltb-false 0 (h .arity) (not-when (ltb 0 (h .arity)) (h .name) (nil-left (when (ltb 0 (h .arity)) (h .name)) _ e)))
+    go false k e = k e

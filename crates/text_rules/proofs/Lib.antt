@@ -3,3 +3,8 @@ pub mod Collects
 pub mod Counts
 pub mod Functions
 pub mod Scans
+pub mod OneMeaning
+pub mod Slots
+pub mod Resolving
+pub mod Bodies
+pub mod Programs

@@ -7,11 +7,11 @@ use Rattle.checker.proofs.inspect.Tie as tie
 walk-requires : tie.Need-walk-requires
 walk-requires c κs = search needs
 
-sub-judge : tie.Need-sub-judge
-sub-judge c = search needs
-
 judge-requires : tie.Need-judge-requires
-judge-requires c κs = let f = few-events (c .before .before .before .before .before .before .before .before .before .before .before .before .before .before .before .before .pre .0) (c .before .before .before .before .before .before .walk .ensures) in (omega (arith, f, c .before .before .before .before .before .before .before .before .before .before .before .before .before .before .before .before .pre), omega (arith, f, c .before .before .before .before .before .before .before .before .before .before .before .before .before .before .before .before .pre), omega (arith, f, c .before .before .before .before .before .before .before .before .before .before .before .before .before .before .before .before .pre), omega (arith, f, c .before .before .before .before .before .before .before .before .before .before .before .before .before .before .before .before .pre))
+judge-requires c κs =
+    let lent = c .before .before .before .before .before .before .before .before .before .before .before .before .before .before .before .before .before .pre in
+    let f = few-events (lent .0) (c .before .before .before .before .before .before .walk .ensures) in
+    record { tokens = lent .4; listed = omega (arith, f, lent); functions = omega (arith, f, lent); names = omega (arith, f, lent); few = omega (arith, f, lent) }
 
 conclude-requires : tie.Need-conclude-requires
 conclude-requires c κs = search needs
@@ -29,14 +29,15 @@ same-length-4 : tie.Need-same-length-4
 same-length-4 c = search needs
 
 returns : tie.Need-returns
-returns c = rw (c .conclude .ensures) (inspected _ _ _ _ _ _ _ _ _ _ _ _ (c .before .before .before .before .before .before .before .before .before .before .before .before .before .before .walk .ensures) (c .before .before .before .before .before .before .before .judge .ensures))
+returns c =
+    let walked = c .before .before .before .before .before .before .before .before .before .before .before .before .before .before .walk .ensures in
+    rw (c .conclude .ensures) (inspected _ _ _ _ _ _ _ _ _ walked (c .before .before .before .before .before .before .before .judge .ensures))
 
 pub inspect-spec : {M : Type 1} → statement M
 inspect-spec =
     tie.close
     (tie.spec
     walk-requires
-    sub-judge
     judge-requires
     conclude-requires
     same-length

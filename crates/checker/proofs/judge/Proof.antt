@@ -1,18 +1,16 @@
-use native.Mathlib.Omega.{arith}
-use Rattle.names.proofs.Walks.{as-many}
-use Rattle.checker.proofs.Faults.{judges}
+use Rattle.checker.proofs.Faults.{first-broken, first-kept}
 use borrow.Author.Needs.{needs}
 use Rattle.checker.proofs.judge.Statement.{statement}
 use Rattle.checker.proofs.judge.Tie as tie
 
-collect-heads-requires : tie.Need-collect-heads-requires
-collect-heads-requires c κs = search needs
+judge-first-requires : tie.Need-judge-first-requires
+judge-first-requires c κs = search needs
 
-resolve-requires : tie.Need-resolve-requires
-resolve-requires c κs = (c .before .before .before .before .before .before .before .before .before .before .before .before .before .before .pre .0, c .before .before .before .before .before .before .before .before .before .before .before .before .before .before .pre .3, omega (arith, c .before .before .before .before .before .before .before .before .before .before .before .before .before .before .pre, as-many _ _ _ _ (c .before .before .before .before .before .collect-heads .ensures .written)), c .before .before .before .before .before .collect-heads .ensures .written, c .before .before .before .before .before .before .before .before .before .before .before .before .before .before .pre .2)
+enum-known-first : tie.Need-enum-known-first
+enum-known-first c = search needs
 
-rule-all-requires : tie.Need-rule-all-requires
-rule-all-requires c κs = (c .before .before .before .before .before .before .before .before .before .before .before .before .before .before .before .before .before .before .before .before .pre .0, omega (arith, c .before .before .before .before .before .before .before .before .before .before .before .before .before .before .before .before .before .before .before .before .pre, as-many _ _ _ _ (c .before .before .before .before .before .before .before .before .before .before .before .collect-heads .ensures .written)))
+enum-told : tie.Need-enum-told
+enum-told c = search needs
 
 same-length : tie.Need-same-length
 same-length c = search needs
@@ -24,16 +22,40 @@ same-length-3 : tie.Need-same-length-3
 same-length-3 c = search needs
 
 returns : tie.Need-returns
-returns c = judges _ _ _ _ _ _ _ _ _ _ (c .before .before .before .before .before .before .before .before .before .before .before .before .collect-heads .ensures .written) (c .before .before .before .before .before .before .resolve .ensures) (c .rule-all .ensures)
+returns c =
+    let told = c .enum-told .given .1 in
+    rw told (first-broken (rw told at (c .before .before .before .before .before .before .before .before .judge-first .ensures)))
+
+judge-last-requires : tie.Need-judge-last-requires
+judge-last-requires c κs = search needs
+
+same-length-4 : tie.Need-same-length-4
+same-length-4 c = search needs
+
+same-length-5 : tie.Need-same-length-5
+same-length-5 c = search needs
+
+same-length-6 : tie.Need-same-length-6
+same-length-6 c = search needs
+
+returns-2 : tie.Need-returns-2
+returns-2 c =
+    let first = rw (c .before .before .first .given .1) at (c .before .before .before .before .before .before .before .before .before .before .judge-first .ensures) in
+    first-kept first (c .judge-last .ensures _)
 
 pub judge-spec : {M : Type 1} → statement M
 judge-spec =
     tie.close
     (tie.spec
-    collect-heads-requires
-    resolve-requires
-    rule-all-requires
+    judge-first-requires
+    enum-known-first
+    enum-told
     same-length
     same-length-2
     same-length-3
-    returns)
+    returns
+    judge-last-requires
+    same-length-4
+    same-length-5
+    same-length-6
+    returns-2)

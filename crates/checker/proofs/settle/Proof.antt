@@ -22,7 +22,7 @@ same-length : tie.Need-same-length
 same-length c = search needs
 
 returns : tie.Need-returns
-returns c = rw (c .word .ensures) (settles-bad _ _ _ _ _ _ _ _ _ (is-bad (rw (c .before .before .m .given .1) at (c .before .before .before .before .before .before .parse .ensures))))
+returns c = rw (c .word .ensures) (settles-bad _ _ _ _ _ _ (is-bad (rw (c .before .before .m .given .1) at (c .before .before .before .before .before .before .parse .ensures))))
 
 same-length-2 : tie.Need-same-length-2
 same-length-2 c = search needs
@@ -40,7 +40,7 @@ same-length-6 : tie.Need-same-length-6
 same-length-6 c = search needs
 
 returns-2 : tie.Need-returns-2
-returns-2 c = settles-tree _ _ _ _ _ _ _ _ _ (is-tree (rw (c .before .before .before .before .before .before .before .before .before .before .before .before .before .before .before .root .given .1) at (c .before .before .before .before .before .before .before .before .before .before .before .before .before .before .before .before .before .before .before .parse .ensures))) (search needs) (c .before .before .before .before .before .before .before .before .inspect .ensures)
+returns-2 c = settles-tree _ _ _ _ _ _ (is-tree (rw (c .before .before .before .before .before .before .before .before .before .before .before .before .before .before .before .root .given .1) at (c .before .before .before .before .before .before .before .before .before .before .before .before .before .before .before .before .before .before .before .parse .ensures))) (search needs) (c .before .before .before .before .before .before .before .before .inspect .ensures)
 
 pub settle-spec : {M : Type 1} → statement M
 settle-spec =
