@@ -12,7 +12,7 @@ END {
     if (answer[1] == "accepted") {
         tokens()
         for (i = 2; i in answer; i++) print where(answer[i]) ": nothing that `main` calls leads to `" word[token_at(answer[i])] "`. Call it, or take it out."
-    } else if (answer[2] >= 11) {
+    } else if (answer[2] >= 11 && answer[2] <= 16) {
         number = answer[2]
         print "plans: " what[number] argument(number) "."
         print todo[number]
@@ -104,6 +104,7 @@ function details(number) {
     if (number == 7) return calling()
     if (number == 8) return last == 1 ? "the text is empty" : kind[at] == "end" ? "the text has no `main`" : "`main` has parameters"
     if (number == 9) return "it is that of `" word[head()] "`"
+    if (number == 17) return holding()
     if (number == 10) return head() == at ? "this is the 17th function" : nesting ? "this is the 17th declaration in `" word[head()] "`" : "this is the 5th parameter"
     return ""
 }
@@ -144,6 +145,16 @@ function naming(    i, from) {
     if (kind[at + 1] == "(") return "there is no function `" word[at] "`"
     for (i = from; i < last && !(kind[i] == "int" && word[i + 1] == word[at]); i++) ;
     return "`" word[at] "`" (i >= last ? " is not declared" : " can't be seen here: it is declared in line " line_of(token_place[i]) (i > at ? ", later" : ", in a block that has ended"))
+}
+
+# For 17: where the name is declared, and whether a statement before this one gives it a value on some way.
+function holding(    i, line, ended) {
+    for (i = at - 1; i > 1 && !(word[i] == word[at] && kind[i - 1] == "int"); i--) {
+        if (kind[i] == ";") ended = 1
+        if (ended && word[i] == word[at] && kind[i + 1] == "=" && !line) line = line_of(token_place[i])
+    }
+    if (line) cause = "It is given a value in line " line ", but a run may come here another way: an arm or a loop's body need not be worked."
+    return "`" word[at] "` is declared in line " line_of(token_place[i]) " and " (line ? "not given a value on every way" : "given no value before this")
 }
 
 function calling(    i, depth, given, wanted, line) {

@@ -7,7 +7,7 @@
  * may be called from several threads at once. They take every text, number and
  * length there is, and always return. 2 MiB of stack are enough, as measured.
  *
- * A refusal is a number, 1 to 16, and a place, a byte offset in the text from 0;
+ * A refusal is a number, 1 to 17, and a place, a byte offset in the text from 0;
  * README.md has what each number means. docs/CALLING.md shows how to call. */
 #ifndef PLANS_H
 #define PLANS_H

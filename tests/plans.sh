@@ -174,6 +174,11 @@ refused 8 2:1 'the text is empty' '  \n'
 refused 8 2:1 'no `main`' 'int f() { fail; }\n'
 refused 8 1:5 '`main` has parameters' 'int main(int a) { fail; }'
 refused 9 3:1 'that of `main`' 'int main() {\n  int x;\n}\n'
+refused 17 3:10 '`x` is declared in line 2 and given no value before this' 'int main() {\n  int x;\n  return x;\n}\n'
+refused 17 3:7 '`x` is declared in line 2 and given no value before this' 'int main() {\n  int x;\n  x = x + 1;\n  return x;\n}\n'
+refused 17 5:10 '`x` is declared in line 3 and not given a value on every way' 'int main() {\n  int y free;\n  int x;\n  if (y < 1) x = 1; else ;\n  return x;\n}\n'
+refused 17 4:10 'It is given a value in line 3, but a run may come here another way' 'int main() {\n  int x;\n  while (1 < 2) x = 1;\n  return x;\n}\n'
+refused 17 4:10 '`x` is declared in line 3 and given no value before this' 'int main() {\n  { int x; x = 1; }\n  int x;\n  return x;\n}\n'
 refused 10 1:39 'the 5th parameter' 'int f(int a, int b, int c, int d, int e) { fail; }\nint main() { fail; }\n'
 refused 10 18:6 'the 17th declaration in `main`' "int main() {\n$(for i in {1..17}; do printf 'int  x%d;\\n' "$i"; done)fail; }\n"
 refused 10 17:5 'the 17th function' "int main() { fail; }\n$(for i in {1..16}; do printf 'int f%d() { fail; }\\n' "$i"; done)"

@@ -108,6 +108,14 @@ pub fn by_hand() -> Vec<(Example, &'static str)> {
     known
 }
 
+/// So many declarations, with names as short as can be: `a` is the first.
+pub fn declarations(count: usize) -> String {
+    let letters = || ('a'..='z').chain('A'..='Z').map(String::from);
+    let pairs = letters().flat_map(|first| letters().map(move |second| first.clone() + &second));
+    let names = letters().chain(pairs.filter(|name| name != "if"));
+    names.take(count).map(|name| format!("int {name};")).collect()
+}
+
 fn frees(count: usize) -> String {
     (0..count).map(|n| format!("int v{n} free; ")).collect()
 }
@@ -158,8 +166,9 @@ pub fn examples() -> Vec<Example> {
         "int a free; if (a != 1) if (a == 2) return a; else return -1; else return 7;",
         "int a free; if (1 != a) if (2 == a) return a; else return 0 - a; else return 7;",
         "int a free; if (a + 0 < 2) if (a < 1) return 1; else return 2; else return 3;",
-        "int i; int s; while (i < 3) { int t; s = s * 10 + t + 1; t = 5; i = i + 1; } return s;",
-        "int s; if (s == 0) { s = 4; { s = s * s; } } else s = 1; return s;",
+        "int i; int s; i = 0; s = 0; \
+         while (i < 3) { int t; if (i < 1) t = 4; else t = i; s = s * 10 + t; t = 5; i = i + 1; } return s;",
+        "int s; s = 0; if (s == 0) { s = 4; { s = s * s; } } else s = 1; return s;",
         "int a free; int b; b = a; if (b < 1) return 1; else if (a < 1) return 2; else return 3;",
     ] {
         for (low, high, steps) in [(0, 0, 1_000), (0, 3, 50), (1, 2, 8)] {
@@ -181,6 +190,29 @@ pub fn examples() -> Vec<Example> {
     ] {
         for (low, high, steps) in [(0, 1, 1_000), (-1, 2, 60), (0, 2, 25)] {
             add("several functions", text.into(), job(low, high, steps));
+        }
+    }
+    // Read where it holds something on every way, and where it may hold nothing.
+    for body in [
+        "int a free; int x; if (a < 1) x = 5; else x = a; return x;",
+        "int a free; int x; if (a < 1) x = 5; else fail; return x;",
+        "int a free; int x; if (a < 1) { return 7; } else { { x = a; } } return x;",
+        "int a free; int x; if (a < 1) x = 5; else while (true) ; return x;",
+        "int a free; int x; while (true) { x = a; return x; } fail;",
+        "int a free; int x; if (a < 1 || true) x = a; else ; return x;",
+        "int a free; int x; if (true || x < 1) return a; else return 2;",
+        "int a free; int x; if (a < 1 && false) return x; else return a;",
+        "int i; i = 0; while (i < 2) { int x; if (i < 1) x = 5; else x = 6; i = i + x; } return i;",
+        "return 1; int x; return x;",
+        "int x; return x;",
+        "int a free; int x; if (a < 1) x = 5; else ; return x;",
+        "int a free; int x; while (a < 1) { x = a; a = a + 1; } return x;",
+        "int i; int y; i = 0; while (i < 2) { int x; if (i < 1) x = 5; else ; y = x; i = i + 1; } return i;",
+        "int x; x = x + 1; return x;",
+        "int x; if (1 < 2 || x < 1) return 1; else return 2;",
+    ] {
+        for (low, high, steps) in [(0, 2, 1_000), (0, 3, 12)] {
+            add("a variable that holds nothing", main_with(body).into(), job(low, high, steps));
         }
     }
     let chain = "x = x + x; ".repeat(60);
@@ -329,6 +361,7 @@ pub fn endings() -> Vec<Example> {
         ("refusal 14", A, job(0, 3, 0)),
         ("refusal 2", "int main() { return !; }", whole),
         ("refusal 9", "int main() { }", whole),
+        ("refusal 17", "int main() { int x; return x; }", whole),
         ("whole", A, whole),
         ("cut", endless, whole),
         ("full", A, Job { rows_len: 19, ..whole }),

@@ -10,14 +10,15 @@ use crate::search::{Job, LEAST_SCRATCH};
 /// A random text of any kind.
 pub fn text(random: &mut Random) -> Vec<u8> {
     match random.below(100) {
-        0..=54 => valid(random),
-        55..=69 => {
+        0..=49 => valid(random),
+        50..=63 => {
             let mistakes = random.pick(&[&5, &20, &60]);
             let tokens = program(random, *mistakes);
             layout(random, &tokens)
         }
-        70..=84 => damaged(random),
-        85..=96 => at_limits(random),
+        64..=74 => assignments(random),
+        75..=85 => damaged(random),
+        86..=96 => at_limits(random),
         _ => noise(random),
     }
 }
@@ -80,11 +81,14 @@ struct Writer<'r> {
     tokens: Vec<String>,
     functions: Vec<(String, usize)>,
     present: usize,
-    blocks: Vec<Vec<String>>,
+    /// The names that can be seen, and whether they hold something for sure.
+    blocks: Vec<Vec<(String, bool)>>,
     /// The counters of the loops around, which are seldom assigned to.
     counters: Vec<String>,
     declared: usize,
     frees: usize,
+    /// Whether the next statement is an arm without braces, which is just one.
+    alone: bool,
 }
 
 const NAMES: [&str; 12] = ["a", "b", "c", "d", "x", "y", "i", "n", "k_1", "freed", "main", "f"];
@@ -120,6 +124,7 @@ impl Writer<'_> {
             counters: Vec::new(),
             declared: 0,
             frees: 0,
+            alone: false,
         }
     }
 
@@ -173,31 +178,51 @@ impl Writer<'_> {
         self.tokens.push(token);
     }
 
-    fn visible(&self) -> Vec<String> {
-        self.blocks.iter().flatten().cloned().collect()
-    }
-
     /// Declares a name, if possible one that can't be seen yet.
-    fn new_name(&mut self) -> String {
+    fn new_name(&mut self, holds: bool) -> String {
         self.declared += 1;
-        let visible = self.visible();
+        let visible: Vec<String> = self.names(|_| true);
         let mut name = self.random.pick(&NAMES).to_string();
         while visible.contains(&name) && !self.mistake() {
             name = format!("{}{}", self.random.pick(&NAMES), self.random.below(30));
         }
-        self.blocks.last_mut().expect("a block is open").push(name.clone());
+        self.blocks.last_mut().expect("a block is open").push((name.clone(), holds));
         name
     }
 
+    /// The names that can be seen and hold something, or not.
+    fn names(&self, wanted: impl Fn(bool) -> bool) -> Vec<String> {
+        let visible = self.blocks.iter().flatten();
+        visible.filter(|(_, holds)| wanted(*holds)).map(|(name, _)| name.clone()).collect()
+    }
+
+    /// A name to be given a value.
     fn known_name(&mut self) -> Option<String> {
         if self.mistake() {
             return Some(self.random.pick(&NAMES).to_string());
         }
-        let visible = self.visible();
-        if visible.is_empty() {
-            return None;
+        self.one_of(self.names(|_| true))
+    }
+
+    /// A name to be read: one that holds something, but for a mistake.
+    fn held_name(&mut self) -> Option<String> {
+        if self.mistake() {
+            return self.known_name();
         }
-        Some(visible[self.random.below(visible.len())].clone())
+        self.one_of(self.names(|holds| holds))
+    }
+
+    fn one_of(&mut self, names: Vec<String>) -> Option<String> {
+        (!names.is_empty()).then(|| names[self.random.below(names.len())].clone())
+    }
+
+    /// From here to the end of the present block the name holds something, if
+    /// it is the block's own.
+    fn holds_now(&mut self, name: &str) {
+        let block = self.blocks.last_mut().expect("a block is open");
+        for (own, holds) in block {
+            *holds |= own == name;
+        }
     }
 
     fn function(&mut self) {
@@ -210,7 +235,7 @@ impl Writer<'_> {
             if number > 0 {
                 self.put(&[","]);
             }
-            let name = self.new_name();
+            let name = self.new_name(true);
             self.put(&["int", &name]);
         }
         self.put(&[")", "{"]);
@@ -233,13 +258,78 @@ impl Writer<'_> {
             self.put(&[";"]);
             return;
         }
-        let name = self.new_name();
+        let name = self.new_name(free);
         self.put(&["int", &name]);
         if free {
             self.frees += 1;
             self.put(&["free"]);
         }
         self.put(&[";"]);
+    }
+
+    /// A declaration; nine of ten are given a value at once, the others perhaps
+    /// later.
+    fn declare_given(&mut self, depth: usize) {
+        self.declare(false);
+        let newest = self.blocks.last().and_then(|block| block.last()).cloned();
+        let Some((name, false)) = newest else { return };
+        if self.random.chance(900) {
+            if !self.mistake() {
+                self.give(&name, depth);
+            }
+            self.holds_now(&name);
+        }
+    }
+
+    /// A statement after which the name holds something, whichever way is
+    /// gone; a mistake leaves a way open.
+    fn give(&mut self, name: &str, depth: usize) {
+        match self.random.below(20) {
+            0..=1 if depth < 6 => {
+                self.put(&["if", "("]);
+                self.put_one_of(&["true", "true", "true||0<1", "true&&true"]);
+                self.put(&[")"]);
+                self.arm_giving(name, depth);
+                self.put(&["else"]);
+                self.arm(depth);
+            }
+            2..=5 if depth < 6 => {
+                self.put(&["if", "("]);
+                self.condition();
+                self.put(&[")"]);
+                self.arm_giving(name, depth);
+                self.put(&["else"]);
+                self.arm_giving(name, depth);
+            }
+            6 if depth < 6 => {
+                self.put(&["{"]);
+                self.blocks.push(Vec::new());
+                self.statement(depth + 1);
+                self.give(name, depth + 1);
+                self.blocks.pop();
+                self.put(&["}"]);
+            }
+            _ => {
+                self.put(&[name, "="]);
+                self.expression(2);
+                self.put(&[";"]);
+            }
+        }
+    }
+
+    fn arm_giving(&mut self, name: &str, depth: usize) {
+        self.blocks.push(Vec::new());
+        match self.random.below(20) {
+            _ if self.mistake() => self.lone_statement(depth + 1),
+            0 => self.put(&["fail", ";"]),
+            1 => {
+                self.put(&["return"]);
+                self.expression(1);
+                self.put(&[";"]);
+            }
+            _ => self.give(name, depth + 1),
+        }
+        self.blocks.pop();
     }
 
     /// Statements of which the last can't reach its end.
@@ -287,15 +377,14 @@ impl Writer<'_> {
     }
 
     fn statement(&mut self, depth: usize) {
+        let alone = std::mem::take(&mut self.alone);
         self.room = self.room.saturating_sub(1);
         let deep = depth > 6 || self.room == 0;
         match self.random.below(100) {
             0..=2 => self.put(&[";"]),
-            3..=14 => self.declare(false),
-            15..=24 => {
-                let free = self.frees < 3 || self.random.chance(150);
-                self.declare(free);
-            }
+            15..=24 if self.frees < 3 || self.random.chance(150) => self.declare(true),
+            3..=24 if alone => self.declare(false),
+            3..=24 => self.declare_given(depth),
             25..=52 => self.assign(),
             53..=57 => {
                 self.expression(2);
@@ -335,6 +424,7 @@ impl Writer<'_> {
         self.put(&[&name, "="]);
         self.expression(2);
         self.put(&[";"]);
+        self.holds_now(&name);
     }
 
     fn braces(&mut self, depth: usize) {
@@ -353,9 +443,14 @@ impl Writer<'_> {
             self.braces(depth + 1);
         } else {
             self.blocks.push(Vec::new());
-            self.statement(depth + 1);
+            self.lone_statement(depth + 1);
             self.blocks.pop();
         }
+    }
+
+    fn lone_statement(&mut self, depth: usize) {
+        self.alone = true;
+        self.statement(depth);
     }
 
     fn while_loop(&mut self, depth: usize) {
@@ -363,13 +458,13 @@ impl Writer<'_> {
             // A counted loop, in a block of its own with its counter.
             self.put(&["{"]);
             self.blocks.push(Vec::new());
-            let name = self.new_name();
+            let name = self.new_name(true);
             let start = self.random.below(3).to_string();
             self.put(&["int", &name, ";", &name, "=", &start, ";", "while", "(", &name]);
             self.put_one_of(&["<", "<", "<=", "<=", "!="]);
             if self.random.chance(800) {
                 let bound = self.random.below(4).to_string();
-                let bound = self.known_name().filter(|other| *other != name).unwrap_or(bound);
+                let bound = self.held_name().filter(|other| *other != name).unwrap_or(bound);
                 self.put(&[&bound]);
             } else {
                 self.expression(1);
@@ -380,7 +475,7 @@ impl Writer<'_> {
             for _ in 0..self.random.below(3) {
                 self.statement(depth + 2);
             }
-            self.declare_and_use();
+            self.declare_and_use(depth + 2);
             self.counters.pop();
             self.blocks.pop();
             self.put(&[&name, "=", &name, "+", "1", ";", "}", "}"]);
@@ -393,14 +488,18 @@ impl Writer<'_> {
         }
     }
 
-    /// Sometimes, within a loop: a number that is read before it is changed, and
-    /// must be 0 then in every turn.
-    fn declare_and_use(&mut self) {
+    /// Sometimes, within a loop: a number that holds nothing again in every
+    /// turn, is given a value on every way and then read.
+    fn declare_and_use(&mut self, depth: usize) {
         if self.declared < 16 && self.random.chance(300) {
-            let outer = self.known_name().unwrap_or_else(|| "x".to_string());
-            let name = self.new_name();
-            self.put(&["int", &name, ";", &outer, "=", &outer, "+", &name, ";"]);
-            self.put(&[&name, "=", &name, "+", "2", ";"]);
+            let outer = self.held_name();
+            let name = self.new_name(false);
+            self.put(&["int", &name, ";"]);
+            self.give(&name, depth);
+            self.holds_now(&name);
+            if let Some(outer) = outer {
+                self.put(&[&outer, "=", &outer, "+", &name, ";"]);
+            }
         }
     }
 
@@ -419,7 +518,7 @@ impl Writer<'_> {
             2..=7 => {
                 // A name beside a small number narrows, either way round.
                 let small = self.random.between(-2, 4).to_string();
-                let name = self.known_name().unwrap_or_else(|| "1".to_string());
+                let name = self.held_name().unwrap_or_else(|| "1".to_string());
                 let comparison = self.comparison();
                 if self.random.chance(700) {
                     self.put(&[&name, comparison]);
@@ -477,7 +576,7 @@ impl Writer<'_> {
             32..=41 if size > 0 && (!self.onwards().is_empty() || self.random.chance(60)) => {
                 self.call(size.saturating_sub(1));
             }
-            _ => match self.known_name() {
+            _ => match self.held_name() {
                 Some(name) => self.put(&[&name]),
                 None => self.put_one_of(&["0", "1", "2"]),
             },
@@ -514,6 +613,152 @@ impl Writer<'_> {
             self.expression(size);
         }
         self.put(&[")"]);
+    }
+}
+
+/// Programs in which few variables are given values and read on many ways:
+/// about half of them read one that may hold nothing.
+fn assignments(random: &mut Random) -> Vec<u8> {
+    let mut text = String::new();
+    let functions = [("f", 1), ("main", 0), ("g", 2)];
+    let first = random.below(2);
+    for (name, parameters) in &functions[first..2 + random.below(2)] {
+        let mut ways = Ways { random, names: Vec::new(), text: String::new() };
+        let parameters: Vec<String> = (0..*parameters).map(|n| format!("p{n}")).collect();
+        let declared: Vec<String> = parameters.iter().map(|name| format!("int {name}")).collect();
+        ways.names.extend(parameters);
+        ways.declare();
+        for _ in 0..1 + ways.random.below(5) {
+            ways.statement(1);
+        }
+        ways.text.push_str("return ");
+        ways.read();
+        text.push_str(&format!("int {name}({}) {{ {}; }} ", declared.join(", "), ways.text));
+    }
+    text.into_bytes()
+}
+
+struct Ways<'r> {
+    random: &'r mut Random,
+    /// The names that can be seen.
+    names: Vec<String>,
+    text: String,
+}
+
+impl Ways<'_> {
+    fn name(&mut self) -> String {
+        match self.names.len() {
+            0 => "0".to_string(),
+            count => self.names[self.random.below(count)].clone(),
+        }
+    }
+
+    fn declare(&mut self) {
+        let fresh = ["x", "y", "z"].into_iter().find(|name| !self.names.iter().any(|n| n == name));
+        let Some(name) = fresh else { return };
+        self.names.push(name.to_string());
+        let free = self.random.pick(&["", "", "", " free"]);
+        self.text.push_str(&format!("int {name}{free}; "));
+        if self.random.chance(400) {
+            self.text.push_str(&format!("{name} = 1; "));
+        }
+    }
+
+    /// An expression, which reads a variable in one of three.
+    fn read(&mut self) {
+        let name = self.name();
+        match self.random.below(30) {
+            0..=6 => self.text.push_str(&name),
+            7 => self.text.push_str(&format!("(1 + {name})")),
+            8 => self.text.push_str(&format!("2 - {name} * 1")),
+            9 => self.text.push_str("main()"),
+            _ => self.text.push_str(self.random.pick(&["1", "7", "1 + 2"])),
+        }
+    }
+
+    fn condition(&mut self) {
+        loop {
+            match self.random.below(6) {
+                0 => self.text.push_str("true"),
+                1 => self.text.push_str("false"),
+                _ => {
+                    self.read();
+                    self.text.push_str(self.random.pick(&[" < ", " == ", " >= "]));
+                    self.read();
+                }
+            }
+            match self.random.below(10) {
+                0..=2 => self.text.push_str(" && "),
+                3..=5 => self.text.push_str(" || "),
+                _ => return,
+            }
+        }
+    }
+
+    /// A block with braces or without.
+    fn block(&mut self, depth: usize) {
+        let outside = self.names.len();
+        if self.random.chance(400) {
+            self.text.push_str("{ ");
+            for _ in 0..self.random.below(4) {
+                self.statement(depth + 2);
+            }
+            self.text.push_str("} ");
+        } else {
+            self.statement(depth + 1);
+        }
+        self.names.truncate(outside);
+    }
+
+    fn statement(&mut self, depth: usize) {
+        match self.random.below(if depth > 7 { 13 } else { 20 }) {
+            0..=6 => {
+                let name = self.names.iter().rev().find(|_| self.random.chance(600)).cloned();
+                let Some(name) = name else { return self.text.push_str("; ") };
+                self.text.push_str(&format!("{name} = "));
+                self.read();
+                self.text.push_str("; ");
+            }
+            7 if depth == 1 => self.declare(),
+            8 => {
+                self.read();
+                self.text.push_str("; ");
+            }
+            9 => self.text.push_str("fail; "),
+            10 => {
+                self.text.push_str("return ");
+                self.read();
+                self.text.push_str("; ");
+            }
+            13..=17 => {
+                self.text.push_str("if (");
+                self.condition();
+                self.text.push_str(") ");
+                self.block(depth);
+                self.text.push_str("else ");
+                self.block(depth);
+            }
+            18 => {
+                self.text.push_str("while (");
+                self.condition();
+                self.text.push_str(") ");
+                self.block(depth);
+            }
+            19 => self.declares(depth),
+            _ => self.text.push_str("; "),
+        }
+    }
+
+    /// A block that declares.
+    fn declares(&mut self, depth: usize) {
+        let outside = self.names.len();
+        self.text.push_str("{ ");
+        self.declare();
+        for _ in 0..self.random.below(3) {
+            self.statement(depth + 1);
+        }
+        self.text.push_str("} ");
+        self.names.truncate(outside);
     }
 }
 
@@ -601,7 +846,7 @@ fn long_name(random: &mut Random) -> Vec<u8> {
     let name = &name[..15 + random.below(4)];
     let other = "variable_of_main_";
     let other = &other[..15 + random.below(3)];
-    format!("int {name}() {{ return 1; }} int main() {{ int {other}; return {other} + {name}(); }}")
+    format!("int {name}() {{ return 1; }} int main() {{ int {other}; {other} = 1; return {other} + {name}(); }}")
         .into_bytes()
 }
 
@@ -650,6 +895,7 @@ fn deep(random: &mut Random) -> Vec<u8> {
         inner_close.insert_str(0, after);
     }
     let inner = random.pick(&["a", "-1", "f(1)", "(2)", "1 + 2"]);
+    let given = random.pick(&[" free", " free", "; a = 0", ""]);
     let form = match random.below(4) {
         0 => ("return ", ";"),
         1 => ("a = ", ";"),
@@ -657,7 +903,7 @@ fn deep(random: &mut Random) -> Vec<u8> {
         _ => ("", ";"),
     };
     format!(
-        "int f(int p) {{ return p; }} int g(int p, int q) {{ return p; }} int main() {{ int a; \
+        "int f(int p) {{ return p; }} int g(int p, int q) {{ return p; }} int main() {{ int a{given}; \
          {open}{}{inner_open}{inner}{inner_close}{}{close} return 0; }}",
         form.0, form.1
     )
@@ -666,19 +912,24 @@ fn deep(random: &mut Random) -> Vec<u8> {
 
 fn many_declarations(random: &mut Random) -> Vec<u8> {
     let parameters = random.below(5);
-    let count = 14 + random.below(5);
+    let count = if random.chance(800) { 13 + random.below(5) } else { random.below(120) };
     let mut text = String::from("int main() { return 0; } int f(");
     for number in 0..parameters {
         text.push_str(if number > 0 { ", " } else { "" });
         text.push_str(&format!("int p{number}"));
     }
-    text.push_str(") { ");
+    text.push_str(") { int u; ");
     for number in parameters..count {
         let free = random.pick(&["", " free"]);
-        let (before, after) = *random.pick(&[&("", ""), &("{ ", " }"), &("while (true) ", "")]);
+        let (before, after) = *random.pick(&[&("", ""), &("{ ", " }"), &("while (0 < 1) ", "")]);
         text.push_str(&format!("{before}int v{number}{free};{after} "));
     }
-    text.push_str("return 1; }");
+    text.push_str(random.pick(&[
+        "return 1; }",
+        "return 1; }",
+        "u = 1; return u; }",
+        "return u; }",
+    ]));
     text.into_bytes()
 }
 

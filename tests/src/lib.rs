@@ -1,8 +1,8 @@
 //! The plan lister, written a second time: plainly, from the paper (document
 //! 01) alone, to be compared with the proved one.
 //!
-//! - `lexer`, `parser`, `rules`: a text and everything it can be refused for;
-//!   the operations check and remarks.
+//! - `lexer`, `parser`, `rules`, `assigned`: a text and everything it can be
+//!   refused for; the operations check and remarks.
 //! - `program`: an accepted text with its names resolved.
 //! - `run`: one run with chosen values; `plans`: the plan list from runs alone.
 //! - `search`: the search with open values, windows, choices and moves; the
@@ -14,6 +14,7 @@
 //!   comparisons with them.
 //! - `documents`: what the documents cite, and the lines to be believed.
 
+pub mod assigned;
 pub mod cases;
 pub mod documents;
 pub mod examples;

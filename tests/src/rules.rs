@@ -1,6 +1,7 @@
-//! The rules that a text must keep beside its grammar (refusals 5 to 10), and
-//! the operations check and remarks.
+//! The rules that a text must keep beside its grammar (refusals 5 to 10, and 17
+//! before 10), and the operations check and remarks.
 
+use crate::assigned::unassigned;
 use crate::lexer::tokens;
 use crate::parser::{
     parse, Condition, Expression, Function, Name, Operand, Statement, StatementKind, Term, Test,
@@ -46,12 +47,13 @@ pub fn remarks(text: &[u8], places: usize) -> Result<BTreeSet<u16>, Refusal> {
 /// The functions of the text if it is accepted, else its refusal.
 pub fn accepted(text: &[u8]) -> Result<Vec<Function>, Refusal> {
     let functions = parse(&tokens(text)?)?;
-    let rules: [(u32, Vec<usize>); 6] = [
+    let rules: [(u32, Vec<usize>); 7] = [
         (5, too_deep(&functions)),
         (6, wrong_names(&functions)),
         (7, wrong_calls(&functions)),
         (8, wrong_main(&functions, text.len())),
         (9, open_ends(&functions)),
+        (17, unassigned(&functions)),
         (10, too_many(&functions)),
     ];
     // A rule is looked at only where those before it are kept, so that every
@@ -137,7 +139,7 @@ impl Seen {
 }
 
 /// The operands of a sum of products, from left to right.
-fn operands(expression: &Expression) -> impl Iterator<Item = &Operand> {
+pub fn operands(expression: &Expression) -> impl Iterator<Item = &Operand> {
     fn of(term: &Term) -> impl Iterator<Item = &Operand> {
         std::iter::once(&term.first).chain(&term.rest)
     }

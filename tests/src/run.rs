@@ -51,6 +51,12 @@ struct Runner<'a> {
     depth: usize,
 }
 
+/// What a variable holds: nothing, from its declaration to its first value.
+type Cell = Option<i32>;
+
+/// Said where a run reads a variable that holds nothing.
+pub const NOTHING: &str = "no run of an accepted text reads a variable that holds nothing";
+
 /// `Err` carries the end of the whole run.
 type Worked<T> = Result<T, End>;
 
@@ -70,15 +76,15 @@ impl Runner<'_> {
         self.step()?;
         self.depth += 1;
         let body = &self.program.bodies[function];
-        let mut cells = vec![0; body.variables];
-        cells[..arguments.len()].copy_from_slice(arguments);
+        let mut cells: Vec<Cell> = arguments.iter().copied().map(Some).collect();
+        cells.resize(body.variables, None);
         let result = self.statements(&body.statements, &mut cells)?;
         self.depth -= 1;
         Ok(result.expect("a body can't reach its end"))
     }
 
     /// Statements one after the other; the result, if one of them returned.
-    fn statements(&mut self, list: &[Statement], cells: &mut [i32]) -> Worked<Option<i32>> {
+    fn statements(&mut self, list: &[Statement], cells: &mut [Cell]) -> Worked<Option<i32>> {
         for statement in list {
             if let Some(result) = self.statement(statement, cells)? {
                 return Ok(Some(result));
@@ -87,7 +93,7 @@ impl Runner<'_> {
         Ok(None)
     }
 
-    fn statement(&mut self, statement: &Statement, cells: &mut [i32]) -> Worked<Option<i32>> {
+    fn statement(&mut self, statement: &Statement, cells: &mut [Cell]) -> Worked<Option<i32>> {
         if let Statement::DeclareFree(_) = statement {
             if self.run.reached == MOST_FREE {
                 return Err(End::Cut);
@@ -96,13 +102,15 @@ impl Runner<'_> {
         self.step()?;
         match statement {
             Statement::Empty => {}
-            Statement::Declare(variable) => cells[*variable] = 0,
+            Statement::Declare(variable) => cells[*variable] = None,
             Statement::DeclareFree(variable) => {
                 let value = self.values.get(self.run.reached);
-                cells[*variable] = *value.ok_or(End::Wanting)?;
+                cells[*variable] = Some(*value.ok_or(End::Wanting)?);
                 self.run.reached += 1;
             }
-            Statement::Assign(variable, e) => cells[*variable] = self.expression(e, cells)?,
+            Statement::Assign(variable, e) => {
+                cells[*variable] = Some(self.expression(e, cells)?);
+            }
             Statement::Work(e) => {
                 self.expression(e, cells)?;
             }
@@ -126,7 +134,7 @@ impl Runner<'_> {
         Ok(None)
     }
 
-    fn condition(&mut self, condition: &Condition, cells: &[i32]) -> Worked<bool> {
+    fn condition(&mut self, condition: &Condition, cells: &[Cell]) -> Worked<bool> {
         for tests in &condition.0 {
             let mut all = true;
             for test in tests {
@@ -142,7 +150,7 @@ impl Runner<'_> {
         Ok(false)
     }
 
-    fn test(&mut self, test: &Test, cells: &[i32]) -> Worked<bool> {
+    fn test(&mut self, test: &Test, cells: &[Cell]) -> Worked<bool> {
         match test {
             Test::Fixed(truth) => Ok(*truth),
             Test::Compare(left, comparison, right) => {
@@ -156,7 +164,7 @@ impl Runner<'_> {
         }
     }
 
-    fn expression(&mut self, e: &Expression, cells: &[i32]) -> Worked<i32> {
+    fn expression(&mut self, e: &Expression, cells: &[Cell]) -> Worked<i32> {
         let mut value = self.term(&e.first, cells)?;
         for (operation, term) in &e.rest {
             let right = self.term(term, cells)?;
@@ -166,7 +174,7 @@ impl Runner<'_> {
         Ok(value)
     }
 
-    fn term(&mut self, term: &Term, cells: &[i32]) -> Worked<i32> {
+    fn term(&mut self, term: &Term, cells: &[Cell]) -> Worked<i32> {
         let mut value = self.operand(&term.first, cells)?;
         for operand in &term.rest {
             let right = self.operand(operand, cells)?;
@@ -176,10 +184,10 @@ impl Runner<'_> {
         Ok(value)
     }
 
-    fn operand(&mut self, operand: &Operand, cells: &[i32]) -> Worked<i32> {
+    fn operand(&mut self, operand: &Operand, cells: &[Cell]) -> Worked<i32> {
         match operand {
             Operand::Number(number) => Ok(*number),
-            Operand::Variable(variable) => Ok(cells[*variable]),
+            Operand::Variable(variable) => Ok(cells[*variable].expect(NOTHING)),
             Operand::Call(function, arguments) => {
                 let mut values = Vec::new();
                 for argument in arguments {

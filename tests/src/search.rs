@@ -10,7 +10,7 @@ use crate::plans::{row, Row};
 use crate::program::{
     compare, work, Condition, Expression, Operand, Program, Statement, Term, Test,
 };
-use crate::run::{DEEPEST_CALL, MOST_FREE};
+use crate::run::{DEEPEST_CALL, MOST_FREE, NOTHING};
 use crate::Refusal;
 
 pub const LEAST_SCRATCH: usize = 16_384;
@@ -292,8 +292,9 @@ struct Path<'a> {
     windows: Vec<Range>,
     nodes: Vec<Node>,
     tests: Vec<Made>,
-    /// The cells of the functions that have been entered and not left.
-    cells: Vec<Value>,
+    /// The cells of the functions that have been entered and not left; one
+    /// holds nothing from its declaration to its first value.
+    cells: Vec<Option<Value>>,
     /// Ranges of nodes worked under the windows of this number.
     ranges: Vec<(u32, Range)>,
     windows_number: u32,
@@ -382,8 +383,8 @@ impl<'a> Path<'a> {
         self.depth += 1;
         let body = &self.program.bodies[function];
         let base = self.cells.len();
-        self.cells.resize(base + body.variables, Value::Known(0));
-        self.cells[base..base + arguments.len()].copy_from_slice(arguments);
+        self.cells.extend(arguments.iter().copied().map(Some));
+        self.cells.resize(base + body.variables, None);
         let result = self.statements(&body.statements, base)?;
         self.cells.truncate(base);
         self.depth -= 1;
@@ -410,14 +411,14 @@ impl<'a> Path<'a> {
         self.step()?;
         match statement {
             Statement::Empty => {}
-            Statement::Declare(variable) => self.cells[base + variable] = Value::Known(0),
+            Statement::Declare(variable) => self.cells[base + variable] = None,
             Statement::DeclareFree(variable) => {
                 let unknown = self.node(Node::Free(self.windows.len()));
                 self.windows.push(self.job_window);
-                self.cells[base + variable] = unknown;
+                self.cells[base + variable] = Some(unknown);
             }
             Statement::Assign(variable, e) => {
-                self.cells[base + variable] = self.expression(e, base)?;
+                self.cells[base + variable] = Some(self.expression(e, base)?);
             }
             Statement::Work(e) => {
                 self.expression(e, base)?;
@@ -568,7 +569,7 @@ impl<'a> Path<'a> {
     fn operand(&mut self, operand: &Operand, base: usize) -> Worked<Value> {
         match operand {
             Operand::Number(number) => Ok(Value::Known(*number)),
-            Operand::Variable(variable) => Ok(self.cells[base + variable]),
+            Operand::Variable(variable) => Ok(self.cells[base + variable].expect(NOTHING)),
             Operand::Call(function, arguments) => {
                 let mut values = [Value::Known(0); crate::rules::MOST_PARAMETERS];
                 for (value, argument) in values.iter_mut().zip(arguments) {

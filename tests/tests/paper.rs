@@ -456,8 +456,8 @@ fn names() {
     refused(6, "int main() { return 1; } int @main(int a) { return b; }");
     refused(6, "int f() { return 1; } int @f() { return 1; } int main() { return 1; }");
     for body in [
-        "int main; return main;",
-        "{ int x; } int x; return x;",
+        "int main; main = 1; return main;",
+        "{ int x; } int x; x = 1; return x;",
         "if (true) int x; else int x; return 1;",
         "while (false) int x; int x; return 1;",
         "{ int x; } { int x free; x = 1; } return 1;",
@@ -500,6 +500,109 @@ fn ends() {
         assert_eq!(checked(&main_with(body)), Ok(()), "{body}");
     }
     refused(9, "int f() { @} int main() { }");
+}
+
+/// Slip 1: a variable is read only where it holds something on every way.
+#[test]
+fn assigned() {
+    for body in [
+        "int x; return @x;",
+        "int x; @x; return 1;",
+        "int x; x = @x + 1; return x;",
+        "int x; int y; y = 1 + (2 * @x); return y;",
+        "int x; int y; x = 1; return x + @y;",
+        "int x; return @x + x;",
+        // An if: the arms meet.
+        "int x; if (1 < 2) x = 1; else ; return @x;",
+        "int x; if (1 < 2) ; else x = 1; return @x;",
+        "int x; if (1 < 2) x = 1; else x = @x; return x;",
+        "int x; if (1 < 2) { if (2 < 3) x = 1; else ; } else x = 2; return @x;",
+        "int x; if (1 < 2) return 1; else ; return @x;",
+        // A loop: its body does not count after it.
+        "int x; while (1 < 2) x = 1; return @x;",
+        "int x; while (@x < 1) x = 1; return x;",
+        "int x; while (false) x = 1; return @x;",
+        "int x; while (1 < 2) { x = 1; return x; } return @x;",
+        "int i; int y; i = 0; while (i < 2) { int x; if (i < 1) x = 5; else ; y = @x; i = i + 1; } return i;",
+        // Conditions.
+        "int x; if (1 < 2 || @x < 1) return 1; else return 2;",
+        "int x; if (1 < 2 && @x < 1) return 1; else return 2;",
+        "int x; if (true && @x < 1) return 1; else return 2;",
+        "int x; if (false || @x < 1) return 1; else return 2;",
+        "int x; if (true && 1 < 2) x = 1; else ; return @x;",
+        "int x; if (1 < 2 && true) x = 1; else ; return @x;",
+        "int x; if (false || 1 < 2) x = 1; else ; return @x;",
+        "int x; if (false && true || @x < 1) return 1; else return 2;",
+        // A declaration of its own in each block.
+        "{ int x; x = 1; } int x; return @x;",
+        "{ int x; x = 1; } { int x; return @x; }",
+        "if (1 < 2) { int x; x = 1; return x; } else { int x; return @x; }",
+    ] {
+        refused_main(17, body);
+    }
+    for body in [
+        "int x; x = 1; return x;",
+        "int x; return 1;",
+        "int x free; return x;",
+        "int x; { { x = 1; } } return x;",
+        "int x; if (1 < 2) x = 1; else x = 2; return x;",
+        "int x; if (1 < 2) x = 1; else fail; return x;",
+        "int x; if (1 < 2) { return 1; } else { x = 1; } return x;",
+        "int x; if (1 < 2) x = 1; else while (true) ; return x;",
+        "int x; if (true) x = 1; else ; return x;",
+        "int x; if (false) ; else x = 1; return x;",
+        "int x; if (true || 1 < 2) x = 1; else ; return x;",
+        "int x; if (1 < 2 || true) x = 1; else ; return x;",
+        "int x; if (true && true) x = 1; else ; return x;",
+        "int x; if (1 < 2 && false) return x; else return 1;",
+        "int x; if (true || x < 1) return 1; else return 2;",
+        "int x; if (false && x < 1) return 1; else return 2;",
+        "int x; if (true || 1 < 2 && x < 1) return 1; else return x;",
+        "int x; x = 1; while (x < 3) x = x + 1; return x;",
+        "int x; while (true) { x = 1; return x; } fail;",
+        "int i; i = 0; while (i < 2) { int x; x = i; i = x + 1; } return i;",
+        // No run comes there, and everything is assigned.
+        "return 1; int x; return x;",
+        "int x; return 1; return x;",
+        "int x; fail; return x;",
+        "while (true) ; int x; return x;",
+        "int x; while (true) ; return x;",
+        "if (false) { int x; return x; } else return 1;",
+        "while (false) { int x; x = x + 1; } return 1;",
+    ] {
+        assert_eq!(checked(&main_with(body)), Ok(()), "{body}");
+    }
+    let main = "int main() { return 1; } ";
+    // Parameters, arguments, and functions that nothing calls.
+    assert_eq!(checked(&(main.to_string() + "int f(int a, int b) { return a + b; }")), Ok(()));
+    refused(17, &(main.to_string() + "int f(int a) { int x; return f(1 + (@x)); }"));
+    refused(17, "int f() { int x; return @x; } int main() { int x; return x; }");
+    refused(17, "int f(int a) { int x; x = a; return x; } int main() { int x; return f(@x); }");
+    // Over the whole text after 6 to 9, and before 10.
+    refused_main(6, "int x; return x + @y;");
+    refused(7, "int f(int a) { int x; return x; } int main() { return @f(); }");
+    refused(8, "int f() { int x; return x; } @");
+    refused(9, "int main() { int x; x; @}");
+    refused(9, "int f() { int x; return x; } int main() { @}");
+    let many: String = (0..17).map(|n| format!("int v{n}; ")).collect();
+    refused_main(17, &(many.clone() + "return @v0;"));
+    refused_main(10, &(many.replace("v16", "@v16") + "v0 = 1; return v0;"));
+    refused(
+        17,
+        "int f(int a, int b, int c, int d, int e) { return e; } int main() { int x; return @x; }",
+    );
+}
+
+/// Slip 1: a variable holds nothing again each time its declaration is reached.
+#[test]
+fn assigned_on_every_way() {
+    let text = main_with("int a free; int x; if (a < 1) x = 5; else x = a; return x;");
+    assert_eq!(rows(&listed(&text, job(0, 2, 100))), [(5, vec![0]), (1, vec![1]), (2, vec![2])]);
+    let text = main_with(
+        "int i; int s; i = 0; s = 0; \
+         while (i < 3) { int x; if (i < 1) x = 4; else x = i; s = s * 10 + x; i = i + 1; } return s;",
+    );
+    assert_eq!(rows(&listed(&text, job(0, 0, 100))), [(412, vec![])]);
 }
 
 #[test]

@@ -28,12 +28,27 @@ fn the_checked_rule() {
     assert_eq!(checked, text(stored("rule_check", "stdout")));
 }
 
-/// A byte 1 stands after each input.
-#[test]
-fn the_program_cases() {
-    let inputs = stored("program_cases", "stdin");
+/// The stored inputs of a program; a byte 1 stands after each.
+fn inputs(program: &str) -> Vec<Vec<u8>> {
+    let inputs = stored(program, "stdin");
     let (last, inputs) = inputs.split_last().expect("there are inputs");
     assert_eq!(*last, 1);
-    let outputs: String = inputs.split(|byte| *byte == 1).map(printed).collect();
+    inputs.split(|byte| *byte == 1).map(<[u8]>::to_vec).collect()
+}
+
+#[test]
+fn the_program_cases() {
+    let outputs: String = inputs("program_cases").iter().map(|input| printed(input)).collect();
     assert_eq!(outputs, text(stored("program_cases", "stdout")));
+}
+
+#[test]
+fn the_check_cases() {
+    let outputs = text(stored("check_cases", "stdout"));
+    let inputs = inputs("check_cases");
+    assert_eq!(outputs.lines().count(), inputs.len());
+    for (input, output) in inputs.iter().zip(outputs.lines()) {
+        let checked = with_room(|| lister::checked(input));
+        assert_eq!(checked, format!("{output}\n"), "{}", String::from_utf8_lossy(input));
+    }
 }

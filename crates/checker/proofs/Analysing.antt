@@ -96,25 +96,25 @@ module _ {text ks ps vs : List ℕ} {n : ℕ} (x : Into text ks ps vs n) where
   unfolding checked
   is-checked h i j = rw (x .is, checked) (rw (stored-kinds n ks ps vs h, stored-places n ks ps vs i, stored-values n ks ps vs j))
 
-  pub analysed : {nodes events heads before slots : List ℕ} {r : Analysed} → n ≤ length ks → n ≤ length ps → n ≤ length vs
-      → Settles (source text (take n ks) (take n ps) (take n vs)) nodes events heads before slots r (checkedTokens (source text (take n ks) (take n ps) (take n vs)))
-      → Analyses text ks ps vs nodes events heads before slots r (checked text)
-  analysed {nodes} {events} {heads} {before} {slots} h i j s = rw (is-checked h i j) (go s)
+  pub analysed : {nodes events heads slots : List ℕ} {r : Analysed} → n ≤ length ks → n ≤ length ps → n ≤ length vs
+      → Settles (source text (take n ks) (take n ps) (take n vs)) nodes events heads slots r (checkedTokens (source text (take n ks) (take n ps) (take n vs)))
+      → Analyses text ks ps vs nodes events heads slots r (checked text)
+  analysed {nodes} {events} {heads} {slots} h i j s = rw (is-checked h i j) (go s)
     where
-      go : {r : Analysed} {v : Verdict} → Settles (source text (take n ks) (take n ps) (take n vs)) nodes events heads before slots r v → Analyses text ks ps vs nodes events heads before slots r v
+      go : {r : Analysed} {v : Verdict} → Settles (source text (take n ks) (take n ps) (take n vs)) nodes events heads slots r v → Analyses text ks ps vs nodes events heads slots r v
       go N.Settles.refuses = N.rejects
       go (N.Settles.accepts {root = root} {e = k} {h = f} q w) =
-          subst (λ (m : ℕ). Analyses text ks ps vs nodes events heads before slots (Fine m root k f) accepted) (as-long ks h ∙ sym q) (N.has (x .is) w)
+          subst (λ (m : ℕ). Analyses text ks ps vs nodes events heads slots (Fine m root k f) accepted) (as-long ks h ∙ sym q) (N.has (x .is) w)
 
-pub refused-so : {text ks ps vs ks′ ps′ vs′ nodes events heads before slots : List ℕ} {c p : ℕ} {r : Lexed} → Lexes text ks ps vs ks′ ps′ vs′ r → r ≡ X.Refused c p
-    → Analyses text ks′ ps′ vs′ nodes events heads before slots (Refused c p) (checked text)
+pub refused-so : {text ks ps vs ks′ ps′ vs′ nodes events heads slots : List ℕ} {c p : ℕ} {r : Lexed} → Lexes text ks ps vs ks′ ps′ vs′ r → r ≡ X.Refused c p
+    → Analyses text ks′ ps′ vs′ nodes events heads slots (Refused c p) (checked text)
 unfolding checked
 refused-so {ks′ = ks′} {ps′ = ps′} {vs′ = vs′} {c = c} {p = p} h e = let q : lexed _ ≡ L.refused c p = h .answer ∙ ap (W.answerOf ks′ ps′ vs′) e in rw (q, checked) N.rejects
 
 -- what an analysis says of its text
-module _ {text ks ps vs nodes events heads before slots : List ℕ} where
-  pub says-refused : {c p : ℕ} {v : Verdict} → Analyses text ks ps vs nodes events heads before slots (Refused c p) v → refused c p ≡ v
+module _ {text ks ps vs nodes events heads slots : List ℕ} where
+  pub says-refused : {c p : ℕ} {v : Verdict} → Analyses text ks ps vs nodes events heads slots (Refused c p) v → refused c p ≡ v
   says-refused N.rejects = refl
 
-  pub says-accepted : {n root e h : ℕ} {v : Verdict} → Analyses text ks ps vs nodes events heads before slots (Fine n root e h) v → accepted ≡ v
+  pub says-accepted : {n root e h : ℕ} {v : Verdict} → Analyses text ks ps vs nodes events heads slots (Fine n root e h) v → accepted ≡ v
   says-accepted (N.has i w) = refl

@@ -6,12 +6,14 @@ use mathlib.Core.Option.{Option, none, some}
 use lib.ListN.{take-append-drop}
 use Rattle.syntax.specs.Ast as A
 use Rattle.syntax.specs.Ast.{Ast}
-use Rattle.events.specs.Event.{Event, events}
+use Rattle.events.specs.Event.{Event}
 use Rattle.text_rules.specs.Answers.{place}
+use Rattle.text_rules.proofs.SameNames.{same-unassigned}
 use Rattle.text_rules.specs.declared.broken.Broken as B
 use Rattle.text_rules.specs.declared.broken.Broken.the-variants as b
 use Rattle.checker.specs.Check.{Source, Rule, rulesOf, Fault, firstBroken}
-use Rattle.checker.specs.Judge.{firstRules, lastRules, faultOf, judgedBy, Understands, Judges, JudgesPart}
+use Rattle.checker.specs.Judge.{firstRules, lastRules, faultOf, judgedBy, Understands, Listed, Standing, Readable, Judges, JudgesPart}
+use Rattle.checker.specs.Sizes.{TOKENS}
 use Rattle.checker.specs.declared.Judged.{Judged}
 use Rattle.checker.specs.declared.Judged.the-variants.{Broken, Kept}
 use Rattle.checker.proofs.Table.{orLater, first-append}
@@ -32,26 +34,33 @@ fault-judged : (h : ℕ) (o : Option Fault) → faultOf (judgedBy h o) ≡ o
 fault-judged h none = refl
 fault-judged h (some f) = refl
 
-known-judged : (s : Source) (p : Ast A.prog) (slots slots′ heads′ : List ℕ) (h : ℕ) (o : Option Fault)
-    → Understands s p slots slots′ heads′ (Kept h) → Understands s p slots slots′ heads′ (judgedBy h o)
-known-judged s p slots slots′ heads′ h none k = k
-known-judged s p slots slots′ heads′ h (some f) k = tt
+known-judged : (s : Source) (p : Ast A.prog) (slots heads : List ℕ) (h : ℕ) (o : Option Fault) → Understands s p slots heads (Kept h) → Understands s p slots heads (judgedBy h o)
+known-judged s p slots heads h none k = k
+known-judged s p slots heads h (some f) k = tt
 
-module _ {s : Source} {es : List Event} {slots slots′ heads′ : List ℕ} where
+module _ {s : Source} {slots heads : List ℕ} where
   -- where the rules before are kept, the answer of all is that of the later ones
-  pub goes-on : {of later : Ast A.prog → List Rule} {h : ℕ} {r : Judged} → JudgesPart later es h r
-      → ((p : Ast A.prog) → es ≡ events p → firstBroken (of p) ≡ firstBroken (later p))
-      → ((p : Ast A.prog) → es ≡ events p → Understands s p slots slots′ heads′ (Kept h))
-      → Judges s of es slots slots′ heads′ r
+  pub goes-on : {Of : Ast A.prog → Type 0} {of later : Ast A.prog → List Rule} {h : ℕ} {r : Judged} → JudgesPart Of later h r
+      → ((p : Ast A.prog) → Of p → firstBroken (of p) ≡ firstBroken (later p))
+      → ((p : Ast A.prog) → Of p → Understands s p slots heads (Kept h))
+      → Judges Of s of slots heads r
   goes-on {later = later} {h = h} j f k = record {
     fault = λ p e. ap faultOf (j .is p e) ∙ fault-judged h (firstBroken (later p)) ∙ sym (f p e);
-    known = λ p e. subst (Understands s p slots slots′ heads′) (sym (j .is p e)) (known-judged s p slots slots′ heads′ h (firstBroken (later p)) (k p e));
+    known = λ p e. subst (Understands s p slots heads) (sym (j .is p e)) (known-judged s p slots heads h (firstBroken (later p)) (k p e));
   }
 
-  -- one of the first rules is broken
-  pub first-broken : {n i : ℕ} → Judges s (firstRules s) es slots slots′ heads′ (Broken n i) → Judges s (rulesOf s) es slots slots′ heads′ (Broken n i)
-  first-broken j = record { fault = λ p e. sym (by-parts s p ∙ ap (λ (o : Option Fault). orLater o (firstBroken (lastRules s p))) (sym (j .fault p e))); known = λ p e. tt }
+  module _ {nodes : List ℕ} {root : ℕ} {es : List Event} where
+    -- one of the first rules is broken
+    pub first-broken : {n i : ℕ} → Judges (Listed es) s (firstRules s) slots heads (Broken n i) → Judges (Standing nodes root es) s (rulesOf s) slots heads (Broken n i)
+    first-broken j = record {
+      fault = λ p e. sym (by-parts s p ∙ ap (λ (o : Option Fault). orLater o (firstBroken (lastRules s p))) (sym (j .fault p (e .listed))));
+      known = λ p e. tt;
+    }
 
-  -- they are kept, and then the last rules
-  pub first-kept : {h : ℕ} {r : Judged} → Judges s (firstRules s) es slots slots′ heads′ (Kept h) → JudgesPart (lastRules s) es h r → Judges s (rulesOf s) es slots slots′ heads′ r
-  first-kept j l = goes-on l (λ p e. by-parts s p ∙ ap (λ (o : Option Fault). orLater o (firstBroken (lastRules s p))) (sym (j .fault p e))) (j .known)
+    -- they are kept, and then the last rules, which read what the names mean
+    pub first-kept : {h : ℕ} {r : Judged} → Judges (Listed es) s (firstRules s) slots heads (Kept h) → JudgesPart (Readable s nodes root slots es) (lastRules s) h r
+        → Judges (Standing nodes root es) s (rulesOf s) slots heads r
+    first-kept j l =
+        goes-on (record { is = λ p e. l .is p (record { holds = e .holds; means = same-unassigned _ _ TOKENS (j .known p (e .listed) .1) p (e .below); listed = e .listed }) })
+        (λ p e. by-parts s p ∙ ap (λ (o : Option Fault). orLater o (firstBroken (lastRules s p))) (sym (j .fault p (e .listed))))
+        (λ p e. j .known p (e .listed))

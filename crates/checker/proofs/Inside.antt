@@ -8,9 +8,9 @@ use native.Mathlib.Omega.{arith}
 use lib.ListN.{length}
 use lib.Dec.{eqb, leb, ltb}
 use Rattle.syntax.specs.Token.{kEnd}
-use Rattle.syntax.specs.Tree.{Tree, prog, width, numbered}
+use Rattle.syntax.specs.Tree.{Tree, prog, width}
 use Rattle.syntax.specs.Ast as A
-use Rattle.syntax.specs.Ast.{Ast}
+use Rattle.syntax.specs.Ast.{Sort, Ast}
 use Rattle.syntax.specs.Abstract.{ast}
 use Rattle.grammar.specs.Text as G
 use Rattle.events.specs.Event.{Event, function, parameter, thing, opens, closes, declares, uses, calls, ends, events}
@@ -22,7 +22,8 @@ use Rattle.semantics.specs.Demand.{_∈_}
 use Rattle.text_rules.specs.Scan.{scan, on, when}
 use Rattle.text_rules.specs.Rules.{Head, heads, deep, wrong, arityOf, miscounted, mains, withParameters, badMain, unended, Tally, tally, counted, over, functionOf}
 use Rattle.text_rules.specs.Names.{Scope, nowhere as outside, entered, sought, misnamed, unlessFound, ifFound, uncalled, repeated, badNames}
-use Rattle.checker.specs.Check.{Source, sameIn, mainIn, endOf, Rule, rulesOf}
+use Rattle.text_rules.specs.Assigned.{unset}
+use Rattle.checker.specs.Check.{Source, sameIn, mainIn, endOf, meansIn, Rule, rulesOf}
 
 -- every number is below m
 pub data Low (m : ℕ) : List ℕ → Type 0 where
@@ -202,31 +203,75 @@ module _ (m : ℕ) where
   low-over c (calls i n) h = nil
   low-over c (ends i b) h = nil
 
+  -- ---- rule 17
+
+  low-unread : {i : ℕ} (b : Bool) → i < m → Low m (cond b [] (i ∷ []))
+  low-unread true h = nil
+  low-unread false h = more h nil
+
+  low-unset : (means : ℕ → ℕ) {s : Sort} (t : Ast s) (set : ℕ → Bool) → Below m t → Low m (unset means t set)
+  unfolding unset Below
+  low-unset means (A.number i) set h = nil
+  low-unset means (A.negative i) set h = nil
+  low-unset means (A.name i) set h = low-unread (set (means i)) h
+  low-unset means (A.call i a) set h = low-unset means a _ (h .1)
+  low-unset means (A.bracket i e) set h = low-unset means e _ (h .1)
+  low-unset means (A.times x y) set h = low-append (low-unset means x _ (h .0)) (low-unset means y _ (h .1))
+  low-unset means (A.plus x y) set h = low-append (low-unset means x _ (h .0)) (low-unset means y _ (h .1))
+  low-unset means (A.minus x y) set h = low-append (low-unset means x _ (h .0)) (low-unset means y _ (h .1))
+  low-unset means A.noArgs set h = nil
+  low-unset means (A.moreArgs l e) set h = low-append (low-unset means l _ (h .0)) (low-unset means e _ (h .1))
+  low-unset means (A.cmpMark o) set h = nil
+  low-unset means A.always set h = nil
+  low-unset means A.never set h = nil
+  low-unset means (A.compare x o y) set h = low-append (low-unset means x _ (h .0)) (low-unset means y _ (h .1))
+  low-unset means (A.both c d) set h = low-append (low-unset means c _ (h .0)) (low-unset means d _ (h .1))
+  low-unset means (A.either c d) set h = low-append (low-unset means c _ (h .0)) (low-unset means d _ (h .1))
+  low-unset means (A.empty i) set h = nil
+  low-unset means (A.declare i) set h = nil
+  low-unset means (A.declareFree i) set h = nil
+  low-unset means (A.assign i e) set h = low-unset means e _ (h .1)
+  low-unset means (A.eval e) set h = low-unset means e _ h
+  low-unset means (A.block i l) set h = low-unset means l _ (h .1)
+  low-unset means (A.ifElse i c s t) set h = low-append (low-append (low-unset means c _ (h .1 .0)) (low-unset means s _ (h .1 .1 .0))) (low-unset means t _ (h .1 .1 .1))
+  low-unset means (A.while i c s) set h = low-append (low-unset means c _ (h .1 .0)) (low-unset means s _ (h .1 .1))
+  low-unset means (A.return i e) set h = low-unset means e _ (h .1)
+  low-unset means (A.fail i) set h = nil
+  low-unset means A.noStmts set h = nil
+  low-unset means (A.moreStmts l s) set h = low-append (low-unset means l _ (h .0)) (low-unset means s _ (h .1))
+  low-unset means (A.braced l j) set h = low-unset means l _ (h .0)
+  low-unset means A.noParams set h = nil
+  low-unset means (A.moreParams l i) set h = nil
+  low-unset means (A.function i p l) set h = low-unset means l _ (h .1 .1)
+  low-unset means A.noFuns set h = nil
+  low-unset means (A.moreFuns p f) set h = low-append (low-unset means p _ (h .0)) (low-unset means f _ (h .1))
+
 -- ---- all rules
 
 pub data Lows (m : ℕ) : List Rule → Type 0 where
   done : Lows m []
   also : {r : Rule} {rs : List Rule} → Low m (r .broken) → Lows m rs → Lows m (r ∷ rs)
 
-rules-low : (m : ℕ) (s : Source) (p : Ast A.prog) → endOf s < m → Each m (events p) → Lows m (rulesOf s p)
+rules-low : (m : ℕ) (s : Source) (p : Ast A.prog) → endOf s < m → Below m p → Each m (events p) → Lows m (rulesOf s p)
 unfolding rulesOf
-rules-low m s p e l =
+rules-low m s p e b l =
     also (low-on m deep (low-deep m) l)
     (also (low-names m (sameIn s) l)
     (also (low-on m (miscounted (sameIn s) (heads (events p))) (low-miscounted m (sameIn s) (heads (events p))) l)
     (also (low-main m (mainIn s) e (low-mains m (mainIn s) (low-heads m l)))
     (also (low-on m unended (low-unended m) l)
-    (also (low-scan m counted over (low-over m) (tally 0 0 0) l) done)))))
+    (also (low-unset m (meansIn s p) p _ b)
+    (also (low-scan m counted over (low-over m) (tally 0 0 0) l) done))))))
 
--- the events of a tree name tokens of its text
-events-low : (ks : List ℕ) (t : Tree prog) → G.KeepsGrammar ks t → Each (length ks) (events (ast t))
-unfolding events
-events-low ks t k =
+-- a tree and its events name tokens of its text
+tree-low : (ks : List ℕ) (t : Tree prog) → G.KeepsGrammar ks t → Below (length ks) (ast t)
+tree-low ks t k =
     let w : length ks ≡ width t + 1 = ap length (k .tokens) ∙ onto-length t (kEnd ∷ []) in
-    let b : Below (length ks) (ast (numbered 0 t)) = numbered-below 0 (length ks) t (omega (arith, w)) in
-    events-within (length ks) 1 (ast t) (subst (λ (x : Tree prog). Below (length ks) (ast x)) (sym (k .numbers)) b)
+    subst (λ (x : Tree prog). Below (length ks) (ast x)) (sym (k .numbers)) (numbered-below 0 (length ks) t (omega (arith, w)))
 
 pub broken-low : (s : Source) (t : Tree prog) → G.KeepsGrammar (s .kinds) t → Lows (length (s .kinds)) (rulesOf s (ast t))
+unfolding events
 broken-low s t k =
     let w : length (s .kinds) ≡ width t + 1 = ap length (k .tokens) ∙ onto-length t (kEnd ∷ []) in
-    rules-low (length (s .kinds)) s (ast t) (omega (arith, w)) (events-low (s .kinds) t k)
+    let b = tree-low (s .kinds) t k in
+    rules-low (length (s .kinds)) s (ast t) (omega (arith, w)) b (events-within (length (s .kinds)) 1 (ast t) b)

@@ -1,5 +1,6 @@
 -- Theorems about check.
 pub mod Table
+pub mod Naming
 pub mod Faults
 pub mod Inspecting
 pub mod Settling
@@ -11,3 +12,4 @@ pub mod Inside
 pub mod Refusals
 pub mod Texts
 pub mod Resolving
+pub mod Sure

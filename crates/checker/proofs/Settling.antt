@@ -1,6 +1,6 @@
 -- The tokens of a text, from what the parser and the rules of the tree answer.
 use Prim.Native.Nat.{ℕ, _+_, _*_, _≤_}
-use mathlib.Core.Path.{_≡_, refl, ap, _∙_, subst}
+use mathlib.Core.Path.{_≡_, refl, sym, ap, _∙_, subst}
 use mathlib.Core.List.{List, [], _∷_}
 use mathlib.Core.Option.{none}
 use native.Mathlib.Omega.{arith}
@@ -14,11 +14,12 @@ use Rattle.grammar.specs.Parse.{Res, ok, bad, parsed}
 use Rattle.grammar.specs.Answer as G
 use Rattle.grammar.specs.declared.Parsed.the-variants as P
 use Rattle.grammar.proofs.Grammar.{kept}
-use Rattle.events.specs.Walk.{Ready}
+use Rattle.events.specs.Walk.{Ready, Below}
 use Rattle.events.proofs.Widths.{onto-length}
 use Rattle.events.proofs.Enough.{ready}
+use Rattle.events.proofs.Tokens.{numbered-below}
 use Rattle.checker.specs.Check.{Verdict, Source, checkedTokens}
-use Rattle.checker.specs.Sizes.{NODES}
+use Rattle.checker.specs.Sizes.{TOKENS, NODES}
 use Rattle.checker.specs.Analysis.{Inspects, Inspected, Settles, Lent}
 use Rattle.checker.specs.Analysis as N
 use Rattle.checker.specs.declared.Analysed.{Analysed}
@@ -40,23 +41,30 @@ pub is-tree : {l : List ℕ} {root count : ℕ} {v : Res T.prog} → G.Parses l 
 is-tree (G.tree {t = t} {m = m} {k = k} p q a) = record { tree = t; after = m; is = refl; holds = record { kind = k; at = a }; room = omega (arith, p, q) }
 
 -- the tree can be walked
-pub can-walk : {ks nodes l events heads scope : List ℕ} {root : ℕ} → Lent ks nodes events heads scope → length l ≡ length nodes → Read l root (parsed ks) → Ready l root events
+pub can-walk : {ks nodes l events heads scope slots : List ℕ} {root : ℕ} → Lent ks nodes events heads scope slots → length l ≡ length nodes → Read l root (parsed ks) → Ready l root events
 can-walk {ks} {l = l} {root = root} h e r =
     let k = kept ks (h .tokens) (r .is) in
     let w : length ks ≡ width (r .tree) + 1 = ap length (k .tokens) ∙ onto-length (r .tree) (kEnd ∷ []) in
     ready (r .tree) (omega (arith, w, h .few)) (subst (λ (t : Tree T.prog). Holds l root (ast t)) (k .numbers) (r .holds)) (r .room) (omega (arith, r .room, e, h .table)) (omega (arith, h .words))
 
-module _ (s : Source) (nodes events heads before slots : List ℕ) where
-  pub settles-bad : {m : ℕ} → parsed (s .kinds) ≡ bad m → Settles s nodes events heads before slots (Refused 4 (getD (s .places) m 0)) (checkedTokens s)
+-- its tokens are those of the text
+pub few-tokens : {ks nodes l events heads scope slots : List ℕ} {root : ℕ} → Lent ks nodes events heads scope slots → (r : Read l root (parsed ks)) → Below TOKENS (ast (r .tree))
+few-tokens {ks} h r =
+    let k = kept ks (h .tokens) (r .is) in
+    let w : length ks ≡ width (r .tree) + 1 = ap length (k .tokens) ∙ onto-length (r .tree) (kEnd ∷ []) in
+    subst (λ (t : Tree T.prog). Below TOKENS (ast t)) (sym (k .numbers)) (numbered-below 0 TOKENS (r .tree) (omega (arith, w, h .few)))
+
+module _ (s : Source) (nodes events heads slots : List ℕ) where
+  pub settles-bad : {m : ℕ} → parsed (s .kinds) ≡ bad m → Settles s nodes events heads slots (Refused 4 (getD (s .places) m 0)) (checkedTokens s)
   unfolding checkedTokens
   settles-bad e = rw (e, checkedTokens) N.refuses
 
-  pub settles-tree : {root : ℕ} {r : Analysed} → (h : Read nodes root (parsed (s .kinds))) → length nodes ≡ NODES
-      → Inspected s nodes events heads before slots root r
-      → Settles s nodes events heads before slots r (checkedTokens s)
+  pub settles-tree : {root : ℕ} {r : Analysed} → (h : Read nodes root (parsed (s .kinds))) → Below TOKENS (ast (h .tree)) → length nodes ≡ NODES
+      → Inspected s nodes events heads slots root r
+      → Settles s nodes events heads slots r (checkedTokens s)
   unfolding checkedTokens
-  settles-tree {root} {r} h f g = rw (h .is, checkedTokens) (go (g .inspects (ast (h .tree)) (h .holds)))
+  settles-tree {root} {r} h b f g = rw (h .is, checkedTokens) (go (g .inspects (ast (h .tree)) (h .holds) b))
     where
-      go : {r : Analysed} {v : Verdict} → Inspects s events heads before slots root (ast (h .tree)) r v → Settles s nodes events heads before slots r v
+      go : {r : Analysed} {v : Verdict} → Inspects s events heads slots root (ast (h .tree)) r v → Settles s nodes events heads slots r v
       go N.Inspects.refuses = N.refuses
       go (N.Inspects.accepts u k) = N.accepts refl (record { tree = h .tree; after = h .after; parses = h .is; holds = h .holds; room = h .room; few = omega (arith, h .room, f); kept = k; unbroken = u })

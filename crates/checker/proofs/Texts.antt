@@ -9,7 +9,8 @@ use Rattle.events.specs.Event.{events, eventsAt, stops, count, first}
 use Rattle.text_rules.specs.Scan as R
 use Rattle.text_rules.specs.Scan.{on, least, lesser}
 use Rattle.text_rules.specs.Rules.{deep, parameters, heads, functionOf, arityOf, wrong, miscounted, mains, withParameters, badMain, unended, counted, over}
-use Rattle.text_rules.specs.Names.{declared, outer, entered, inBlock, sought, misnamed, uncalled, repeated}
+use Rattle.text_rules.specs.Names.{declared, outer, entered, inBlock, sought, misnamed, uncalled, repeated, named, meant}
+use Rattle.text_rules.specs.Assigned.{parameterCount, atEnd, after, unset}
 use Rattle.checker.specs.Check.{Verdict, accepted, refused, rulesOf, firstBroken, checkedTokens, checked}
 
 pub record Case : Type 0 where
@@ -25,11 +26,13 @@ table =
     ∷ case "" (refused 8 0)
     ∷ case "int f(int a) { return a; } int main() { return f(1, 2); }" (refused 7 47)
     ∷ case "int main() { int x; { int x; } return 1; }" (refused 6 26)
+    ∷ case "int main() { int x; return x; }" (refused 17 27)
+    ∷ case "int main() { int x; if (1 < 2 && true) x = 1; else fail; return x; }" accepted
     ∷ []
 
 unfoldable pub given : Case → Verdict
 given c = checked (bytes (c .text))
 
 pub right : map given table ≡ map (λ c. c .answer) table
-unfolding given checked lexed noneLarge scan front valueOf decimal longestWithin kindOf kindIn same all ast readText moreProg readFun readParams moreParams readStmt readDecl readBlock readEnded readFail readGuard readNamed readIf readWhile moreBody readCond moreCond readConj moreConj readAtom readCmp readSum moreSum readTerm moreTerm readOperand readBracket readCall readArgs moreArgs events eventsAt stops count first on R.scan least lesser deep parameters heads functionOf arityOf wrong miscounted mains withParameters badMain unended counted over declared outer entered inBlock sought misnamed uncalled repeated rulesOf firstBroken checkedTokens
+unfolding given checked lexed noneLarge scan front valueOf decimal longestWithin kindOf kindIn same all ast readText moreProg readFun readParams moreParams readStmt readDecl readBlock readEnded readFail readGuard readNamed readIf readWhile moreBody readCond moreCond readConj moreConj readAtom readCmp readSum moreSum readTerm moreTerm readOperand readBracket readCall readArgs moreArgs events eventsAt stops count first on R.scan least lesser deep parameters heads functionOf arityOf wrong miscounted mains withParameters badMain unended counted over declared outer entered inBlock sought misnamed uncalled repeated named meant parameterCount atEnd after unset rulesOf firstBroken checkedTokens
 right = refl

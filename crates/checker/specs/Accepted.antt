@@ -13,7 +13,8 @@ use Rattle.events.specs.Event.{events}
 use Rattle.text_rules.specs.Spelling.{sameName, isMain}
 use Rattle.text_rules.specs.Rules.{tooDeep, miscalls, mainless, openEnds, tooMany}
 use Rattle.text_rules.specs.Names.{badNames}
-use Rattle.checker.specs.Check.{kinds, places, values}
+use Rattle.text_rules.specs.Assigned.{unassigned}
+use Rattle.checker.specs.Check.{kinds, places, values, sourceOf, meansIn}
 
 -- "a text is accepted exactly if it keeps the grammar and every other rule": it has tokens, they are the tokens of a tree, and nothing in the tree breaks a rule
 pub record KeepsRules (text : List ℕ) : Type 0 where
@@ -27,4 +28,5 @@ pub record KeepsRules (text : List ℕ) : Type 0 where
   pub calls : miscalls (sameName text (places tokens) (values tokens)) (events (ast tree)) ≡ []
   pub main : mainless (isMain text (places tokens) (values tokens)) (length (kinds tokens) - 1) (events (ast tree)) ≡ []
   pub ends : openEnds (events (ast tree)) ≡ []
+  pub assigned : unassigned (meansIn (sourceOf text tokens) (ast tree)) (ast tree) ≡ []
   pub counts : tooMany (events (ast tree)) ≡ []

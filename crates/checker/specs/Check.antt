@@ -16,6 +16,7 @@ use Rattle.text_rules.specs.Scan.{least}
 use Rattle.text_rules.specs.Spelling.{sameName, isMain}
 use Rattle.text_rules.specs.Rules.{heads, tooDeep, miscalls, mainless, openEnds, tooMany}
 use Rattle.text_rules.specs.Names.{badNames, meanings, meant}
+use Rattle.text_rules.specs.Assigned.{unassigned}
 use Rattle.text_rules.specs.Resolve.{resolved}
 use Rattle.semantics.specs.Program.{Program}
 
@@ -57,6 +58,10 @@ mainIn s = isMain (s .text) (s .places) (s .values)
 abbrev pub endOf : Source → ℕ
 endOf s = length (s .kinds) - 1
 
+-- what the name at a token means, in a text with the tree p: the slot of a variable, or the number of a function
+abbrev pub meansIn : Source → Ast A.prog → ℕ → ℕ
+meansIn s p = meant (λ i. 0) (meanings (sameIn s) (events p))
+
 -- a rule's number, and the tokens that break it
 pub record Rule : Type 0 where
   pub number : ℕ
@@ -74,6 +79,7 @@ rulesOf s p =
     ∷ rule 7 (miscalls (sameIn s) es)
     ∷ rule 8 (mainless (mainIn s) (endOf s) es)
     ∷ rule 9 (openEnds es)
+    ∷ rule 17 (unassigned (meansIn s p) p)
     ∷ rule 10 (tooMany es)
     ∷ []
 
@@ -111,6 +117,5 @@ checked text = elim (lexed text) [ L.refused n p ↦ refused n p | L.tokens ts �
 -- the tree with names resolved, of tokens that the grammar accepts
 unfoldable pub programOf : List ℕ → List Token → Tree prog → Program
 programOf text ts t =
-    let es = events (ast t) in
-    let means = meant (λ i. 0) (meanings (sameName text (places ts) (values ts)) es) in
-    resolved (λ i. getD (values ts) i 0) means (isMain text (places ts) (values ts)) (heads es) (ast t)
+    let s = sourceOf text ts in
+    resolved (λ i. getD (values ts) i 0) (meansIn s (ast t)) (mainIn s) (heads (events (ast t))) (ast t)

@@ -3,16 +3,19 @@ use Prim.Native.Nat.{ℕ, _*_, _^_, _≤_, _<_}
 use mathlib.Core.Path.{_≡_}
 use mathlib.Core.List.{List}
 use mathlib.Core.Option.{Option, none, some}
-use lib.ListN.{length, getD, take, drop}
+use lib.ListN.{length, getD, take, drop, replicate}
 use Rattle.syntax.specs.Ast as A
 use Rattle.syntax.specs.Ast.{Ast}
 use Rattle.events.specs.Event.{Event, events}
 use Rattle.events.specs.Stored.{eventWords}
-use Rattle.text_rules.specs.Rules.{heads}
-use Rattle.text_rules.specs.Names.{meanings, meant}
+use Rattle.events.specs.Walk.{Below}
+use Rattle.syntax.specs.Table.{Holds}
+use Rattle.text_rules.specs.Rules as R
+use Rattle.text_rules.specs.Assigned.{unassigned}
 use Rattle.text_rules.specs.Answers.{headWords, storedHeads}
 use Rattle.scopes.specs.Memory.{scopeWords}
-use Rattle.checker.specs.Check.{Source, sameIn, Rule, rulesOf, Fault, fault, firstBroken}
+use Rattle.checker.specs.Check.{Source, meansIn, Rule, rulesOf, Fault, fault, firstBroken}
+use Rattle.checker.specs.Sizes.{TOKENS}
 use Rattle.checker.specs.declared.Judged.{Judged}
 use Rattle.checker.specs.declared.Judged.the-variants.{Broken, Kept}
 
@@ -26,13 +29,14 @@ functionRules s p = drop 2 (firstRules s p)
 abbrev pub lastRules : Source → Ast A.prog → List Rule
 lastRules s p = drop 5 (rulesOf s p)
 
--- what is lent for n events: a token at least, and room for as many functions and as many names that can be seen
-pub record Judgeable (kinds events : List ℕ) (n : ℕ) (heads scope : List ℕ) : Type 0 where
+-- what is lent for n events: a token at least, room for as many functions and as many names that can be seen, and no name means anything yet
+pub record Judgeable (kinds events : List ℕ) (n : ℕ) (heads scope slots : List ℕ) : Type 0 where
   pub tokens : 0 < length kinds
   pub listed : eventWords * n ≤ length events
   pub functions : headWords * n ≤ length heads
   pub names : scopeWords * n ≤ length scope
   pub few : n < 2 ^ 32
+  pub blank : slots ≡ replicate TOKENS 0
 
 -- a broken rule with its number and the token, or none
 abbrev pub faultOf : Judged → Option Fault
@@ -44,17 +48,36 @@ abbrev pub judgedBy : ℕ → Option Fault → Judged
 judgedBy h none = Kept h
 judgedBy h (some f) = Broken (f .number) (f .token)
 
--- where no rule is broken: the functions of p stand in `heads′`, and each token's meaning in `slots′`
-abbrev pub Understands : Source → Ast A.prog → (slots slots′ heads′ : List ℕ) → Judged → Type 0
-Understands s p slots slots′ heads′ (Broken n i) = Unit
-Understands s p slots slots′ heads′ (Kept h) =
-    (storedHeads heads′ h ≡ heads (events p)) × ((i : ℕ) → i < length slots → getD slots′ i 0 ≡ meant (λ j. getD slots j 0) (meanings (sameIn s) (events p)) i)
+-- the words say what each name of a text means
+abbrev pub Meant : Source → Ast A.prog → List ℕ → Type 0
+Meant s p slots = (i : ℕ) → i < TOKENS → getD slots i 0 ≡ meansIn s p i
 
--- what the rules `of` say of every program that has these events, where h functions are there
-pub record JudgesPart (of : Ast A.prog → List Rule) (es : List Event) (h : ℕ) (r : Judged) : Type 0 where
-  pub is : (p : Ast A.prog) → es ≡ events p → r ≡ judgedBy h (firstBroken (of p))
+-- where no rule is broken: the functions of p stand in `heads`, and each token's meaning in `slots`
+abbrev pub Understands : Source → Ast A.prog → (slots heads : List ℕ) → Judged → Type 0
+Understands s p slots heads (Broken n i) = Unit
+Understands s p slots heads (Kept h) = (storedHeads heads h ≡ R.heads (events p)) × Meant s p slots
+
+-- what is known of a program p: its events are these
+abbrev pub Listed : List Event → Ast A.prog → Type 0
+Listed es p = es ≡ events p
+
+-- it stands at node `root`, and its tokens are among those of a text
+pub record Standing (nodes : List ℕ) (root : ℕ) (es : List Event) (p : Ast A.prog) : Type 0 where
+  pub holds : Holds nodes root p
+  pub below : Below TOKENS p
+  pub listed : Listed es p
+
+-- it stands at node `root`, and rule 17 finds the same whether these words or the definition say what its names mean
+pub record Readable (s : Source) (nodes : List ℕ) (root : ℕ) (slots : List ℕ) (es : List Event) (p : Ast A.prog) : Type 0 where
+  pub holds : Holds nodes root p
+  pub means : unassigned (λ i. getD slots i 0) p ≡ unassigned (meansIn s p) p
+  pub listed : Listed es p
+
+-- what the rules `of` say of every program of which this is known, where h functions are there
+pub record JudgesPart (Of : Ast A.prog → Type 0) (of : Ast A.prog → List Rule) (h : ℕ) (r : Judged) : Type 0 where
+  pub is : (p : Ast A.prog) → Of p → r ≡ judgedBy h (firstBroken (of p))
 
 -- the same, with what is understood of the text
-pub record Judges (s : Source) (of : Ast A.prog → List Rule) (es : List Event) (slots slots′ heads′ : List ℕ) (r : Judged) : Type 0 where
-  pub fault : (p : Ast A.prog) → es ≡ events p → faultOf r ≡ firstBroken (of p)
-  pub known : (p : Ast A.prog) → es ≡ events p → Understands s p slots slots′ heads′ r
+pub record Judges (Of : Ast A.prog → Type 0) (s : Source) (of : Ast A.prog → List Rule) (slots heads : List ℕ) (r : Judged) : Type 0 where
+  pub fault : (p : Ast A.prog) → Of p → faultOf r ≡ firstBroken (of p)
+  pub known : (p : Ast A.prog) → Of p → Understands s p slots heads r

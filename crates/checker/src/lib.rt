@@ -1,13 +1,14 @@
 // Check.
 ghost use mathlib.Core.Path.{_≡_};
 ghost use Prim.Native.Nat.{_*_, _≤_, _<_};
-ghost use lib.ListN.{length};
+ghost use lib.ListN.{length, replicate};
 ghost use Rattle.events.specs.Stored.{eventWords, stored};
-ghost use Rattle.events.specs.Walk.{Ready};
+ghost use Rattle.syntax.specs.Ast.{prog};
+ghost use Rattle.events.specs.Walk.{Ready, Rooted};
 ghost use Rattle.text_rules.specs.Rules as R;
 ghost use Rattle.text_rules.specs.Answers.{headWords, storedHeads};
-ghost use Rattle.checker.specs.Sizes.{EVENTS, HEADS, SCOPE};
-ghost use Rattle.checker.specs.Judge.{firstRules, functionRules, lastRules, Judgeable, Judges, JudgesPart};
+ghost use Rattle.checker.specs.Sizes.{TOKENS, EVENTS, HEADS, SCOPE};
+ghost use Rattle.checker.specs.Judge.{firstRules, functionRules, lastRules, Judgeable, Listed, Standing, Readable, Judges, JudgesPart};
 ghost use Rattle.checker.specs.Check.{Source, source, rulesOf, checkedTokens, checked};
 ghost use Rattle.checker.specs.Analysis.{concluded, Inspected, Lent, Settles, Slices, Analyses, verdictOf};
 use grammar::Parsed;
@@ -36,8 +37,8 @@ fn judge_functions(
 ) -> Judged
     requires { ⌜ (0 < length (now kinds)) × (eventWords * n ≤ length (now events)) × (headWords * h ≤ length (now heads))
         × (storedHeads (now heads) h ≡ R.heads (stored (now events) n)) ⌝ }
-    ensures { λ r. ⌜ JudgesPart (functionRules (source (now (text .entry)) (now (kinds .entry)) (now (places .entry)) (now (values .entry))))
-        (stored (now (events .entry)) n) h r ⌝ }
+    ensures { λ r. ⌜ JudgesPart (Listed (stored (now (events .entry)) n))
+        (functionRules (source (now (text .entry)) (now (kinds .entry)) (now (places .entry)) (now (values .entry)))) h r ⌝ }
 {
     if let Broken::At(i) = breaches::calls::miscalls(text, places, values, events, n, heads, h) {
         return Judged::Broken(7, i);
@@ -70,10 +71,9 @@ fn judge_first(
     scope: &mut [u32],
     slots: &mut [u32],
 ) -> Judged
-    requires { ⌜ Judgeable (now kinds) (now events) n (now heads) (now scope) ⌝ }
-    ensures { λ r. ⌜ Judges (source (now (text .entry)) (now (kinds .entry)) (now (places .entry)) (now (values .entry)))
-        (firstRules (source (now (text .entry)) (now (kinds .entry)) (now (places .entry)) (now (values .entry))))
-        (stored (now (events .entry)) n) (now (slots .entry)) (now (slots .exit)) (now (heads .exit)) r ⌝ }
+    requires { ⌜ Judgeable (now kinds) (now events) n (now heads) (now scope) (now slots) ⌝ }
+    ensures { λ r. ⌜ Judges (Listed (stored (now (events .entry)) n)) (source (now (text .entry)) (now (kinds .entry)) (now (places .entry)) (now (values .entry)))
+        (firstRules (source (now (text .entry)) (now (kinds .entry)) (now (places .entry)) (now (values .entry)))) (now (slots .exit)) (now (heads .exit)) r ⌝ }
 {
     if let Broken::At(i) = breaches::depth::too_deep(events, n) {
         return Judged::Broken(5, i);
@@ -85,39 +85,51 @@ fn judge_first(
     judge_functions(text, kinds, places, values, events, n, heads, h)
 }
 
-// The rules after 9, of n events of a text with h functions that keeps the rules 5 to 9.
-fn judge_last(events: &[u32], n: usize, h: usize) -> Judged
-    requires { ⌜ eventWords * n ≤ length (now events) ⌝ }
-    ensures { λ r. ⌜ ((s : Source) → JudgesPart (lastRules s) (stored (now (events .entry)) n) h r) ⌝ }
+// The rules after 9, of n events of a text with h functions that keeps the rules 5 to 9, whose tree stands at node `root` and whose names mean `slots`.
+fn judge_last(
+    nodes: &[u32],
+    root: usize,
+    slots: &[u32],
+    events: &[u32],
+    n: usize,
+    h: usize,
+) -> Judged
+    requires { ⌜ Rooted prog (now nodes) root × (eventWords * n ≤ length (now events)) ⌝ }
+    ensures { λ r. ⌜ ((s : Source) → JudgesPart (Readable s (now (nodes .entry)) root (now (slots .entry)) (stored (now (events .entry)) n)) (lastRules s) h r) ⌝ }
 {
+    if let Broken::At(i) = assignment::unassigned(nodes, root, slots) {
+        return Judged::Broken(17, i);
+    }
     if let Broken::At(i) = breaches::counts::too_many(events, n) {
         return Judged::Broken(10, i);
     }
     Judged::Kept(h)
 }
 
-// What the rules say of n events.
+// What the rules say of n events of a text whose tree stands at node `root`.
 fn judge(
     text: &[u8],
     kinds: &[u8],
     places: &[u32],
     values: &[u32],
+    nodes: &[u32],
+    root: usize,
     events: &[u32],
     n: usize,
     heads: &mut [u32],
     scope: &mut [u32],
     slots: &mut [u32],
 ) -> Judged
-    requires { ⌜ Judgeable (now kinds) (now events) n (now heads) (now scope) ⌝ }
-    ensures { λ r. ⌜ Judges (source (now (text .entry)) (now (kinds .entry)) (now (places .entry)) (now (values .entry)))
-        (rulesOf (source (now (text .entry)) (now (kinds .entry)) (now (places .entry)) (now (values .entry))))
-        (stored (now (events .entry)) n) (now (slots .entry)) (now (slots .exit)) (now (heads .exit)) r ⌝ }
+    requires { ⌜ Rooted prog (now nodes) root × Judgeable (now kinds) (now events) n (now heads) (now scope) (now slots) ⌝ }
+    ensures { λ r. ⌜ Judges (Standing (now (nodes .entry)) root (stored (now (events .entry)) n))
+        (source (now (text .entry)) (now (kinds .entry)) (now (places .entry)) (now (values .entry)))
+        (rulesOf (source (now (text .entry)) (now (kinds .entry)) (now (places .entry)) (now (values .entry)))) (now (slots .exit)) (now (heads .exit)) r ⌝ }
 {
     let first = judge_first(text, kinds, places, values, events, n, heads, scope, slots);
     let Judged::Kept(h) = first else {
         return first;
     };
-    judge_last(events, n, h)
+    judge_last(nodes, root, slots, events, n, h)
 }
 
 // What an analysis answers: a refusal's number and place, or the count of tokens, the root of the tree, the count of events and the count of functions.
@@ -166,12 +178,24 @@ fn inspect(
     slots: &mut [u32],
 ) -> Analysed
     requires { ⌜ Ready (now nodes) root (now events) × (length (now events) ≡ EVENTS)
-        × (HEADS ≤ length (now heads)) × (SCOPE ≤ length (now scope)) × (0 < length (now kinds)) ⌝ }
+        × (HEADS ≤ length (now heads)) × (SCOPE ≤ length (now scope)) × (0 < length (now kinds)) × (now slots ≡ replicate TOKENS 0) ⌝ }
     ensures { λ r. ⌜ Inspected (source (now (text .entry)) (now (kinds .entry)) (now (places .entry)) (now (values .entry)))
-        (now (nodes .entry)) (now (events .exit)) (now (heads .exit)) (now (slots .entry)) (now (slots .exit)) root r ⌝ }
+        (now (nodes .entry)) (now (events .exit)) (now (heads .exit)) (now (slots .exit)) root r ⌝ }
 {
     let e = events::walk(nodes, root, events);
-    let judged = judge(text, kinds, places, values, events, e, heads, scope, slots);
+    let judged = judge(
+        text,
+        kinds,
+        places,
+        values,
+        nodes,
+        root,
+        events,
+        e,
+        heads,
+        scope,
+        slots,
+    );
     conclude(places, judged, kinds.len(), root, e)
 }
 
@@ -187,9 +211,9 @@ fn settle(
     scope: &mut [u32],
     slots: &mut [u32],
 ) -> Analysed
-    requires { ⌜ Lent (now kinds) (now nodes) (now events) (now heads) (now scope) ⌝ }
+    requires { ⌜ Lent (now kinds) (now nodes) (now events) (now heads) (now scope) (now slots) ⌝ }
     ensures { λ r. ⌜ Settles (source (now (text .entry)) (now (kinds .entry)) (now (places .entry)) (now (values .entry)))
-        (now (nodes .exit)) (now (events .exit)) (now (heads .exit)) (now (slots .entry)) (now (slots .exit))
+        (now (nodes .exit)) (now (events .exit)) (now (heads .exit)) (now (slots .exit))
         r (checkedTokens (source (now (text .entry)) (now (kinds .entry)) (now (places .entry)) (now (values .entry)))) ⌝ }
 {
     match grammar::parse(kinds, nodes) {
@@ -223,9 +247,9 @@ pub fn analyse(
     scope: &mut [u32],
     slots: &mut [u32],
 ) -> Analysed
-    requires { ⌜ Slices (now kinds) (now places) (now values) (now nodes) (now events) (now heads) (now scope) ⌝ }
+    requires { ⌜ Slices (now kinds) (now places) (now values) (now nodes) (now events) (now heads) (now scope) (now slots) ⌝ }
     ensures { λ r. ⌜ Analyses (now (text .entry)) (now (kinds .exit)) (now (places .exit)) (now (values .exit))
-        (now (nodes .exit)) (now (events .exit)) (now (heads .exit)) (now (slots .entry)) (now (slots .exit))
+        (now (nodes .exit)) (now (events .exit)) (now (heads .exit)) (now (slots .exit))
         r (checked (now (text .entry))) ⌝ }
 {
     match lexer::lex(text, kinds, places, values) {

@@ -35,13 +35,11 @@ pub const AGAIN: u32 = 19;
 
 pub const BEGIN: u32 = 20;
 
-pub const CLEAR: u32 = 21;
+pub const ASK: u32 = 21;
 
-pub const ASK: u32 = 22;
+pub const STORE: u32 = 22;
 
-pub const STORE: u32 = 23;
-
-pub const RETURN: u32 = 24;
+pub const RETURN: u32 = 23;
 
 // A call is done with the function's number, and so many times the count of its arguments.
 pub const FUNCTIONS: usize = 16;

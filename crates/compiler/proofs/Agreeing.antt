@@ -50,7 +50,7 @@ module _ (m : ℕ) (value means value′ means′ : ℕ → ℕ) (v : Agree m va
   sound-same (A.both a b) h = (sound-same a (h .0), sound-same b (h .1))
   sound-same (A.either a b) h = (sound-same a (h .0), sound-same b (h .1))
   sound-same (A.empty i) h = tt
-  sound-same (A.declare i) h = (h .0, omega (arith, h .1, n .at (i + 1) (h .0)))
+  sound-same (A.declare i) h = tt
   sound-same (A.declareFree i) h = (h .0, omega (arith, h .1, n .at (i + 1) (h .0)))
   sound-same (A.assign i e) h = (h .0, omega (arith, h .1, n .at (i) (h .0)), sound-same e (h .2))
   sound-same (A.eval e) h = sound-same e h

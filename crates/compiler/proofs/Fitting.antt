@@ -68,7 +68,7 @@ module _ (means : ℕ → ℕ) where
     sound d (A.both a b) w h = (sound d a (w .0) (front (eventsAt d a) (eventsAt d b) h), sound d b (w .1) (back (eventsAt d a) (eventsAt d b) h))
     sound d (A.either a b) w h = (sound d a (w .0) (front (eventsAt d a) (eventsAt d b) h), sound d b (w .1) (back (eventsAt d a) (eventsAt d b) h))
     sound d (A.empty i) w h = tt
-    sound d (A.declare i) w h = (w, h .1 .0)
+    sound d (A.declare i) w h = tt
     sound d (A.declareFree i) w h = (w, h .1 .0)
     sound d (A.assign i e) w h = (w .0, h .1 .0, sound d e (w .1) (h .1 .1))
     sound d (A.eval e) w h = sound d e w (h .1)

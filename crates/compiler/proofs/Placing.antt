@@ -1,6 +1,6 @@
 -- The program of a sound tree fits into words; so the words that the compiler writes are a code in which the program is placed.
 use Prim.Native.Nat.{ℕ, zero, suc, _+_, _-_, _*_, _%_, _^_, _≤_, _<_}
-use mathlib.Core.Path.{_≡_, refl, sym, ap, _∙_}
+use mathlib.Core.Path.{_≡_, sym, ap, _∙_}
 use mathlib.Core.Bool.{Bool, cond}
 use mathlib.Core.List.{List, [], _∷_, _++_}
 use native.Mathlib.Nat.{zero-add}
@@ -14,6 +14,7 @@ use mir.Val.{toZ, sel}
 use Rattle.semantics.specs.Int.{low32}
 use Rattle.semantics.specs.Program.{Exprs, Stmts, Program}
 use Rattle.semantics.specs.Does.{frame}
+use Rattle.semantics.proofs.Frames.{length-frame}
 use Rattle.syntax.specs.Ast.{Sort, Ast, prog}
 use Rattle.syntax.specs.Ast as A
 use Rattle.syntax.specs.Table.{Holds}
@@ -88,7 +89,7 @@ module _ (m : ℕ) (value means : ℕ → ℕ) where
   fits (A.both a b) h = (fits a (h .0), fits b (h .1))
   fits (A.either a b) h = (fits a (h .0), fits b (h .1))
   fits (A.empty i) h = tt
-  fits (A.declare i) h = h .1
+  fits (A.declare i) h = tt
   fits (A.declareFree i) h = h .1
   fits (A.assign i e) h = (h .1, fits e (h .2))
   fits (A.eval e) h = fits e h
@@ -111,15 +112,9 @@ fits-program m values slots g p s few h = record { bodies = fits m (word values)
 
 -- ---- the words are that code
 
-frame-length : (d n : ℕ) (vs : List ℕ) → length (frame d n vs) ≡ n
-unfolding frame
-frame-length d zero vs = refl
-frame-length d (suc n) [] = ap suc (frame-length d n [])
-frame-length d (suc n) (v ∷ vs) = ap suc (frame-length d n vs)
-
 pub length-code : (p : Program) → length (wordsIn (codeOf p)) ≡ entryWords * length (codeOf p .entries) + 16
 unfolding wordsIn
-length-code p = omega (arith, length-append (wordsOf (codeOf p .entries)) (frame 2 16 (codeOf p .starts)), length-words (codeOf p .entries), frame-length 2 16 (codeOf p .starts))
+length-code p = omega (arith, length-append (wordsOf (codeOf p .entries)) (frame 2 16 (codeOf p .starts)), length-words (codeOf p .entries), length-frame 2 16 (codeOf p .starts))
 
 module _ {l : List ℕ} {i : ℕ} {values slots : List ℕ} {g : ℕ} {before after : List ℕ} {r : ℕ} (p : Ast prog) (held : Holds l i p) (fitting : Fits (program values slots g p)) (space : entryWords * length (codeOf (program values slots g p) .entries) + 16 ≤ length before) (c : Compiled l i values slots g before after r) where
   abbrev pub it : Program

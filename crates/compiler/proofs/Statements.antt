@@ -13,7 +13,7 @@ use Rattle.syntax.specs.Table.{nNoStmts, At, Holds, nEmpty, nDeclare, nDeclareF
 use Rattle.events.specs.Visit.{level}
 use Rattle.events.proofs.Nodes.{at-kind, moved}
 use Rattle.text_rules.specs.Resolve.{part}
-use Rattle.simulation.specs.Code.{Entry, jump, skip, again, begin, clear, ask, store, return, fail, act, codeS}
+use Rattle.simulation.specs.Code.{Entry, jump, skip, again, begin, ask, store, return, fail, act, codeS}
 use Rattle.compiler.specs.Coded.{coded}
 use Rattle.compiler.specs.Sound.{Sound}
 use Rattle.compiler.proofs.Parts.{stmts-code}
@@ -39,11 +39,11 @@ module _ (value means : ℕ → ℕ) (m : ℕ) where
   pub fail-node : {l : List ℕ} {s : Sort} {i : ℕ} {n : Node} {t : Ast s} → Fetched l i n → n .kind ≡ nFail → Holds l i t → None value means m t (act begin ∷ (act fail ∷ [])) Unit
   fail-node f e h = fail-at f (at-kind nFail f e h)
 
-  declare-at : {l : List ℕ} {s : Sort} {i : ℕ} {n : Node} {t : Ast s} → Fetched l i n → At l s i nDeclare t → None value means m t (act (clear (slot (means (n .token + 1)))) ∷ []) (n .token + 1 < m)
+  declare-at : {l : List ℕ} {s : Sort} {i : ℕ} {n : Node} {t : Ast s} → Fetched l i n → At l s i nDeclare t → None value means m t (act begin ∷ []) Unit
   unfolding part codeS Sound
-  declare-at f (at-declare r) = record { code = rw (f .token ∙ r .token); own = λ b. rw (f .token ∙ r .token) (b .0) }
+  declare-at f (at-declare r) = record { code = refl; own = λ b. tt }
 
-  pub declare-node : {l : List ℕ} {s : Sort} {i : ℕ} {n : Node} {t : Ast s} → Fetched l i n → n .kind ≡ nDeclare → Holds l i t → None value means m t (act (clear (slot (means (n .token + 1)))) ∷ []) (n .token + 1 < m)
+  pub declare-node : {l : List ℕ} {s : Sort} {i : ℕ} {n : Node} {t : Ast s} → Fetched l i n → n .kind ≡ nDeclare → Holds l i t → None value means m t (act begin ∷ []) Unit
   declare-node f e h = declare-at f (at-kind nDeclare f e h)
 
   free-at : {l : List ℕ} {s : Sort} {i : ℕ} {n : Node} {t : Ast s} → Fetched l i n → At l s i nDeclareFree t → None value means m t (act (ask (slot (means (n .token + 1)))) ∷ []) (n .token + 1 < m)

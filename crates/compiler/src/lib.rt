@@ -184,10 +184,7 @@ fn statement(
     let k = node.kind;
     match k {
         kind::EMPTY => emit(code, n, entry::BEGIN, 0),
-        kind::DECLARE => {
-            let a = address(slots, node.token + 1);
-            emit_address(code, n, entry::CLEAR, a)
-        }
+        kind::DECLARE => emit(code, n, entry::BEGIN, 0),
         kind::DECLARE_FREE => {
             let a = address(slots, node.token + 1);
             emit_address(code, n, entry::ASK, a)

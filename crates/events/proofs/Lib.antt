@@ -2,6 +2,7 @@
 pub mod Laws
 pub mod Variants
 pub mod Nodes
+pub mod Counting
 pub mod Leaves
 pub mod Steps
 pub mod Widths

@@ -1,5 +1,5 @@
 -- The steps of the loops and the recursion that find a first token, a count of arguments, and whether a statement can reach its end.
-use Prim.Native.Nat.{ℕ, _+_, _≤_, _<_}
+use Prim.Native.Nat.{ℕ, _≤_, _<_}
 use mathlib.Core.Path.{_≡_, refl, sym, ap, _∙_, subst}
 use mathlib.Core.Bool.{Bool, true, false, _&&_}
 use mathlib.Core.List.{List}
@@ -12,6 +12,7 @@ use Rattle.syntax.specs.Ast as A
 use Rattle.syntax.specs.Table.{nNoStmts, nBlock, nBraced, nFail, nMinus, nPlus, nReturn, nTimes, At, Holds, nMoreArgs, nMoreStmts, nIfElse, at-number, at-negative, at-name, at-call, at-bracket, at-times, at-plus, at-minus, at-no-args, at-more-args, at-always, at-never, at-compare, at-both, at-either, at-empty, at-declare, at-declare-free, at-assign, at-eval, at-block, at-if-else, at-while, at-return, at-fail, at-no-stmts, at-more-stmts, at-braced, at-no-params, at-more-params, at-function, at-no-funs, at-more-funs}
 use Rattle.events.specs.Event.{first, count, stops}
 use Rattle.events.proofs.Nodes.{at-kind, moved, two-of, three-of}
+use Rattle.events.proofs.Counting.{Rest, Counts}
 
 -- ---- the first token of an expression
 
@@ -66,28 +67,17 @@ first-high {n = n} h f v = first-at (sum-high h) f (at-kind (n .kind) f refl (v 
 
 -- ---- the count of arguments
 
--- that of a is c and that of the tree at node j
-pub record Rest (l : List ℕ) (j c : ℕ) (a : Ast args) : Type 0 where
-  pub tree : Ast args
-  pub holds : Holds l j tree
-  pub same : count a ≡ c + count tree
-
-rest-at : {l : List ℕ} {j : ℕ} {n : Node} {a : Ast args} → Fetched l j n → At l args j nMoreArgs a → (n .first < j) × Rest l (n .first) 1 a
+fewer-arguments : {l : List ℕ} {j : ℕ} {n : Node} {a : Ast args} → Fetched l j n → At l args j nMoreArgs a → (n .first < j) × Rest count l (n .first) 1 a
 unfolding count
-rest-at f (at-more-args {x = x} r p q c e) = (omega (arith, f .first, r .first), record { tree = x; holds = moved (f .first ∙ r .first) c; same = omega arith })
+fewer-arguments f (at-more-args {x = x} r p q c e) = (omega (arith, f .first, r .first), record { tree = x; holds = moved (f .first ∙ r .first) c; same = omega arith })
 
-pub rest-step : {l : List ℕ} {j c : ℕ} {n : Node} {a : Ast args} → n .kind ≡ nMoreArgs → Fetched l j n → Rest l j c a → (n .first < j) × Rest l (n .first) (c + 1) a
-rest-step e f v =
-    let w = rest-at f (at-kind nMoreArgs f e (v .holds)) in
-    (w .0, record { tree = w .1 .tree; holds = w .1 .holds; same = omega (arith, v .same, w .1 .same) })
-
-none-at : {l : List ℕ} {j k : ℕ} {a : Ast args} → (k ≡ nMoreArgs → ⊥) → At l args j k a → count a ≡ 0
+no-arguments : {l : List ℕ} {j k : ℕ} {a : Ast args} → (k ≡ nMoreArgs → ⊥) → At l args j k a → count a ≡ 0
 unfolding count
-none-at never (at-no-args r) = refl
-none-at never (at-more-args r p q x y) = absurd (never refl)
+no-arguments never (at-no-args r) = refl
+no-arguments never (at-more-args r p q x y) = absurd (never refl)
 
-pub rest-none : {l : List ℕ} {j c : ℕ} {n : Node} {a : Ast args} → (n .kind ≡ nMoreArgs → ⊥) → Fetched l j n → Rest l j c a → c ≡ count a
-rest-none {n = n} never f v = omega (arith, v .same, none-at never (at-kind (n .kind) f refl (v .holds)))
+pub counts-arguments : Counts count nMoreArgs
+counts-arguments = record { shorter = fewer-arguments; empty = no-arguments }
 
 -- ---- a statement that can't reach its end
 

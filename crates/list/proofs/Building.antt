@@ -4,8 +4,7 @@ use mathlib.Core.Path.{_≡_, refl, sym, ap, _∙_, subst}
 use mathlib.Core.Bool.{Bool}
 use mathlib.Core.List.{List, [], _∷_}
 use native.Mathlib.Omega.{arith}
-use native.Mathlib.Decide.{decLt}
-use lib.ListN.{length, length-map, getD, take, replicate, getD-replicate, length-replicate, List·getD-eq-default}
+use lib.ListN.{length, length-map, getD, take, replicate, length-replicate}
 use lib.Seq.{length-sets}
 use Rattle.syntax.specs.Token.{kEnd}
 use Rattle.syntax.specs.Tree.{Tree, prog, width}
@@ -22,7 +21,6 @@ use Rattle.text_rules.specs.Names.{meant, meanings}
 use Rattle.text_rules.specs.Resolve.{mainOf, resolved}
 use Rattle.text_rules.specs.Answers.{storedHeads}
 use Rattle.text_rules.proofs.Functions.{length-heads}
-use Rattle.names.proofs.Meanings.{meant-at}
 use Rattle.checker.specs.Check.{Verdict, kinds, source, rulesOf, programOf}
 use Rattle.checker.specs.Analysis.{Known, Analyses}
 use Rattle.checker.specs.Analysis as N
@@ -43,13 +41,6 @@ use Rattle.list.specs.declared.Coded.the-variants.{Refused, Entries}
 use Rattle.list.proofs.Values.{small-values}
 
 -- ---- words that are all 0
-
-no-meaning : (j : ℕ) → getD {A = ℕ} (replicate 2049 0) j 0 ≡ 0
-no-meaning j = go (decLt j 2049)
-  where
-    go : Dec (j < 2049) → getD {A = ℕ} (replicate 2049 0) j 0 ≡ 0
-    go (yes h) = getD-replicate 2049 j 0 0 h
-    go (no h) = List·getD-eq-default {A = ℕ} (replicate 2049 0) 0 {n = j} (omega (arith, h, length-replicate {A = ℕ} 2049 0))
 
 pub slots-long : {l : List ℕ} → l ≡ replicate 2049 0 → length l ≡ 2049
 slots-long e = ap length e ∙ length-replicate {A = ℕ} 2049 0
@@ -84,9 +75,7 @@ module _ {text ps vs nodes : List ℕ} {root : ℕ} {heads : List ℕ} {h : ℕ}
   main-kept = rules 8
 
   means-so : (j : ℕ) → j < length vs → getD slots j 0 ≡ meant (λ i. 0) (meanings same (E.events (ast tree))) j
-  means-so j l =
-      u .known .kept .means j (omega (arith, l, most, length-replicate {A = ℕ} 2049 0))
-      ∙ meant-at (λ i. getD {A = ℕ} (replicate 2049 0) i 0) (λ i. 0) (meanings same (E.events (ast tree))) j (no-meaning j)
+  means-so j l = u .known .kept .means j (omega (arith, l, most))
 
   small-so : (j : ℕ) → getD vs j 0 < 2147483648
   small-so j = subst (λ (l : List ℕ). getD l j 0 < 2147483648) (u .valued) (small-values text (u .tokens) (u .lexes) j)
@@ -129,21 +118,21 @@ module _ {text ps vs nodes : List ℕ} {root : ℕ} {heads : List ℕ} {h : ℕ}
 
 -- ---- from the analysis
 
-pub refused-so : {text ks ps vs nodes events heads before slots code : List ℕ} {c p : ℕ} {v : Verdict} → Analyses text ks ps vs nodes events heads before slots (A.Refused c p) v
+pub refused-so : {text ks ps vs nodes events heads slots code : List ℕ} {c p : ℕ} {v : Verdict} → Analyses text ks ps vs nodes events heads slots (A.Refused c p) v
     → Translates text code (Refused c p) v
 refused-so N.rejects = refuses
 
 module _ {text ks ps vs nodes events heads slots : List ℕ} {n root e h : ℕ} where
-  pub translated : {before code : List ℕ} {v : Verdict} {r : ℕ} → Analyses text ks ps vs nodes events heads before slots (A.Fine n root e h) v → Codes text code r → Translates text code (Entries r) v
+  pub translated : {code : List ℕ} {v : Verdict} {r : ℕ} → Analyses text ks ps vs nodes events heads slots (A.Fine n root e h) v → Codes text code r → Translates text code (Entries r) v
   translated (N.has i k) c = has c
 
-  pub tokens-few : {before : List ℕ} {v : Verdict} → Analyses text ks ps vs nodes events heads before slots (A.Fine n root e h) v → n ≤ 2049
+  pub tokens-few : {v : Verdict} → Analyses text ks ps vs nodes events heads slots (A.Fine n root e h) v → n ≤ 2049
   tokens-few (N.has i k) = few-tokens (record { is = i })
 
-  pub understood : {before : List ℕ} {v : Verdict} → Analyses text ks ps vs nodes events heads before slots (A.Fine n root e h) v → before ≡ replicate 2049 0
+  pub understood : {v : Verdict} → Analyses text ks ps vs nodes events heads slots (A.Fine n root e h) v
       → length ks ≡ 2049 → length ps ≡ 2049 → length vs ≡ 2049 → 2049 ≤ length slots → 8192 ≤ length heads
       → Understood text (take n ps) (take n vs) nodes root heads h slots
-  understood {before} (N.has i k) z a b c d f =
+  understood (N.has i k) a b c d f =
       let x : Into text ks ps vs n = record { is = i } in
       let w = few-tokens x in
       let q : kinds (stored n ks ps vs) ≡ take n ks = stored-kinds n ks ps vs (omega (arith, w, a)) in
@@ -158,6 +147,5 @@ module _ {text ks ps vs nodes events heads slots : List ℕ} {n root e h : ℕ} 
         count = e;
         named = d;
         functions = f;
-        known = subst (λ (l : List ℕ). Known (source text (kinds (stored n ks ps vs)) (take n ps) (take n vs)) nodes events heads l slots root e h) z
-            (subst (λ (l : List ℕ). Known (source text l (take n ps) (take n vs)) nodes events heads before slots root e h) (sym q) k);
+        known = subst (λ (l : List ℕ). Known (source text l (take n ps) (take n vs)) nodes events heads slots root e h) (sym q) k;
       }

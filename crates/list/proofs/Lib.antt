@@ -1,4 +1,5 @@
 -- Theorems of list.
+pub mod Sure
 pub mod Promises
 pub mod Examples
 pub mod Grounds

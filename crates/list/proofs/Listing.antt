@@ -14,11 +14,12 @@ use Rattle.checker.specs.Check as C
 use Rattle.checker.specs.Check.{Verdict, checked}
 use Rattle.semantics.specs.Run.{numbers}
 use Rattle.semantics.specs.Search as S
-use Rattle.semantics.specs.Search.{to, inUse}
+use Rattle.semantics.specs.Search.{known, work, to, inUse}
 use Rattle.list.specs.List.{jobOf, ground, Left, answering, places, list}
 use Rattle.list.specs.Parts.{leaves}
 use Rattle.list.specs.Code.{Codes, Translates, refuses, has, Searches}
 use Rattle.list.proofs.Values.{neither}
+use Rattle.list.proofs.Sure.{never-stuck}
 use Rattle.list.specs.declared.Listed.{Listed}
 use Rattle.list.specs.declared.Listed.the-variants as L
 use Rattle.list.specs.declared.Coded.the-variants.{Refused, Entries}
@@ -83,7 +84,7 @@ module _ (text : List ℕ) (low high : ℤ) (steps skip budget : ℕ) (rows : Li
     list-searched {code} {n} {left} t s = go (checked text) refl t
       where
         go : (v : Verdict) → v ≡ checked text → Translates text code (Entries n) v → left ≡ list text low high steps skip budget rows scratch
-        go v e (has c) = s .is text (c .placed) ∙ list-checked v e
+        go v e (has c) = s .is text (c .placed) (never-stuck text (sym e) known work steps) ∙ list-checked v e
 
 pub codes-of : {text code : List ℕ} {n : ℕ} {v : Verdict} → Translates text code (Entries n) v → Codes text code n
 codes-of (has c) = c

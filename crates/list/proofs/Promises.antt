@@ -15,7 +15,7 @@ use Rattle.checker.specs.Check.{Verdict, checked}
 use Rattle.semantics.specs.Run.{Row}
 use Rattle.semantics.specs.Plans.{plans}
 use Rattle.semantics.specs.Search as S
-use Rattle.semantics.specs.Search.{to, inUse}
+use Rattle.semantics.specs.Search.{known, work, to, inUse}
 use Rattle.semantics.specs.Demand.{In32}
 use Rattle.semantics.specs.Promise.{Promised}
 use Rattle.semantics.proofs.Theorems.{plan-list, plan-list-unique, promise, promise-unique, inUse-sound}
@@ -26,6 +26,7 @@ use Rattle.simulation.proofs.Listing.{placed-lists}
 use Rattle.simulation.proofs.First.{taken-back}
 use Rattle.list.specs.List.{program, jobOf, places, Answer, refused, listed, Left, ground, refuses, lists, answering, list}
 use Rattle.list.specs.Promise.{answerWith, Keeps}
+use Rattle.list.proofs.Sure.{never-stuck}
 
 -- ---- a window of 32 bits
 
@@ -87,7 +88,7 @@ module _ (text : List ℕ) (low high : ℤ) (steps skip budget : ℕ) (rows : Li
           coded = placed (program text);
           searches = λ c p. record {
             enough = most-turns c steps;
-            gives = λ k n l m. placed-lists inUse j c p skip (places rows) budget k n l m;
+            gives = λ k n l m. placed-lists inUse j c p (never-stuck text v known work steps) skip (places rows) budget k n l m;
             back = λ earlier p q w. taken-back inUse (to low high) c steps w;
           };
         }

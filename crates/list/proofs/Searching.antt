@@ -4,8 +4,9 @@ use mathlib.Core.Path.{_≡_, refl, sym, ap, _∙_}
 use mathlib.Core.List.{List}
 use lib.ListN.{length, replicate}
 use lib.IntN.{ℤ}
+use Rattle.semantics.specs.Does.{does, Sure}
 use Rattle.semantics.specs.Search as S
-use Rattle.semantics.specs.Search.{to, inUse}
+use Rattle.semantics.specs.Search.{known, work, to, inUse}
 use Rattle.simulation.specs.Words.{codeIn}
 use Rattle.simulation.specs.Placed.{Placed}
 use Rattle.settings.specs.Rows.{sheet}
@@ -26,11 +27,11 @@ module _ (code : List ℕ) (n : ℕ) (low high : ℤ) (steps skip budget : ℕ) 
       → Searches code n low high steps skip budget rows scratch (leaves r rows′ scratch′)
   searched l e z = record { is = by }
     where
-      by : (text : List ℕ) → Placed (codeIn code n) (program text) → leaves r rows′ scratch′ ≡ lists rows scratch (S.listed inUse (jobOf text low high steps) skip (length rows / 10) budget)
-      by text p =
+      by : (text : List ℕ) → Placed (codeIn code n) (program text) → Sure (does known work steps (program text)) → leaves r rows′ scratch′ ≡ lists rows scratch (S.listed inUse (jobOf text low high steps) skip (length rows / 10) budget)
+      by text p u =
           let x = loop.answerOf rows′ a in
           let k : answerOf r ≡ listed (length (x .rows)) (x .moves) (x .close) = e ∙ ap (λ (m : ℕ). listed m (a .moves) (closeOf (a .ending))) (sym (rows-length rows′ (a .written))) in
           ap (λ (b : Answer). left b rows′ scratch′) k
           ∙ ap (λ (s : List ℤ). left (listed (length (x .rows)) (x .moves) (x .close)) s scratch′) (l .sheet)
           ∙ ap (left (listed (length (x .rows)) (x .moves) (x .close)) (sheet rows (x .rows))) z
-          ∙ ap (lists rows scratch) (l .is (jobOf text low high steps) p refl refl)
+          ∙ ap (lists rows scratch) (l .is (jobOf text low high steps) p u refl refl)

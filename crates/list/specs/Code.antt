@@ -2,7 +2,7 @@
 use Prim.Native.Nat.{ℕ, _+_, _*_, _≤_, _<_}
 use mathlib.Core.Path.{_≡_}
 use mathlib.Core.List.{List}
-use lib.ListN.{length, replicate}
+use lib.ListN.{length}
 use lib.IntN.{ℤ}
 use Rattle.lexer.specs.Lex as L
 use Rattle.lexer.specs.Lex.{Token, lexed}
@@ -12,13 +12,14 @@ use Rattle.checker.specs.Sizes.{TOKENS, HEADS}
 use Rattle.checker.specs.Analysis.{Known}
 use Rattle.simulation.specs.Words.{codeIn}
 use Rattle.simulation.specs.Placed.{Placed}
+use Rattle.semantics.specs.Does.{does, Sure}
 use Rattle.semantics.specs.Search as S
-use Rattle.semantics.specs.Search.{inUse}
+use Rattle.semantics.specs.Search.{known, work, inUse}
 use Rattle.list.specs.List.{program, jobOf, Left, lists, places as placesIn}
 use Rattle.list.specs.declared.Coded.{Coded}
 use Rattle.list.specs.declared.Coded.the-variants.{Refused, Entries}
 
--- an accepted text: ps and vs are the places and values of its tokens, its tree stands at node root, its h functions in heads, and what each token means in slots, which held only zeros
+-- an accepted text: ps and vs are the places and values of its tokens, its tree stands at node root, its h functions in heads, and what each token means in slots
 pub record Understood (text ps vs nodes : List ℕ) (root : ℕ) (heads : List ℕ) (h : ℕ) (slots : List ℕ) : Type 0 where
   pub tokens : List Token
   pub lexes : lexed text ≡ L.tokens tokens
@@ -30,7 +31,7 @@ pub record Understood (text ps vs nodes : List ℕ) (root : ℕ) (heads : List �
   pub count : ℕ
   pub named : TOKENS ≤ length slots
   pub functions : HEADS ≤ length heads
-  pub known : Known (source text (kinds tokens) ps vs) nodes events heads (replicate TOKENS 0) slots root count h
+  pub known : Known (source text (kinds tokens) ps vs) nodes events heads slots root count h
 
 -- n entries in these words are the code of the text's program
 pub record Codes (text code : List ℕ) (n : ℕ) : Type 0 where
@@ -43,6 +44,6 @@ pub data Translates (text code : List ℕ) : Coded → Verdict → Type 0 where
   refuses : {n p : ℕ} → Translates text code (Refused n p) (refused n p)
   has : {n : ℕ} → Codes text code n → Translates text code (Entries n) accepted
 
--- on the code of any text, what is answered and left is what list answers and leaves for it
+-- on the code of any text of which no run reads a variable that holds nothing, what is answered and left is what list answers and leaves for it
 pub record Searches (code : List ℕ) (n : ℕ) (low high : ℤ) (steps skip budget : ℕ) (rows : List ℤ) (scratch : List ℕ) (left : Left) : Type 0 where
-  pub is : (text : List ℕ) → Placed (codeIn code n) (program text) → left ≡ lists rows scratch (S.listed inUse (jobOf text low high steps) skip (placesIn rows) budget)
+  pub is : (text : List ℕ) → Placed (codeIn code n) (program text) → Sure (does known work steps (program text)) → left ≡ lists rows scratch (S.listed inUse (jobOf text low high steps) skip (placesIn rows) budget)

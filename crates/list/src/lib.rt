@@ -121,7 +121,7 @@ fn translate(
     slots: &mut [u32],
     code: &mut [u32],
 ) -> Coded
-    requires { ⌜ Slices (now kinds) (now places) (now values) (now nodes) (now events) (now heads) (now scope) × (now slots ≡ replicate 2049 0) × (length (now code) ≡ 4120) ⌝ }
+    requires { ⌜ Slices (now kinds) (now places) (now values) (now nodes) (now events) (now heads) (now scope) (now slots) × (length (now code) ≡ 4120) ⌝ }
     ensures { λ r. ⌜ Translates (now (text .entry)) (now (code .exit)) r (checked (now (text .entry))) ⌝ }
 {
     let analysed = checker::analyse(

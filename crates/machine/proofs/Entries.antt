@@ -7,7 +7,6 @@ use Prim.Native.Nat.{ℕ, zero, suc, _+_, _-_, _*_, _/_, _%_, _≤_, _<_}
 use native.Mathlib.Nat.{eq-or-lt-of-le}
 use native.Mathlib.Omega.{arith}
 use lib.ListN.{getD, List·getD-eq-default}
-use lib.IntN.{pos}
 use Rattle.semantics.specs.Program.{slot}
 use Rattle.semantics.specs.Search as search
 use Rattle.semantics.specs.Search.{known}
@@ -42,17 +41,17 @@ kind-cmp : (w k : ℕ) → 7 ≤ k → k < 13 → entryOf k w ≡ act (Act.compa
 unfolding entryOf
 kind-cmp w k a b = all-from (λ k. entryOf k w ≡ act (Act.compare (comparison (k - 7)) w)) 6 7 k a b (refl, (refl, (refl, (refl, (refl, (refl, tt))))))
 
-kind-none : (w k : ℕ) → 24 < k → entryOf k w ≡ act Act.fail
+kind-none : (w k : ℕ) → 23 < k → entryOf k w ≡ act Act.fail
 unfolding entryOf
 kind-none w k h = List·getD-eq-default (kinds w) (act Act.fail) {n = k} h
 
 up : {lo k : ℕ} → lo ≤ k → (k ≡ lo → ⊥) → suc lo ≤ k
 up {lo} {k} a b = omega arith
 
--- a kind from 13 on that is none of the twelve
+-- a kind from 13 on that is none of the eleven
 pub past-all : (k : ℕ) → 13 ≤ k → (k ≡ 13 → ⊥) → (k ≡ 14 → ⊥) → (k ≡ 15 → ⊥) → (k ≡ 16 → ⊥) → (k ≡ 17 → ⊥) → (k ≡ 18 → ⊥) → (k ≡ 19 → ⊥) → (k ≡ 20 → ⊥) → (k ≡ 21 → ⊥) → (k ≡ 22 → ⊥)
-    → (k ≡ 23 → ⊥) → (k ≡ 24 → ⊥) → 24 < k
-past-all k b c d e f g h i j l m n o = up (up (up (up (up (up (up (up (up (up (up (up b c) d) e) f) g) h) i) j) l) m) n) o
+    → (k ≡ 23 → ⊥) → 23 < k
+past-all k b c d e f g h i j l m n = up (up (up (up (up (up (up (up (up (up (up b c) d) e) f) g) h) i) j) l) m) n
 
 -- a jump made or not
 pub land-over : (o b : Bool) (w i : ℕ) → Bool·beq b o ≡ true → landing o b w (suc i) ≡ i + 1 + w
@@ -117,7 +116,7 @@ module _ (ws : List ℕ) (size : ℕ) (m : List ℕ) (r : Run) where
     unfolding entryOf
     adv-fail h = adv-at 0 (omega arith)
 
-    pub adv-big : 24 < K → goes ≡ Doing.failed
+    pub adv-big : 23 < K → goes ≡ Doing.failed
     adv-big h = adv _ (kind-none W K h)
 
     next-pc : suc (r .pc) ≡ r .pc + 1
@@ -204,26 +203,22 @@ module _ (ws : List ℕ) (size : ℕ) (m : List ℕ) (r : Run) where
     unfolding entryOf
     adv-begin e h = goes-on Doing.step 1 _ (r .pc + 1) (r .flag) h next-pc (adv-at 20 e)
 
-    pub adv-clear : K ≡ 21 → (m₂ : List ℕ) (r₂ : Run) → Goes (λ x. x) 0 (storing m r (W % 16) (known (pos 0))) m (r .nodes) m₂ r₂ → Goes Doing.step 1 goes m (r .nodes) m₂ r₂
+    pub adv-ask : K ≡ 21 → (m₂ : List ℕ) (k : ℕ) (r₂ : Run) → Asked (storing m r (W % 16)) m (r .nodes) m₂ k r₂ → Freed goes m (r .nodes) m₂ k r₂
     unfolding entryOf
-    adv-clear e m₂ r₂ p = record { is = adv-at 21 e ∙ ap Doing.step (p .is); ready = p .ready; kept = p .kept; more = p .more; grows = omega (arith, p .grows); formed = p .formed }
+    adv-ask e m₂ k r₂ p = record { next = storing m r (W % 16); is = adv-at 21 e; asked = p }
 
-    pub adv-ask : K ≡ 22 → (m₂ : List ℕ) (k : ℕ) (r₂ : Run) → Asked (storing m r (W % 16)) m (r .nodes) m₂ k r₂ → Freed goes m (r .nodes) m₂ k r₂
+    pub adv-store : K ≡ 22 → acts (codeIn ws size) m r (Act.store (slot (W % 16))) ≡ goes
     unfolding entryOf
-    adv-ask e m₂ k r₂ p = record { next = storing m r (W % 16); is = adv-at 22 e; asked = p }
+    adv-store e = sym (adv-at 22 e)
 
-    pub adv-store : K ≡ 23 → acts (codeIn ws size) m r (Act.store (slot (W % 16))) ≡ goes
+    pub adv-return : K ≡ 23 → acts (codeIn ws size) m r Act.return ≡ goes
     unfolding entryOf
-    adv-store e = sym (adv-at 23 e)
+    adv-return e = sym (adv-at 23 e)
 
-    pub adv-return : K ≡ 24 → acts (codeIn ws size) m r Act.return ≡ goes
-    unfolding entryOf
-    adv-return e = sym (adv-at 24 e)
-
-    pub adv-returned : K ≡ 24 → r .depth ≡ 0 → (v : Value) (top : ℕ) → Taking (codeIn ws size) m r (r .pc) v top → Gave goes m (r .nodes) m v
+    pub adv-returned : K ≡ 23 → r .depth ≡ 0 → (v : Value) (top : ℕ) → Taking (codeIn ws size) m r (r .pc) v top → Gave goes m (r .nodes) m v
     unfolding entryOf callers
     adv-returned e d v top t = record {
-      is = adv-at 24 e ∙ ap (λ u. leaving known search.work (codeIn ws size) cs (u .value) (r .flag) (32 - r .depth)) (t .is (meaning (nodesIn m (r .nodes))) (reads (nodesIn m (r .nodes))))
+      is = adv-at 23 e ∙ ap (λ u. leaving known search.work (codeIn ws size) cs (u .value) (r .flag) (32 - r .depth)) (t .is (meaning (nodesIn m (r .nodes))) (reads (nodesIn m (r .nodes))))
           ∙ ap (λ (k : ℕ). leaving known search.work (codeIn ws size) (callers (meaning (nodesIn m (r .nodes))) m k (r .base)) (meaning (nodesIn m (r .nodes)) (cellOf v)) (r .flag) (32 - k)) d;
       same = refl;
       sized = t .sized;

@@ -7,12 +7,10 @@ use Prim.Native.Nat.{ℕ, zero, suc, _+_, _-_, _*_, _≤_, _<_}
 use native.Mathlib.Nat.{eq-or-lt-of-le}
 use native.Mathlib.Omega.{arith}
 use lib.ListN.{length, getD}
-use lib.IntN.{pos}
 use Rattle.semantics.specs.Int.{Op}
 use Rattle.semantics.specs.Program.{slot}
 use Rattle.semantics.specs.Does.{store}
 use Rattle.semantics.specs.Search as search
-use Rattle.semantics.specs.Search.{known}
 use Rattle.simulation.specs.Code.{Act}
 use Rattle.simulation.specs.Machine.{machine, Doing}
 use Rattle.simulation.specs.Nodes as nodes
@@ -23,7 +21,7 @@ use Rattle.machine.specs.Layout.{frameCells, framePlace, variablePlace, 
 use Rattle.machine.specs.Memory.{Sym, cellAs, cellAt, nodeAt, nodesIn, temps, frameAt, callers, machineAt}
 use Rattle.machine.specs.Contracts.{cellOf, Room, Ready, Other, Kept, Put, Noded, Worked, Formed, Reads, Taking, Paired, Goes, acts, storing, Asked}
 use Rattle.machine.specs.declared.Value.{Value}
-use Rattle.machine.specs.declared.Value.the-variants.{Known, Open}
+use Rattle.machine.specs.declared.Value.the-variants.{Open}
 use Rattle.machine.specs.declared.Run.{Run}
 use Rattle.machine.proofs.Tables.{Same, nodes-length, nodes-kept, meaning-kept, within-more, frame-cell, temp-cell, stacked-same, frame-same, temps-same, callers-same, room-same, room-less}
 use Rattle.machine.proofs.Operands.{kept-node}
@@ -221,12 +219,6 @@ module _ (ws : List ℕ) (size : ℕ) (m m₂ : List ℕ) (r : Run) (a : ℕ) (v
     where
       kept : Kept m m₂ (r .nodes)
       kept = kept-low (r .nodes) (p .other) (omega (arith, ready .deep))
-
-pub cleared : (m m₂ : List ℕ) (r : Run) (a : ℕ) → Ready m r → a < 16 → length m₂ ≡ length m → Put m m₂ (variablePlace (r .depth) a) (nodes.Known (pos 0))
-    → Goes (λ x. x) 0 (storing m r a (known (pos 0))) m (r .nodes) m₂ (record { pc = r .pc + 1; flag = r .flag; base = r .base; top = r .top; depth = r .depth; nodes = r .nodes })
-cleared m m₂ r a ready l len p = varied-goes m m m₂ r (r .top) (r .nodes) a (nodes.Known (pos 0)) ready (ready .low) (omega arith) (omega arith) (ready .few) len l
-    (other-none m _ _) p tt (λ x. x) _ refl
-    (ap (storing m r a) (sym (reads (nodesIn m₂ (r .nodes)) (pos 0))))
 
 last-unknown : (m : List ℕ) (n k : ℕ) → nodeAt m n ≡ unknown k → meaning (nodesIn m (n + 1)) (nodes.Open n) ≡ search.unknown k
 unfolding nodesIn

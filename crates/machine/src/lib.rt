@@ -2,7 +2,6 @@
 ghost use mathlib.Core.Path.{_≡_};
 ghost use Prim.Native.Nat.{suc, _+_, _-_, _*_, _<_, _≤_};
 ghost use lib.ListN.{length, getD};
-ghost use lib.IntN.{pos};
 ghost use Rattle.semantics.specs.Program.{slot};
 ghost use Rattle.semantics.specs.Search.{known, work as workS};
 ghost use Rattle.simulation.specs.Machine.{Doing, extent as extentS, landing as landingS, advance as advanceS};
@@ -280,28 +279,6 @@ fn store(code: &[u32], size: usize, mem: &mut [u32], run: Run, a: Address) -> Ru
     }
 }
 
-// A declaration: the variable is 0.
-fn clear(mem: &mut [u32], run: Run, a: Address) -> Run
-    requires { ⌜ Ready (now mem) run × (a .0 < frameCells) × (run .pc < 65536) ⌝ }
-    ensures { λ r. ⌜ Goes (λ x. x) 0 (storing (now (mem .entry)) run (a .0) (known (pos 0))) (now (mem .entry)) (run .nodes) (now (mem .exit)) r ⌝ }
-{
-    put(
-        mem,
-        layout::FRAME * run.depth + layout::CELL * a.0,
-        Cell {
-            value: Value::Known(0),
-        },
-    );
-    Run {
-        pc: run.pc + 1,
-        flag: run.flag,
-        base: run.base,
-        top: run.top,
-        depth: run.depth,
-        nodes: run.nodes,
-    }
-}
-
 // A free declaration: the variable is the unknown k.
 fn ask(mem: &mut [u32], run: Run, a: Address, k: u32) -> Run
     requires { ⌜ Ready (now mem) run × (a .0 < frameCells) × (run .pc < 65536) × Room (now mem) (run .nodes + 1) ⌝ }
@@ -350,7 +327,7 @@ fn leave(code: &[u32], size: usize, mem: &mut [u32], run: Run) -> Run
     }
 }
 
-// Sixteen cells that are 0.
+// Sixteen cells that are 0. No run of an accepted text reads one before a value is stored; but none may name a node that is not there.
 fn blank(mem: &mut [u32], at: usize)
     requires { ⌜ at + frameWords ≤ length (now mem) ⌝ }
     ensures { λ _. ⌜ Blank (now (mem .entry)) (now (mem .exit)) at frameCells ⌝ }
@@ -536,7 +513,6 @@ pub fn advance(code: &[u32], size: usize, mem: &mut [u32], run: Run, k: u32) -> 
         entry::SKIP => Did::Silent(moved(run, run.pc + 1 + w)),
         entry::AGAIN => Did::Step(moved(run, ints::monus(run.pc, w))),
         entry::BEGIN => Did::Step(moved(run, run.pc + 1)),
-        entry::CLEAR => Did::Step(clear(mem, run, Address(w % layout::CELLS))),
         entry::ASK => Did::Free(ask(mem, run, Address(w % layout::CELLS), k)),
         entry::STORE => Did::Silent(store(code, size, mem, run, Address(w % layout::CELLS))),
         entry::RETURN => {

@@ -82,8 +82,8 @@ same-itself (y ∷ l) = rw (eq-eqb y y refl) (same-itself l)
 
 -- ---- what the analysis of an accepted text gives
 
-module _ {text ks ps vs nodes events heads before slots : List ℕ} {n root e h : ℕ} (x : Into text ks ps vs n) (room : n ≤ length ks)
-    (k : Known (source text (take n ks) (take n ps) (take n vs)) nodes events heads before slots root e h) where
+module _ {text ks ps vs nodes events heads slots : List ℕ} {n root e h : ℕ} (x : Into text ks ps vs n) (room : n ≤ length ks)
+    (k : Known (source text (take n ks) (take n ps) (take n vs)) nodes events heads slots root e h) where
   -- as many tokens as the tree has, and the end
   wide : length (take n ks) ≡ width (k .tree) + 1
   wide = ap length (kept (take n ks) (token-list x room) (k .parses) .tokens) ∙ onto-length (k .tree) (kEnd ∷ [])

@@ -35,8 +35,8 @@ other-offset {B} {off} {off′} {before} {after} {k} f r = record { all = λ g b
     two : (j : ℕ) → (g : ℕ) × B g × (getD after j 0 ≡ off g) → (g : ℕ) × B g × (getD after j 0 ≡ off′ g)
     two j w = (w .0, w .1, w .2 ∙ f (w .0) (w .1))
 
-module _ {text ks ps vs nodes events heads before slots : List ℕ} {n root e h : ℕ} (x : Into text ks ps vs n) (inks : n ≤ length ks) (inps : n ≤ length ps) (invs : n ≤ length vs)
-    (k : Known (source text (take n ks) (take n ps) (take n vs)) nodes events heads before slots root e h) where
+module _ {text ks ps vs nodes events heads slots : List ℕ} {n root e h : ℕ} (x : Into text ks ps vs n) (inks : n ≤ length ks) (inps : n ≤ length ps) (invs : n ≤ length vs)
+    (k : Known (source text (take n ks) (take n ps) (take n vs)) nodes events heads slots root e h) where
   -- what is written, with these places and values of the tokens
   abbrev Noted : (ps vs b a : List ℕ) (c : ℕ) → Type 0
   Noted qs ws b a c =
@@ -63,19 +63,19 @@ module _ {text ks ps vs nodes events heads before slots : List ℕ} {n root e h 
 
 -- ---- from the analysis
 
-module _ {text ks ps vs nodes events heads before slots : List ℕ} where
-  pub refused-so : {c p : ℕ} {v : Verdict} {b a : List ℕ} → a ≡ b → Analyses text ks ps vs nodes events heads before slots (A.Refused c p) v → Answers text b a (Refused c p) v
+module _ {text ks ps vs nodes events heads slots : List ℕ} where
+  pub refused-so : {c p : ℕ} {v : Verdict} {b a : List ℕ} → a ≡ b → Analyses text ks ps vs nodes events heads slots (A.Refused c p) v → Answers text b a (Refused c p) v
   refused-so e N.rejects = refuses e
 
   module _ {n root e h : ℕ} where
-    pub tokens-few : {v : Verdict} → Analyses text ks ps vs nodes events heads before slots (A.Fine n root e h) v → n ≤ TOKENS
+    pub tokens-few : {v : Verdict} → Analyses text ks ps vs nodes events heads slots (A.Fine n root e h) v → n ≤ TOKENS
     tokens-few (N.has i k) = few-tokens (record { is = i })
 
-    pub fair-so : {v : Verdict} → Analyses text ks ps vs nodes events heads before slots (A.Fine n root e h) v → length ks ≡ TOKENS → length events ≡ EVENTS → HEADS ≤ length heads
+    pub fair-so : {v : Verdict} → Analyses text ks ps vs nodes events heads slots (A.Fine n root e h) v → length ks ≡ TOKENS → length events ≡ EVENTS → HEADS ≤ length heads
         → Fair text (take n ps) (take n vs) events e heads h
     fair-so (N.has i k) p q r = let x : Into text ks ps vs n = record { is = i } in fair x (omega (arith, p, few-tokens x)) k (omega (arith, q)) r
 
-    pub counted-so : {v : Verdict} {b a : List ℕ} {c : ℕ} → Analyses text ks ps vs nodes events heads before slots (A.Fine n root e h) v → length ks ≡ TOKENS → length ps ≡ TOKENS → length vs ≡ TOKENS
+    pub counted-so : {v : Verdict} {b a : List ℕ} {c : ℕ} → Analyses text ks ps vs nodes events heads slots (A.Fine n root e h) v → length ks ≡ TOKENS → length ps ≡ TOKENS → length vs ≡ TOKENS
         → Lists text (take n ps) (take n vs) events e heads h b a c → Answers text b a (Count c) v
     counted-so (N.has i k) p q r l =
         let x : Into text ks ps vs n = record { is = i } in

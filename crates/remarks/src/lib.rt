@@ -207,7 +207,7 @@ fn remark(
     slots: &mut [u32],
     offsets: &mut [u16],
 ) -> Answer
-    requires { ⌜ Slices (now kinds) (now places) (now values) (now nodes) (now events) (now heads) (now scope) × (16 ≤ length (now offsets)) ⌝ }
+    requires { ⌜ Slices (now kinds) (now places) (now values) (now nodes) (now events) (now heads) (now scope) (now slots) × (16 ≤ length (now offsets)) ⌝ }
     ensures { λ r. ⌜ Answers (now (text .entry)) (now (offsets .entry)) (now (offsets .exit)) r (checked (now (text .entry))) ⌝ }
 {
     let analysed = checker::analyse(

@@ -11,6 +11,7 @@ use Rattle.semantics.specs.Run.{Row, Job, Choice, meaning, each}
 use Rattle.semantics.specs.Search.{Solver, Answer}
 use Rattle.semantics.specs.Demand.{RowOf, PlanList}
 use Rattle.semantics.specs.Promise.{Promised, atWhole, atCut, atFull, atSpent}
+use Rattle.semantics.proofs.Frames.{length-frame}
 use Rattle.semantics.proofs.Keep.{All, anil, acons}
 use Rattle.semantics.proofs.Members.{member-all, run-length}
 use Rattle.settings.specs.Rows.{wordsOf}
@@ -67,14 +68,8 @@ frame-zeros (suc n) (v ∷ vs) h = ap (λ (l : List ℤ). v ∷ l) (frame-zeros 
 words-same : (r : Row) → Few r → wordsOf r ≡ K.wordsOf r
 words-same r h = ap (λ (l : List ℤ). r .result ∷ pos (length (r .values)) ∷ l) (frame-zeros 8 (r .values) h)
 
-frame-length : (n : ℕ) (vs : List ℤ) → length (frame (pos 0) n vs) ≡ n
-unfolding frame
-frame-length zero vs = refl
-frame-length (suc n) [] = ap suc (frame-length n [])
-frame-length (suc n) (v ∷ vs) = ap suc (frame-length n vs)
-
 ten-words : (r : Row) (rest : List ℤ) → drop 10 (wordsOf r ++ rest) ≡ rest
-ten-words r rest = ap (λ (n : ℕ). drop n (wordsOf r ++ rest)) (sym (ap (λ (n : ℕ). suc (suc n)) (frame-length 8 (r .values)))) ∙ drop-append-seam (wordsOf r) rest
+ten-words r rest = ap (λ (n : ℕ). drop n (wordsOf r ++ rest)) (sym (ap (λ (n : ℕ). suc (suc n)) (length-frame (pos 0) 8 (r .values)))) ∙ drop-append-seam (wordsOf r) rest
 
 pub rows-back : {rs : List Row} → All Few rs → (rest : List ℤ) → rowsFrom (length rs) (each wordsOf rs ++ rest) ≡ rs
 unfolding rowsFrom each

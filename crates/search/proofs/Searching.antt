@@ -6,6 +6,7 @@ use mathlib.Core.Bool.{false}
 use mathlib.Core.List.{List}
 use lib.ListN.{length}
 use lib.IntN.{ℤ}
+use Rattle.semantics.specs.Does.{does, Sure}
 use Rattle.semantics.specs.Run.{Window, Job}
 use Rattle.semantics.specs.Search.{known, work, inUse, listed}
 use Rattle.simulation.specs.Code.{Code}
@@ -32,9 +33,9 @@ use Rattle.search.specs.declared.Then.the-variants.{On, Over}
 abbrev pub first : ℕ → ℕ → ℕ → Tally
 first skip room budget = record { budget = budget; skip = skip; room = room; written = 0; moves = 0; cut = false }
 
--- between two paths: the answer to every job that the code is, the rows so far, and what was counted
+-- between two paths: the answer to every job that the code is and that has no stuck run, the rows so far, and what was counted
 pub record Between (c : Code) (window : Window) (limit skip room budget : ℕ) (m₀ : List ℕ) (rows₀ : List ℤ) (m : List ℕ) (rows : List ℤ) (forced : ℕ) (t : Tally) : Type 0 where
-  pub opens : (j : Job) → Placed c (j .program) → j .window ≡ window → j .steps ≡ limit
+  pub opens : (j : Job) → Placed c (j .program) → Sure (does known work (j .steps) (j .program)) → j .window ≡ window → j .steps ≡ limit
       → Opens (listed inUse j skip room budget) (treeOf inUse window limit (j .program)) (startOf m rows forced t)
   pub rowed : Rowed rows₀ rows 0 (t .written)
   pub places : t .written + t .room ≡ room
@@ -51,7 +52,7 @@ module _ (c : Code) (window : Window) (limit skip room budget : ℕ) (m₀ : Lis
 
   pub between-first : Between c window limit skip room budget m₀ rows₀ m₀ rows₀ 0 (first skip room budget)
   between-first = record {
-    opens = λ j h p q. opens-first j p q;
+    opens = λ j h u p q. opens-first j p q;
     rowed = rowed-none rows₀ 0;
     places = omega arith;
     sum = omega arith;
@@ -64,15 +65,15 @@ module _ (c : Code) (window : Window) (limit skip room budget : ℕ) (m₀ : Lis
     between-fair l h = record { sum = omega (arith, b .sum, l); place = subst (λ (n : ℕ). 10 * n ≤ length rows) (sym (b .places)) (omega (arith, b .sheet, h)) }
 
     module _ (m′ : List ℕ) (rows′ : List ℤ) (r : Then) (h : Round c window limit m m′ rows rows′ forced t r) where
-      opens-next : (j : Job) → Placed c (j .program) → j .window ≡ window → j .steps ≡ limit
+      opens-next : (j : Job) → Placed c (j .program) → Sure (does known work (j .steps) (j .program)) → j .window ≡ window → j .steps ≡ limit
           → OpensNext (listed inUse j skip room budget) (treeOf inUse window limit (j .program)) (thenOf m′ rows′ r)
-      opens-next j placing p q =
+      opens-next j placing sure p q =
           let a = listed inUse j skip room budget in
           let tree = treeOf inUse window limit (j .program) in
           let k = kept-start c limit (outcomesIn m 0 forced) in
           subst (OpensNext a tree) (sym (h .is))
           (path-ok a tree inUse window c limit (most-turns c limit) (start known work c) (begins limit (outcomesIn m 0 forced)) (tallyOf rows t)
-          (leads-start a inUse window c limit (j .program) placing (startOf m rows forced t) (b .opens j placing p q)) k
+          (leads-start a inUse window c limit (j .program) placing (subst (λ (n : ℕ). Sure (does known work n (j .program))) q sure) (startOf m rows forced t) (b .opens j placing sure p q)) k
           (turns-le c limit (start known work c) (begins limit (outcomesIn m 0 forced)) k))
 
       fewer : Fewer (t .budget) (thenOf m′ rows′ r)

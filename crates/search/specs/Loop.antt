@@ -6,6 +6,7 @@ use mathlib.Core.List.{List}
 use mathlib.Core.Option.{Option, none, some}
 use lib.ListN.{getD}
 use lib.IntN.{ℤ}
+use Rattle.semantics.specs.Does.{does, Sure}
 use Rattle.semantics.specs.Run as run
 use Rattle.semantics.specs.Run.{Job}
 use Rattle.semantics.specs.Search.{known, work, inUse, Close, whole, cuts, full, spent, Answer, listed}
@@ -108,8 +109,8 @@ pub record Round (c : Code) (job : run.Window) (limit : ℕ) (m m′ : List ℕ)
 
 -- ---- the search
 
--- the answer to every job with this window and limit, whose program the code is; the slice holds its rows, and behind them what it held
+-- the answer to every job with this window and limit, whose program the code is, and of which no run reads a variable that holds nothing; the slice holds its rows, and behind them what it held
 pub record Lists (c : Code) (window : run.Window) (limit skip room budget : ℕ) (rows rows′ : List ℤ) (a : Answered) : Type 0 where
-  pub is : (j : Job) → Placed c (j .program) → j .window ≡ window → j .steps ≡ limit → answerOf rows′ a ≡ listed inUse j skip room budget
+  pub is : (j : Job) → Placed c (j .program) → Sure (does known work (j .steps) (j .program)) → j .window ≡ window → j .steps ≡ limit → answerOf rows′ a ≡ listed inUse j skip room budget
   pub sheet : rows′ ≡ sheet rows (answerOf rows′ a .rows)
   pub few : a .written ≤ room

@@ -9,7 +9,7 @@ use lib.IntN.{ℤ}
 use lib.Dec.{T, eqb, ltb, T-not}
 use lib.Signed.{ltZ}
 use Rattle.semantics.specs.Int.{Cmp}
-use Rattle.semantics.specs.Does.{Does, returned, failed, cut, step, free, test}
+use Rattle.semantics.specs.Does.{Does, returned, failed, cut, stuck, step, free, test}
 use Rattle.semantics.specs.Run.{Ending, returns, fails, cuts, Ran, noting, Choice}
 use Rattle.semantics.specs.Plans.{adding, belonging, smaller, sooner, before, insert, sorted}
 use Rattle.semantics.specs.Search.{Value, unknown, under}
@@ -34,6 +34,7 @@ unfoldable pub runs : ℕ → Does Value → List ℤ → Option Ran
 runs n (returned v) s = cond (sized n s) (some (record { tests = []; ending = returns (under s v) })) none
 runs n failed s = cond (sized n s) (some (record { tests = []; ending = fails })) none
 runs n cut s = cond (sized n s) (some (record { tests = []; ending = cuts })) none
+runs n stuck s = none
 runs n (step t) s = runs n t s
 runs n (free k) s = cond (longer n s) (runs (suc n) (k (unknown n)) s) none
 runs n (test c a b k) s = Option·map (noting (passes c a b s)) (runs n (k (passes c a b s)) s)
@@ -43,6 +44,7 @@ unfoldable pub ends : ℕ → Does Value → List (List ℤ) → List Choice
 ends n (returned v) ss = map (leaf (λ s. returns (under s v))) (keep (sized n) ss)
 ends n failed ss = map (leaf (λ s. fails)) (keep (sized n) ss)
 ends n cut ss = map (leaf (λ s. cuts)) (keep (sized n) ss)
+ends n stuck ss = []
 ends n (step t) ss = ends n t ss
 ends n (free k) ss = ends (suc n) (k (unknown n)) (keep (longer n) ss)
 ends n (test c a b k) ss = map (noted true) (ends n (k true) (keep (passes c a b) ss)) ++ map (noted false) (ends n (k false) (keep (λ s. not (passes c a b s)) ss))
@@ -117,6 +119,11 @@ among-leaf n e (s ∷ ss) = go (sized n s) (keep (sized n) ss) (among-leaf n e s
     go true m h = ap (λ r. leaf e s ∷ r) h
     go false m h = h
 
+among-stuck : (n : ℕ) (ss : List (List ℤ)) → among n stuck ss ≡ []
+unfolding belonging runs
+among-stuck n [] = refl
+among-stuck n (s ∷ ss) = among-stuck n ss
+
 among-free : (n : ℕ) (k : Value → Does Value) (ss : List (List ℤ)) → among n (free k) ss ≡ among (suc n) (k (unknown n)) (keep (longer n) ss)
 unfolding belonging keep runs
 among-free n k [] = refl
@@ -148,10 +155,11 @@ among-test n c a b k (s ∷ ss) = go (passes c a b s) (among n (test c a b k) ss
     go false l m p h = failed′ (runs n (k false) s) l (among n (k true) m) (among n (k false) p) h
 
 pub sorted-ends : (n : ℕ) (t : Does Value) (ss : List (List ℤ)) → Rising ss → sorted (among n t ss) ≡ ends n t ss
-unfolding ends runs
+unfolding ends runs sorted
 sorted-ends n (returned v) ss r = ap sorted (among-leaf n (λ s. returns (under s v)) ss) ∙ sorted-leaves (λ s. returns (under s v)) (ordered-keep (sized n) r)
 sorted-ends n failed ss r = ap sorted (among-leaf n (λ s. fails) ss) ∙ sorted-leaves (λ s. fails) (ordered-keep (sized n) r)
 sorted-ends n cut ss r = ap sorted (among-leaf n (λ s. cuts) ss) ∙ sorted-leaves (λ s. cuts) (ordered-keep (sized n) r)
+sorted-ends n stuck ss r = ap sorted (among-stuck n ss)
 sorted-ends n (step t) ss r = sorted-ends n t ss r
 sorted-ends n (free k) ss r = ap sorted (among-free n k ss) ∙ sorted-ends (suc n) (k (unknown n)) (keep (longer n) ss) (ordered-keep (longer n) r)
 sorted-ends n (test c a b k) ss r =

@@ -2,12 +2,13 @@
 use Prim.Native.Nat.{ℕ, zero, suc}
 use mathlib.Core.Path.{_≡_, refl}
 use mathlib.Core.Bool.{true}
+use mathlib.Core.Option.{none}
 use mathlib.Core.List.{List, [], _∷_, map}
 use lib.IntN.{ℤ, pos, negsuc}
 use Rattle.semantics.specs.Int.{add, mul, lt, eq, ne, arith, exact, wrap, low32, holds, eqZ}
 use Rattle.semantics.specs.Program.{Address, slot, Expr, number, name, op, call, Exprs, more, Cond, const, compare, or, Stmt, empty, declare, unknown, assign, block, if, while, return, fail, Stmts, end, next, Program}
 use Rattle.semantics.specs.Does.{within, does, enter, stmt, loop, cond, expr, frame}
-use Rattle.semantics.specs.Run.{Row, Job, each, numbers, clamp, counting}
+use Rattle.semantics.specs.Run.{run, Row, Job, meaning, each, numbers, clamp, counting}
 use Rattle.semantics.specs.Search.{to, inUse, Answer, Close, whole, cuts, full, spent, listed, answer, search, openly, probedOnce, moves, paths, probed, tried, settings, meets, narrowed, clipped, clip, decided, always, range, fitted, span, maxZ, minZ, all32, under, work}
 
 -- ---- how the texts are written here
@@ -176,7 +177,17 @@ further =
     ∷ asked (upto A 3) 0 1 0 [] spent 0
     ∷ []
 
--- ---- the proof
+-- int x; return x;
+abbrev unset : Program
+unset = main₁ (body₂ (declare a) (return (name a)))
+
+-- int i; i = 0; while (i < 9) { int x; if (i < 1) x = 5; else ; i = x; } return i; where x is declared again, it holds nothing again
+abbrev renewed : Program
+renewed = main₁ (next (declare a) (body₃ (assign a (num 0))
+    (while (compare lt (name a) (num 9)) (block (body₃ (declare b) (if (compare lt (name a) (num 1)) (assign b (num 5)) empty) (assign a (name b)))))
+    (return (name a))))
+
+-- ---- the proofs
 
 unfoldable pub given : Case → Answer
 given c = listed inUse (c .job) (c .skip) (c .room) (c .budget)
@@ -184,3 +195,8 @@ given c = listed inUse (c .job) (c .skip) (c .room) (c .budget)
 pub further-hold : map given further ≡ map (λ c. c .answer) further
 unfolding frees given listed answer search openly probedOnce moves paths probed tried settings meets narrowed clipped clip decided always range fitted span maxZ minZ all32 under work each numbers clamp counting within does enter stmt loop cond expr frame holds eqZ arith exact wrap low32
 further-hold = refl
+
+-- a program that reads what holds nothing has no run, whatever values are chosen
+pub reads-nothing : (vs : List ℤ) → map (λ p. run (meaning (upto p 0)) vs) (unset ∷ renewed ∷ []) ≡ none ∷ none ∷ []
+unfolding run meaning within does enter stmt loop cond expr frame holds
+reads-nothing vs = refl

@@ -2,15 +2,16 @@
 use Prim.Native.Nat.{ℕ, zero, suc, _≤_, _<_}
 use mathlib.Core.Path.{_≡_, refl, ap, fun-ext}
 use mathlib.Core.Bool.{Bool, true, false}
-use mathlib.Core.List.{List, [], _∷_}
+use mathlib.Core.Option.{Option, none, some}
+use mathlib.Core.List.{List, [], _∷_, map}
 use native.Mathlib.Omega.{arith}
 use lib.ListN.{getD}
-use lib.IntN.{ℤ, pos}
+use lib.IntN.{ℤ}
 use Rattle.semantics.specs.Int.{Op, Cmp, arith as arith32}
 use Rattle.semantics.specs.Program
 use Rattle.semantics.specs.Does
 use Rattle.semantics.specs.Program.{Expr, Exprs, Cond, const, compare, and, or, number, name, op, call, more, Stmt, Stmts, Program}
-use Rattle.semantics.specs.Does.{Does, returned, failed, cut, step, free, test, within, frame, expr, exprs, loop, stmt, stmts, enter, does, fetch, store}
+use Rattle.semantics.specs.Does.{Does, returned, failed, cut, stuck, step, free, test, within, Frame, frame, expr, exprs, loop, stmt, stmts, enter, does, fetch, store}
 use Rattle.semantics.specs.Run.{Job, meaning}
 use Rattle.semantics.specs.Search.{known, work as workOpen, openly}
 
@@ -63,23 +64,29 @@ module _ {X : Type 0} where
   unfolding within
   upto-test {L} {c} {a} {b} p = record { upto = λ l f h. ap (test c a b) (fun-ext (λ o. p o .upto l f h)) }
 
+  -- what a place holds, if it holds something
+  upto-held : {L : ℕ} (o : Option X) {k m : X → Does X} → ((v : X) → Upto L (k v) (m v))
+      → Upto L (elim o as (λ o. Does X) [ none ↦ stuck | some v ↦ k v ]) (elim o as (λ o. Does X) [ none ↦ stuck | some v ↦ m v ])
+  upto-held {L} none h = upto-same L stuck
+  upto-held (some v) h = h v
+
 module _ {X : Type 0} (num : ℤ → X) (work : Op → X → X → X) where
   module _ (L : ℕ) (call₁ call₂ : ℕ → List X → (X → Does X) → Does X)
       (calls : (K : ℕ) → K ≤ L → (g : ℕ) (vs : List X) (k m : X → Does X) → ((v : X) → Upto K (k v) (m v)) → Upto K (call₁ g vs k) (call₂ g vs m)) where
     mutual
       unfolding expr
 
-      expr-upto : (e : Expr) (f : List X) (K : ℕ) (k m : X → Does X) → K ≤ L → ((v : X) → Upto K (k v) (m v)) → Upto K (expr num work call₁ e f k) (expr num work call₂ e f m)
+      expr-upto : (e : Expr) (f : Frame X) (K : ℕ) (k m : X → Does X) → K ≤ L → ((v : X) → Upto K (k v) (m v)) → Upto K (expr num work call₁ e f k) (expr num work call₂ e f m)
       expr-upto (number z) f K k m l h = h (num z)
-      expr-upto (name a) f K k m l h = h (fetch (num (pos 0)) f a)
+      expr-upto (name a) f K k m l h = upto-held (fetch none f a) h
       expr-upto (op o a b) f K k m l h = expr-upto a f K _ _ l λ x. expr-upto b f K _ _ l λ y. upto-step (h (work o x y))
       expr-upto (call g es) f K k m l h = exprs-upto es f K _ _ l λ vs. calls K l g vs k m h
 
-      exprs-upto : (es : Exprs) (f : List X) (K : ℕ) (k m : List X → Does X) → K ≤ L → ((vs : List X) → Upto K (k vs) (m vs)) → Upto K (exprs num work call₁ es f k) (exprs num work call₂ es f m)
+      exprs-upto : (es : Exprs) (f : Frame X) (K : ℕ) (k m : List X → Does X) → K ≤ L → ((vs : List X) → Upto K (k vs) (m vs)) → Upto K (exprs num work call₁ es f k) (exprs num work call₂ es f m)
       exprs-upto Exprs.none f K k m l h = h []
       exprs-upto (more e es) f K k m l h = expr-upto e f K _ _ l λ v. exprs-upto es f K _ _ l λ vs. h (v ∷ vs)
 
-    cond-upto : (c : Cond) (f : List X) (K : ℕ) (k m : Bool → Does X) → K ≤ L → ((o : Bool) → Upto K (k o) (m o)) → Upto K (Does.cond num work call₁ c f k) (Does.cond num work call₂ c f m)
+    cond-upto : (c : Cond) (f : Frame X) (K : ℕ) (k m : Bool → Does X) → K ≤ L → ((o : Bool) → Upto K (k o) (m o)) → Upto K (Does.cond num work call₁ c f k) (Does.cond num work call₂ c f m)
     unfolding Does.cond
     cond-upto (const b) f K k m l h = h b
     cond-upto (compare c a b) f K k m l h = expr-upto a f K _ _ l λ x. expr-upto b f K _ _ l λ y. upto-step (upto-test h)
@@ -87,9 +94,9 @@ module _ {X : Type 0} (num : ℤ → X) (work : Op → X → X → X) where
     cond-upto (or a b) f K k m l h = cond-upto a f K _ _ l (elim [ true ↦ h true | false ↦ cond-upto b f K k m l h ])
 
     -- both loops have more turns left than the steps that count
-    loop-upto : (n m K : ℕ) → K < n → K < m → K ≤ L → (turn turn′ : List X → (List X → Does X) → Does X)
-        → ((J : ℕ) → J ≤ K → (f : List X) (k k′ : List X → Does X) → ((g : List X) → Upto J (k g) (k′ g)) → Upto J (turn f k) (turn′ f k′))
-        → (f : List X) → Upto K (loop num work call₁ n turn f) (loop num work call₂ m turn′ f)
+    loop-upto : (n m K : ℕ) → K < n → K < m → K ≤ L → (turn turn′ : Frame X → (Frame X → Does X) → Does X)
+        → ((J : ℕ) → J ≤ K → (f : Frame X) (k k′ : Frame X → Does X) → ((g : Frame X) → Upto J (k g) (k′ g)) → Upto J (turn f k) (turn′ f k′))
+        → (f : Frame X) → Upto K (loop num work call₁ n turn f) (loop num work call₂ m turn′ f)
     unfolding loop
     loop-upto zero m K p q l turn turn′ h f = absurd (omega arith)
     loop-upto (suc n) zero K p q l turn turn′ h f = absurd (omega arith)
@@ -101,12 +108,12 @@ module _ {X : Type 0} (num : ℤ → X) (work : Op → X → X → X) where
       mutual
         unfolding stmt
 
-        stmt-upto : (t : Stmt) (f : List X) (K : ℕ) (k k′ : List X → Does X) (r r′ : X → Does X) → K ≤ L → ((g : List X) → Upto K (k g) (k′ g)) → ((v : X) → Upto K (r v) (r′ v))
+        stmt-upto : (t : Stmt) (f : Frame X) (K : ℕ) (k k′ : Frame X → Does X) (r r′ : X → Does X) → K ≤ L → ((g : Frame X) → Upto K (k g) (k′ g)) → ((v : X) → Upto K (r v) (r′ v))
             → Upto K (stmt num work call₁ n t f k r) (stmt num work call₂ m t f k′ r′)
         stmt-upto Stmt.empty f K k k′ r r′ l h i = upto-step (h f)
-        stmt-upto (Stmt.declare a) f K k k′ r r′ l h i = upto-step (h (store f a (num (pos 0))))
-        stmt-upto (Stmt.unknown a) f K k k′ r r′ l h i = upto-free λ v. h (store f a v)
-        stmt-upto (Stmt.assign a e) f K k k′ r r′ l h i = upto-step (expr-upto e f K _ _ l λ v. h (store f a v))
+        stmt-upto (Stmt.declare a) f K k k′ r r′ l h i = upto-step (h _)
+        stmt-upto (Stmt.unknown a) f K k k′ r r′ l h i = upto-free λ v. h (store f a (some v))
+        stmt-upto (Stmt.assign a e) f K k k′ r r′ l h i = upto-step (expr-upto e f K _ _ l λ v. h (store f a (some v)))
         stmt-upto (Stmt.eval e) f K k k′ r r′ l h i = upto-step (expr-upto e f K _ _ l λ v. h f)
         stmt-upto (Stmt.block ss) f K k k′ r r′ l h i = upto-step (stmts-upto ss f K k k′ r r′ l h i)
         stmt-upto (Stmt.if c t u) f K k k′ r r′ l h i = upto-step (cond-upto c f K _ _ l (elim [ true ↦ stmt-upto t f K k k′ r r′ l h i | false ↦ stmt-upto u f K k k′ r r′ l h i ]))
@@ -117,7 +124,7 @@ module _ {X : Type 0} (num : ℤ → X) (work : Op → X → X → X) where
         stmt-upto (Stmt.return e) f K k k′ r r′ l h i = upto-step (expr-upto e f K r r′ l i)
         stmt-upto Stmt.fail f K k k′ r r′ l h i = upto-same K (step failed)
 
-        stmts-upto : (ss : Stmts) (f : List X) (K : ℕ) (k k′ : List X → Does X) (r r′ : X → Does X) → K ≤ L → ((g : List X) → Upto K (k g) (k′ g)) → ((v : X) → Upto K (r v) (r′ v))
+        stmts-upto : (ss : Stmts) (f : Frame X) (K : ℕ) (k k′ : Frame X → Does X) (r r′ : X → Does X) → K ≤ L → ((g : Frame X) → Upto K (k g) (k′ g)) → ((v : X) → Upto K (r v) (r′ v))
             → Upto K (stmts num work call₁ n ss f k r) (stmts num work call₂ m ss f k′ r′)
         stmts-upto Stmts.end f K k k′ r r′ l h i = h f
         stmts-upto (Stmts.next t ss) f K k k′ r r′ l h i = stmt-upto t f K _ _ r r′ l (λ g. stmts-upto ss g K k k′ r r′ l h i) i
@@ -126,7 +133,7 @@ module _ {X : Type 0} (num : ℤ → X) (work : Op → X → X → X) where
   unfolding enter
   enter-upto L n m a b p zero K l g vs k k′ h = upto-same K cut
   enter-upto L n m a b p (suc d) K l g vs k k′ h =
-      upto-step (stmts-upto L (enter num work n p d) (enter num work m p d) (enter-upto L n m a b p d) n m a b (getD p g Stmts.end) (frame (num (pos 0)) 16 vs) K _ _ k k′ l (λ f. upto-same K failed) h)
+      upto-step (stmts-upto L (enter num work n p d) (enter num work m p d) (enter-upto L n m a b p d) n m a b (getD p g Stmts.end) (frame none 16 (map some vs)) K _ _ k k′ l (λ f. upto-same K failed) h)
 
   enough-turns : (l f n m : ℕ) → l ≤ n → l ≤ m → (p : Program) → within l f (does num work n p) ≡ within l f (does num work m p)
   unfolding does

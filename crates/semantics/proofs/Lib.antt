@@ -17,5 +17,8 @@ pub mod Members
 pub mod Plans
 pub mod Answer
 pub mod Fuel
+pub mod Sure
+pub mod Frames
+pub mod Assigned
 pub mod Examples
 pub mod Theorems

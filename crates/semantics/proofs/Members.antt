@@ -11,7 +11,7 @@ use lib.ListN.{length}
 use lib.IntN.{ℤ, sucℤ, _-ℤ_}
 use lib.Dec.{T}
 use Rattle.semantics.specs.Int.{holds}
-use Rattle.semantics.specs.Does.{Does, returned, failed, cut, step, free, test, within}
+use Rattle.semantics.specs.Does.{Does, returned, failed, cut, stuck, step, free, test, within}
 use Rattle.semantics.specs.Run.{Window, counting, clamp, numbers, each, Ending, returns, fails, cuts, Ran, noting, exactly, run, Choice, Row}
 use Rattle.semantics.specs.Plans.{lists, adding, belonging, before, insert, sorted, rowsWith, rowsOf, isCut, someCut}
 use Rattle.semantics.specs.Demand.{_∈_}
@@ -90,26 +90,24 @@ lists-all n w s m = inside-all w s (all-member (lists-in w n) s m)
 
 -- ---- a run within m free declarations has no more values
 
+no-run : (r : Ran) → _≡_ {A = Option Ran} none (some r) → ⊥
+no-run r e = let z : _≡_ {A = ℕ} 0 1 = cc in omega arith
+
 some-of : (o : Bool) (x : Option Ran) (r : Ran) → Option·map (noting o) x ≡ some r → (q : Ran) × (x ≡ some q)
-some-of o none r e = absurd (clash e)
-  where
-    clash : _≡_ {A = Option Ran} none (some r) → ⊥
-    clash e = let z : _≡_ {A = ℕ} 0 1 = cc in omega arith
+some-of o none r e = absurd (no-run r e)
 some-of o (some q) r e = (q, refl)
 
 exactly-none : (e : Ending) (vs : List ℤ) (r : Ran) → exactly e vs ≡ some r → length vs ≡ 0
 unfolding exactly
 exactly-none e [] r h = refl
-exactly-none e (v ∷ vs) r h = absurd (clash h)
-  where
-    clash : _≡_ {A = Option Ran} none (some r) → ⊥
-    clash e = let z : _≡_ {A = ℕ} 0 1 = cc in omega arith
+exactly-none e (v ∷ vs) r h = absurd (no-run r h)
 
 pub run-length : (t : Does ℤ) (n m : ℕ) (vs : List ℤ) (r : Ran) → run (within n m t) vs ≡ some r → length vs ≤ m
 unfolding run within
 run-length (returned z) n m vs r e = omega (arith, exactly-none (returns z) vs r e)
 run-length failed n m vs r e = omega (arith, exactly-none fails vs r e)
 run-length cut n m vs r e = omega (arith, exactly-none cuts vs r e)
+run-length stuck n m vs r e = absurd (no-run r e)
 run-length (step t) zero m vs r e = omega (arith, exactly-none cuts vs r e)
 run-length (step t) (suc n) m vs r e = run-length t n m vs r e
 run-length (free k) zero m vs r e = omega (arith, exactly-none cuts vs r e)

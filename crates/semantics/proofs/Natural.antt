@@ -1,8 +1,8 @@
 -- What a program does over open values, under a setting, is what it does over numbers with the setting's values: the rules of the language are the same at every kind of value.
 use Prim.Native.Nat.{ℕ, zero, suc, _≤_}
-use mathlib.Core.Path.{_≡_, refl, sym, ap, subst}
+use mathlib.Core.Path.{_≡_, refl, sym, ap, _∙_, subst}
 use mathlib.Core.Bool.{Bool, true, false, cond}
-use mathlib.Core.Option.{none, some, Option·map}
+use mathlib.Core.Option.{Option, none, some, Option·map}
 use mathlib.Core.List.{List, [], _∷_, map}
 use native.Mathlib.Omega.{arith}
 use native.Mathlib.Nat.{le-of-suc-le-suc}
@@ -14,7 +14,7 @@ use Rattle.semantics.specs.Int.{Op, arith as work32, Cmp}
 use Rattle.semantics.specs.Program
 use Rattle.semantics.specs.Does
 use Rattle.semantics.specs.Program.{Address, slot, Expr, Exprs, Cond, const, compare, and, or, number, name, op, call, more, Stmt, Stmts, Program}
-use Rattle.semantics.specs.Does.{Does, returned, failed, cut, step, free, test, within, frame, expr, exprs, loop, stmt, stmts, enter, does, fetch, store}
+use Rattle.semantics.specs.Does.{Does, returned, failed, cut, stuck, step, free, test, within, Frame, frame, expr, exprs, loop, stmt, stmts, enter, does, fetch, store}
 use Rattle.semantics.specs.Run.{Ending, returns, fails, cuts, exactly, noting, run}
 use Rattle.semantics.specs.Search.{Value, known, unknown, open′, work, under}
 use Rattle.semantics.proofs.Order.{cond-cases}
@@ -37,16 +37,27 @@ work-under s o (known a) (open′ p x y) = refl
 work-under s o (unknown i) b = refl
 work-under s o (open′ p x y) b = refl
 
-set-map : (s : List ℤ) (f : List Value) (i : ℕ) (v : Value) → map (under s) (set f i v) ≡ set (map (under s) f) i (under s v)
-set-map s [] i v = refl
-set-map s (x ∷ f) zero v = refl
-set-map s (x ∷ f) (suc i) v = ap (λ l. under s x ∷ l) (set-map s f i v)
+set-map : {A B : Type 0} (g : A → B) (f : List A) (i : ℕ) (v : A) → map g (set f i v) ≡ set (map g f) i (g v)
+set-map g [] i v = refl
+set-map g (x ∷ f) zero v = refl
+set-map g (x ∷ f) (suc i) v = ap (λ l. g x ∷ l) (set-map g f i v)
 
-frame-map : (s : List ℤ) (n : ℕ) (vs : List Value) → map (under s) (frame (known (pos 0)) n vs) ≡ frame (pos 0) n (map (under s) vs)
-unfolding frame under
-frame-map s zero vs = refl
-frame-map s (suc n) [] = ap (λ l. pos 0 ∷ l) (frame-map s n [])
-frame-map s (suc n) (v ∷ vs) = ap (λ l. under s v ∷ l) (frame-map s n vs)
+-- a frame under a setting
+abbrev setting : List ℤ → Frame Value → Frame ℤ
+setting s f = map (Option·map (under s)) f
+
+frame-map : {A B : Type 0} (g : A → B) (d : A) (n : ℕ) (vs : List A) → map g (frame d n vs) ≡ frame (g d) n (map g vs)
+unfolding frame
+frame-map g d zero vs = refl
+frame-map g d (suc n) [] = ap (λ l. g d ∷ l) (frame-map g d n [])
+frame-map g d (suc n) (v ∷ vs) = ap (λ l. g v ∷ l) (frame-map g d n vs)
+
+setting-some : (s : List ℤ) (vs : List Value) → setting s (map some vs) ≡ map some (map (under s) vs)
+setting-some s [] = refl
+setting-some s (v ∷ vs) = ap (λ l. some (under s v) ∷ l) (setting-some s vs)
+
+setting-frame : (s : List ℤ) (n : ℕ) (vs : List Value) → setting s (frame none n (map some vs)) ≡ frame none n (map some (map (under s) vs))
+setting-frame s n vs = frame-map (Option·map (under s)) none n (map some vs) ∙ ap (frame none n) (setting-some s vs)
 
 -- two trees run alike under the setting, within any limits, from wherever they start in it
 pub record Same (s : List ℤ) (t : Does Value) (u : Does ℤ) : Type 0 where
@@ -60,6 +71,10 @@ module _ (s : List ℤ) where
   same-failed : Same s failed failed
   unfolding runs run within
   same-failed = record { same = λ l f n h. sym (exactly-drop fails n s h) }
+
+  same-stuck : Same s stuck stuck
+  unfolding runs run within
+  same-stuck = record { same = λ l f n h. refl }
 
   same-returned : (v : Value) → Same s (returned v) (returned (under s v))
   unfolding runs run within
@@ -89,65 +104,76 @@ module _ (s : List ℤ) where
   unfolding runs run within
   same-test {c} {a} {b} p = record { same = λ l f n h. ap (Option·map (noting (passes c a b s))) (p (passes c a b s) .same l f n h) }
 
-  fetched : (f : List Value) (a : Address) → under s (fetch (known (pos 0)) f a) ≡ fetch (pos 0) (map (under s) f) a
-  unfolding under
-  fetched f (slot i) = sym (List·getD-map (under s) f i (known (pos 0)))
+  fetched : (f : Frame Value) (a : Address) → Option·map (under s) (fetch none f a) ≡ fetch none (setting s f) a
+  fetched f (slot i) = sym (List·getD-map (Option·map (under s)) f i none)
 
-  stored : (f : List Value) (a : Address) (v : Value) → map (under s) (store f a v) ≡ store (map (under s) f) a (under s v)
-  stored f (slot i) v = set-map s f i v
+  stored : (f : Frame Value) (a : Address) (v : Option Value) → setting s (store f a v) ≡ store (setting s f) a (Option·map (under s) v)
+  stored f (slot i) v = set-map (Option·map (under s)) f i v
 
   -- what is done with a value, a list of values, or an outcome
   abbrev Alike : (Value → Does Value) → (ℤ → Does ℤ) → Type 0
   Alike k m = (v : Value) → Same s (k v) (m (under s v))
 
   abbrev Alikes : (List Value → Does Value) → (List ℤ → Does ℤ) → Type 0
-  Alikes k m = (f : List Value) → Same s (k f) (m (map (under s) f))
+  Alikes k m = (vs : List Value) → Same s (k vs) (m (map (under s) vs))
+
+  abbrev Onward : (Frame Value → Does Value) → (Frame ℤ → Does ℤ) → Type 0
+  Onward k m = (f : Frame Value) → Same s (k f) (m (setting s f))
+
+  -- what a place holds, if it holds something
+  same-held : (o : Option Value) {p : Option ℤ} (k : Value → Does Value) (m : ℤ → Does ℤ) → Option·map (under s) o ≡ p → Alike k m
+      → Same s (elim o as (λ o. Does Value) [ none ↦ stuck | some v ↦ k v ]) (elim p as (λ p. Does ℤ) [ none ↦ stuck | some v ↦ m v ])
+  same-held none k m e h = subst (λ p. Same s stuck (elim p as (λ p. Does ℤ) [ none ↦ stuck | some v ↦ m v ])) e same-stuck
+  same-held (some v) k m e h = subst (λ p. Same s (k v) (elim p as (λ p. Does ℤ) [ none ↦ stuck | some v ↦ m v ])) e (h v)
 
   module _ (call₁ : ℕ → List Value → (Value → Does Value) → Does Value) (call₂ : ℕ → List ℤ → (ℤ → Does ℤ) → Does ℤ)
       (calls : (g : ℕ) (vs : List Value) (k : Value → Does Value) (m : ℤ → Does ℤ) → Alike k m → Same s (call₁ g vs k) (call₂ g (map (under s) vs) m)) where
     mutual
       unfolding expr under
 
-      expr-same : (e : Expr) (f : List Value) (k : Value → Does Value) (m : ℤ → Does ℤ) → Alike k m → Same s (expr known work call₁ e f k) (expr (λ z. z) work32 call₂ e (map (under s) f) m)
+      expr-same : (e : Expr) (f : Frame Value) (k : Value → Does Value) (m : ℤ → Does ℤ) → Alike k m → Same s (expr known work call₁ e f k) (expr (λ z. z) work32 call₂ e (setting s f) m)
       expr-same (number z) f k m h = h (known z)
-      expr-same (name a) f k m h = subst (λ z. Same s (k (fetch (known (pos 0)) f a)) (m z)) (fetched f a) (h (fetch (known (pos 0)) f a))
+      expr-same (name a) f k m h = same-held (fetch none f a) k m (fetched f a) h
       expr-same (op o a b) f k m h =
           expr-same a f _ _ λ x. expr-same b f _ _ λ y. same-step (subst (λ z. Same s (k (work o x y)) (m z)) (work-under s o x y) (h (work o x y)))
       expr-same (call g es) f k m h = exprs-same es f _ _ λ vs. calls g vs k m h
 
-      exprs-same : (es : Exprs) (f : List Value) (k : List Value → Does Value) (m : List ℤ → Does ℤ) → Alikes k m → Same s (exprs known work call₁ es f k) (exprs (λ z. z) work32 call₂ es (map (under s) f) m)
+      exprs-same : (es : Exprs) (f : Frame Value) (k : List Value → Does Value) (m : List ℤ → Does ℤ) → Alikes k m
+          → Same s (exprs known work call₁ es f k) (exprs (λ z. z) work32 call₂ es (setting s f) m)
       exprs-same Exprs.none f k m h = h []
       exprs-same (more e es) f k m h = expr-same e f _ _ λ v. exprs-same es f _ _ λ vs. h (v ∷ vs)
 
-    cond-same : (c : Cond) (f : List Value) (k : Bool → Does Value) (m : Bool → Does ℤ) → ((o : Bool) → Same s (k o) (m o)) → Same s (Does.cond known work call₁ c f k) (Does.cond (λ z. z) work32 call₂ c (map (under s) f) m)
+    cond-same : (c : Cond) (f : Frame Value) (k : Bool → Does Value) (m : Bool → Does ℤ) → ((o : Bool) → Same s (k o) (m o))
+        → Same s (Does.cond known work call₁ c f k) (Does.cond (λ z. z) work32 call₂ c (setting s f) m)
     unfolding Does.cond
     cond-same (const b) f k m h = h b
     cond-same (compare c a b) f k m h = expr-same a f _ _ λ x. expr-same b f _ _ λ y. same-step (same-test h)
     cond-same (and a b) f k m h = cond-same a f _ _ (elim [ true ↦ cond-same b f k m h | false ↦ h false ])
     cond-same (or a b) f k m h = cond-same a f _ _ (elim [ true ↦ h true | false ↦ cond-same b f k m h ])
 
-    abbrev Turns : (List Value → (List Value → Does Value) → Does Value) → (List ℤ → (List ℤ → Does ℤ) → Does ℤ) → Type 0
-    Turns turn turn′ = (f : List Value) (k : List Value → Does Value) (m : List ℤ → Does ℤ) → Alikes k m → Same s (turn f k) (turn′ (map (under s) f) m)
+    abbrev Turns : (Frame Value → (Frame Value → Does Value) → Does Value) → (Frame ℤ → (Frame ℤ → Does ℤ) → Does ℤ) → Type 0
+    Turns turn turn′ = (f : Frame Value) (k : Frame Value → Does Value) (m : Frame ℤ → Does ℤ) → Onward k m → Same s (turn f k) (turn′ (setting s f) m)
 
-    loop-same : (n : ℕ) (turn : List Value → (List Value → Does Value) → Does Value) (turn′ : List ℤ → (List ℤ → Does ℤ) → Does ℤ) → Turns turn turn′
-        → (f : List Value) → Same s (loop known work call₁ n turn f) (loop (λ z. z) work32 call₂ n turn′ (map (under s) f))
+    loop-same : (n : ℕ) (turn : Frame Value → (Frame Value → Does Value) → Does Value) (turn′ : Frame ℤ → (Frame ℤ → Does ℤ) → Does ℤ) → Turns turn turn′
+        → (f : Frame Value) → Same s (loop known work call₁ n turn f) (loop (λ z. z) work32 call₂ n turn′ (setting s f))
     unfolding loop
     loop-same zero turn turn′ h f = same-cut
     loop-same (suc n) turn turn′ h f = h f _ _ λ g. same-step (loop-same n turn turn′ h g)
 
     module _ (most : ℕ) where
-      put : (f : List Value) (a : Address) (v : Value) (k : List Value → Does Value) (m : List ℤ → Does ℤ) → Alikes k m → Same s (k (store f a v)) (m (store (map (under s) f) a (under s v)))
+      put : (f : Frame Value) (a : Address) (v : Option Value) (k : Frame Value → Does Value) (m : Frame ℤ → Does ℤ) → Onward k m
+          → Same s (k (store f a v)) (m (store (setting s f) a (Option·map (under s) v)))
       put f a v k m h = subst (λ g. Same s (k (store f a v)) (m g)) (stored f a v) (h (store f a v))
 
       mutual
         unfolding stmt under
 
-        stmt-same : (t : Stmt) (f : List Value) (k : List Value → Does Value) (m : List ℤ → Does ℤ) (r : Value → Does Value) (q : ℤ → Does ℤ) → Alikes k m → Alike r q
-            → Same s (stmt known work call₁ most t f k r) (stmt (λ z. z) work32 call₂ most t (map (under s) f) m q)
+        stmt-same : (t : Stmt) (f : Frame Value) (k : Frame Value → Does Value) (m : Frame ℤ → Does ℤ) (r : Value → Does Value) (q : ℤ → Does ℤ) → Onward k m → Alike r q
+            → Same s (stmt known work call₁ most t f k r) (stmt (λ z. z) work32 call₂ most t (setting s f) m q)
         stmt-same Stmt.empty f k m r q h i = same-step (h f)
-        stmt-same (Stmt.declare a) f k m r q h i = same-step (put f a (known (pos 0)) k m h)
-        stmt-same (Stmt.unknown a) f k m r q h i = same-free λ j. put f a (unknown j) k m h
-        stmt-same (Stmt.assign a e) f k m r q h i = same-step (expr-same e f _ _ λ v. put f a v k m h)
+        stmt-same (Stmt.declare a) f k m r q h i = same-step (put f a _ k m h)
+        stmt-same (Stmt.unknown a) f k m r q h i = same-free λ j. put f a (some (unknown j)) k m h
+        stmt-same (Stmt.assign a e) f k m r q h i = same-step (expr-same e f _ _ λ v. put f a (some v) k m h)
         stmt-same (Stmt.eval e) f k m r q h i = same-step (expr-same e f _ _ λ v. h f)
         stmt-same (Stmt.block ss) f k m r q h i = same-step (stmts-same ss f k m r q h i)
         stmt-same (Stmt.if c t u) f k m r q h i = same-step (cond-same c f _ _ (elim [ true ↦ stmt-same t f k m r q h i | false ↦ stmt-same u f k m r q h i ]))
@@ -156,8 +182,8 @@ module _ (s : List ℤ) where
         stmt-same (Stmt.return e) f k m r q h i = same-step (expr-same e f r q i)
         stmt-same Stmt.fail f k m r q h i = same-step same-failed
 
-        stmts-same : (ss : Stmts) (f : List Value) (k : List Value → Does Value) (m : List ℤ → Does ℤ) (r : Value → Does Value) (q : ℤ → Does ℤ) → Alikes k m → Alike r q
-            → Same s (stmts known work call₁ most ss f k r) (stmts (λ z. z) work32 call₂ most ss (map (under s) f) m q)
+        stmts-same : (ss : Stmts) (f : Frame Value) (k : Frame Value → Does Value) (m : Frame ℤ → Does ℤ) (r : Value → Does Value) (q : ℤ → Does ℤ) → Onward k m → Alike r q
+            → Same s (stmts known work call₁ most ss f k r) (stmts (λ z. z) work32 call₂ most ss (setting s f) m q)
         stmts-same Stmts.end f k m r q h i = h f
         stmts-same (Stmts.next t ss) f k m r q h i = stmt-same t f _ _ r q (λ g. stmts-same ss g k m r q h i) i
 
@@ -165,9 +191,9 @@ module _ (s : List ℤ) where
   unfolding enter
   enter-same most p zero g vs k m h = same-cut
   enter-same most p (suc d) g vs k m h =
-      same-step (subst (λ f. Same s (stmts known work (enter known work most p d) most (getD p g Stmts.end) (frame (known (pos 0)) 16 vs) (λ f. failed) k) (stmts (λ z. z) work32 (enter (λ z. z) work32 most p d) most (getD p g Stmts.end) f (λ f. failed) m))
-      (frame-map s 16 vs)
-      (stmts-same (enter known work most p d) (enter (λ z. z) work32 most p d) (enter-same most p d) most (getD p g Stmts.end) (frame (known (pos 0)) 16 vs) _ _ k m (λ f. same-failed) h))
+      same-step (subst (λ f. Same s (stmts known work (enter known work most p d) most (getD p g Stmts.end) (frame none 16 (map some vs)) (λ f. failed) k) (stmts (λ z. z) work32 (enter (λ z. z) work32 most p d) most (getD p g Stmts.end) f (λ f. failed) m))
+      (setting-frame s 16 vs)
+      (stmts-same (enter known work most p d) (enter (λ z. z) work32 most p d) (enter-same most p d) most (getD p g Stmts.end) (frame none 16 (map some vs)) _ _ k m (λ f. same-failed) h))
 
   does-same : (most : ℕ) (p : Program) → Same s (does known work most p) (does (λ z. z) work32 most p)
   unfolding does

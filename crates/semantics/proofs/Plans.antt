@@ -10,7 +10,7 @@ use lib.ListN.{length}
 use lib.IntN.{ℤ}
 use lib.Dec.{T, eqb→eq}
 use lib.Signed.{ltZ}
-use Rattle.semantics.specs.Does.{Does, returned, failed, cut, step, free, test}
+use Rattle.semantics.specs.Does.{Does, returned, failed, cut, stuck, step, free, test}
 use Rattle.semantics.specs.Run.{Window, Ending, returns, fails, cuts, Ran, run, Choice, Row, Job, meaning}
 use Rattle.semantics.specs.Plans.{lists, sorted, rowsWith, rowsOf, choices, plans, someCut}
 use Rattle.semantics.specs.Search.{Value, unknown, openly}
@@ -85,6 +85,7 @@ unfolding ends
 ends-before n (returned v) r = leaves-before _ n r
 ends-before n failed r = leaves-before _ n r
 ends-before n cut r = leaves-before _ n r
+ends-before n stuck r = onil
 ends-before n (step t) r = ends-before n t r
 ends-before n (free k) r = ends-before (suc n) (k (unknown n)) (ordered-keep (longer n) r)
 ends-before n (test c a b k) {ss} r =

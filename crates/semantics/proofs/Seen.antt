@@ -4,7 +4,7 @@ use mathlib.Core.Path.{_≡_, refl, sym, ap, ap₂, _∙_}
 use mathlib.Core.Bool.{Bool, true, false, cond, _||_, or-false, or-assoc}
 use mathlib.Core.List.{List, [], _∷_, _++_, map, append-nil, append-assoc}
 use lib.IntN.{ℤ}
-use Rattle.semantics.specs.Does.{Does, returned, failed, cut, step, free, test}
+use Rattle.semantics.specs.Does.{Does, returned, failed, cut, stuck, step, free, test}
 use Rattle.semantics.specs.Run.{Ending, returns, fails, cuts, Choice, Row}
 use Rattle.semantics.specs.Search.{Value, unknown, under, Test, meets, Move, plain, found, probe, missed, tried, probed}
 use Rattle.semantics.proofs.Keep.{keep}
@@ -101,6 +101,7 @@ unfolding ends keep
 ends-nil n (returned v) = refl
 ends-nil n failed = refl
 ends-nil n cut = refl
+ends-nil n stuck = refl
 ends-nil n (step t) = ends-nil n t
 ends-nil n (free k) = ends-nil (suc n) (k (unknown n))
 ends-nil n (test c a b k) = ap₂ (λ l m. map (noted true) l ++ map (noted false) m) (ends-nil n (k true)) (ends-nil n (k false))

@@ -11,7 +11,7 @@ use lib.IntN.{ℤ, pos}
 use lib.Signed.{leZ}
 use lib.Dec.{T, leb, ltb, leb→le, le→leb, ltb→lt, nltb→le, eqb→eq}
 use Rattle.semantics.specs.Int.{Cmp}
-use Rattle.semantics.specs.Does.{Does, returned, failed, cut, step, free, test, within}
+use Rattle.semantics.specs.Does.{Does, returned, failed, cut, stuck, step, free, test, within}
 use Rattle.semantics.specs.Run.{Window, returns, cuts}
 use Rattle.semantics.specs.Plans.{lists}
 use Rattle.semantics.specs.Search.{Value, unknown, under, all32, negated, Solver, Test, asTest, meets, settings, Move, Paths, fork, side, paths, moves}
@@ -97,6 +97,10 @@ module _ (solver : Solver) (sound : Sound solver) (job : Window) (small : Sub jo
   good-cut : (f : ℕ) → Good f cut
   unfolding paths moves ends
   good-cut f = record { good = λ ws ts l h k. seen-probed ts (settings ws) ∙ ap (λ m. seenOf (map (leaf (λ s. cuts)) m)) (at-leaf ws ts (omega arith) h k) }
+
+  good-stuck : (f : ℕ) → Good f stuck
+  unfolding paths moves ends seenIn seenOf
+  good-stuck f = record { good = λ ws ts l h k. refl }
 
   good-step : {f : ℕ} {t : Does Value} → Good f t → Good f (step t)
   unfolding paths moves ends seenIn
@@ -236,6 +240,7 @@ module _ (solver : Solver) (sound : Sound solver) (job : Window) (small : Sub jo
   search-good (returned v) l f = good-returned f v
   search-good failed l f = good-failed f
   search-good cut l f = good-cut f
+  search-good stuck l f = good-stuck f
   search-good (step t) zero f = good-cut f
   search-good (step t) (suc l) f = good-step (search-good t l f)
   search-good (free k) zero f = good-cut f

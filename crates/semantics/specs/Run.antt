@@ -6,7 +6,7 @@ use mathlib.Core.List.{List, [], _∷_, _++_}
 use lib.IntN.{ℤ, pos, negsuc, sucℤ, _-ℤ_}
 use Rattle.semantics.specs.Int.{arith, holds}
 use Rattle.semantics.specs.Program.{Program}
-use Rattle.semantics.specs.Does.{Does, returned, failed, cut, step, free, test, does, within}
+use Rattle.semantics.specs.Does.{Does, returned, failed, cut, stuck, step, free, test, does, within}
 
 -- ---- a run: "Choose values for the free declarations, in the order in which they are reached. The run is then fixed. It returns, fails or is cut."
 
@@ -27,11 +27,13 @@ unfoldable pub exactly : Ending → List ℤ → Option Ran
 exactly e [] = some (record { tests = []; ending = e })
 exactly e (v ∷ vs) = none
 
--- The run with these values; none unless it "reaches as many free declarations as there are values". (One refused at a cut is not reached: `within` has put `cut` in its place.)
+-- The run with these values; none unless it "reaches as many free declarations as there are values".
+-- (One refused at a cut is not reached: `within` has put `cut` in its place.) Where it is stuck there is no run.
 unfoldable pub run : Does ℤ → List ℤ → Option Ran
 run (returned z) vs = exactly (returns z) vs
 run failed vs = exactly fails vs
 run cut vs = exactly cuts vs
+run stuck vs = none
 run (step t) vs = run t vs
 run (free k) [] = none
 run (free k) (v ∷ vs) = run (k v) vs

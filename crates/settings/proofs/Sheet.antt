@@ -11,6 +11,7 @@ use lib.Seq.{getD-set-same, getD-set-other}
 use lib.IntN.{ℤ, pos}
 use Rattle.semantics.specs.Does.{frame}
 use Rattle.semantics.specs.Run.{Row, clamp}
+use Rattle.semantics.proofs.Frames.{length-frame}
 use Rattle.settings.specs.Rows.{wordsFrom, wordsOf, rowWith, rowAt, rowsAt, Written}
 
 -- ---- words that stay
@@ -39,12 +40,6 @@ frame-at (suc n) [] zero h = refl
 frame-at (suc n) [] (suc j) h = frame-at n [] j (omega arith)
 frame-at (suc n) (v ∷ vs) zero h = refl
 frame-at (suc n) (v ∷ vs) (suc j) h = frame-at n vs j (omega arith)
-
-frame-length : (n : ℕ) (vs : List ℤ) → length (frame (pos 0) n vs) ≡ n
-unfolding frame
-frame-length zero vs = refl
-frame-length (suc n) [] = ap suc (frame-length n [])
-frame-length (suc n) (v ∷ vs) = ap suc (frame-length n vs)
 
 frame-take : (n : ℕ) (vs : List ℤ) → length vs ≤ n → take (length vs) (frame (pos 0) n vs) ≡ vs
 unfolding frame
@@ -101,14 +96,14 @@ module _ (rows rows′ : List ℤ) (n : ℕ) (r : Row) (few : length (r .values)
   first = ap (λ (j : ℕ). getD rows′ j (pos 0)) {x = 10 * n} {y = 10 * n + 0} (omega arith) ∙ w .word 0 (omega arith)
 
   later : wordsFrom rows′ (10 * n + 2) 8 ≡ frame (pos 0) 8 (r .values)
-  later = words-list rows′ (10 * n + 2) 8 (frame (pos 0) 8 (r .values)) (frame-length 8 (r .values))
+  later = words-list rows′ (10 * n + 2) 8 (frame (pos 0) 8 (r .values)) (length-frame (pos 0) 8 (r .values))
       (λ j l. ap (λ (k : ℕ). getD rows′ k (pos 0)) {x = 10 * n + 2 + j} {y = 10 * n + suc (suc j)} (omega arith) ∙ w .word (suc (suc j)) (omega arith))
 
   pub row-is : rowAt rows′ n ≡ r
   row-is = ap₂ rowWith first (ap₂ (λ (z : ℤ) (l : List ℤ). take (clamp z) l) (w .word 1 (omega arith)) later ∙ counted (r .values) few)
 
   words-is : wordsFrom rows′ (10 * n) 10 ≡ wordsOf r
-  words-is = words-list rows′ (10 * n) 10 (wordsOf r) (ap (λ (k : ℕ). suc (suc k)) (frame-length 8 (r .values))) (w .word)
+  words-is = words-list rows′ (10 * n) 10 (wordsOf r) (ap (λ (k : ℕ). suc (suc k)) (length-frame (pos 0) 8 (r .values))) (w .word)
 
   rows-more : rowsAt rows′ (suc n) ≡ rowsAt rows n ++ r ∷ []
   unfolding rowsAt

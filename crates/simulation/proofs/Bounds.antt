@@ -1,6 +1,6 @@
 -- What the machine keeps to, whatever its code: the temporaries and callers held are at most as many as the steps made, at most 32 calls nest, every frame has 16 places, and a measure falls with each silent move.
 use Prim.Native.Nat.{ℕ, zero, suc, _+_, _-_, _*_, _≤_, _<_}
-use mathlib.Core.Path.{_≡_, refl, ap, _∙_}
+use mathlib.Core.Path.{_≡_, refl, _∙_}
 use mathlib.Core.Bool.{Bool, true, false}
 use mathlib.Core.List.{List, [], _∷_}
 use native.Mathlib.Omega.{arith}
@@ -10,7 +10,8 @@ use lib.ListN.{length, length-set, List·getD-eq-default}
 use lib.IntN.{ℤ}
 use Rattle.semantics.specs.Int.{Op}
 use Rattle.semantics.specs.Program.{Address, slot}
-use Rattle.semantics.specs.Does.{frame, store}
+use Rattle.semantics.specs.Does.{store}
+use Rattle.semantics.proofs.Frames.{length-frame}
 use Rattle.simulation.specs.Code.{Leaf, Act, Entry, leaf, argument, act, Code}
 use Rattle.simulation.specs.Machine.{Caller, Machine, Doing, Gathered, machine, before, landing, entryAt, popped, reading, taken, two, gather, entering, leaving, acting, working, advance, start}
 
@@ -42,12 +43,6 @@ module _ {X : Type 0} where
   Sounds n (Doing.returned v) = Unit {0}
   Sounds n Doing.failed = Unit {0}
   Sounds n Doing.cut = Unit {0}
-
-  length-frame : (d : X) (n : ℕ) (vs : List X) → length (frame d n vs) ≡ n
-  unfolding frame
-  length-frame d zero vs = refl
-  length-frame d (suc n) [] = ap suc (length-frame d n [])
-  length-frame d (suc n) (v ∷ vs) = ap suc (length-frame d n vs)
 
   length-store : (f : List X) (a : Address) (v : X) → length (store f a v) ≡ length f
   length-store f (slot i) v = length-set f i v
@@ -93,7 +88,6 @@ module _ {X : Type 0} (num : ℤ → X) (work : Op → X → X → X) (c : Code)
     sound-act (Act.skip m) = record { few = s .few; nested = s .nested; framed = s .framed; frames = s .frames }
     sound-act (Act.again m) = record { few = omega arith; nested = s .nested; framed = s .framed; frames = s .frames }
     sound-act Act.begin = record { few = omega arith; nested = s .nested; framed = s .framed; frames = s .frames }
-    sound-act (Act.clear a) = record { few = omega arith; nested = s .nested; framed = length-store f a _ ∙ s .framed; frames = s .frames }
     sound-act (Act.ask a) = λ v. record { few = omega arith; nested = s .nested; framed = length-store f a v ∙ s .framed; frames = s .frames }
     sound-act (Act.store a) = record { few = omega (arith, taken-le f ts i); nested = s .nested; framed = length-store f a _ ∙ s .framed; frames = s .frames }
     sound-act Act.return = sound-leaving n d cs _ b (omega arith) (s .nested) (s .frames)
@@ -150,7 +144,6 @@ module _ {X : Type 0} (num : ℤ → X) (work : Op → X → X → X) (c : Code)
     falls-act (Act.skip m) = omega arith
     falls-act (Act.again m) = tt
     falls-act Act.begin = tt
-    falls-act (Act.clear a) = tt
     falls-act (Act.ask a) = tt
     falls-act (Act.store a) = omega arith
     falls-act Act.return = falls-leaving i d b cs (taken num work c f ts i .value)

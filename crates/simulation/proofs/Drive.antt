@@ -9,7 +9,7 @@ use native.Mathlib.Nat.{suc-mul, mul-le-mul-right, le-refl, le-of-suc-le-suc, lt
 use lib.ListN.{length}
 use Rattle.semantics.specs.Int.{Cmp}
 use Rattle.semantics.specs.Program.{Program}
-use Rattle.semantics.specs.Does.{Does, does, within}
+use Rattle.semantics.specs.Does.{Does, does, within, Sure}
 use Rattle.semantics.specs.Run.{Window}
 use Rattle.semantics.specs.Search as search
 use Rattle.semantics.specs.Search.{Value, known, unknown, work, Solver, Test, settings, Move, plain, tried, probed, asTest, paths}
@@ -55,6 +55,7 @@ module _ (solver : Solver) (job : Window) (c : Code) where
   -- the machine goes the route r from here on
   pub record Goes (r : Route) (m : Machine Value) (s : State) : Type 0 where
     pub tree : Does Value
+    pub sure : Sure tree
     pub does : Runs known work c (s .steps) m tree
     pub same : at tree s ≡ r
 
@@ -80,66 +81,71 @@ module _ (solver : Solver) (job : Window) (c : Code) where
     unfolding last
     keeps-cut s e = keeps-still (ended cut s) (route-eq (sym (append-nil (s .chosen))) ∙ e)
 
-    keeps-step : (l f : ℕ) (ws : List Window) (ts : List Test) (p h : List Bool) (m : Machine Value) (t : Does Value) → ((k : ℕ) → k < l → Runs known work c k m t)
+    keeps-step : (l f : ℕ) (ws : List Window) (ts : List Test) (p h : List Bool) (m : Machine Value) (t : Does Value) → Sure t → ((k : ℕ) → k < l → Runs known work c k m t)
         → at (Does.step t) (state l f ws ts p h) ≡ r → Keeps r (turning solver job (Doing.step m) (state l f ws ts p h))
     unfolding turning route
-    keeps-step zero f ws ts p h m t d e = keeps-cut (state zero f ws ts p h) e
-    keeps-step (suc l) f ws ts p h m t d e = keeps-counted (state (suc l) f ws ts p h) (on m (state l f ws ts p h)) _ (record { tree = t; does = d l (le-refl _); same = refl }) e
+    keeps-step zero f ws ts p h m t u d e = keeps-cut (state zero f ws ts p h) e
+    keeps-step (suc l) f ws ts p h m t u d e = keeps-counted (state (suc l) f ws ts p h) (on m (state l f ws ts p h)) _ (record { tree = t; sure = u; does = d l (le-refl _); same = refl }) e
 
-    keeps-free : (l f : ℕ) (ws : List Window) (ts : List Test) (p h : List Bool) (j : Value → Machine Value) (k : Value → Does Value) → ((i : ℕ) → i < l → (v : Value) → Runs known work c i (j v) (k v))
+    keeps-free : (l f : ℕ) (ws : List Window) (ts : List Test) (p h : List Bool) (j : Value → Machine Value) (k : Value → Does Value)
+        → ((v : Value) → Sure (k v)) → ((i : ℕ) → i < l → (v : Value) → Runs known work c i (j v) (k v))
         → at (Does.free k) (state l f ws ts p h) ≡ r → Keeps r (turning solver job (Doing.free j) (state l f ws ts p h))
     unfolding turning route
-    keeps-free zero f ws ts p h j k d e = keeps-cut (state zero f ws ts p h) e
-    keeps-free (suc l) zero ws ts p h j k d e = keeps-cut (state (suc l) zero ws ts p h) e
-    keeps-free (suc l) (suc f) ws ts p h j k d e =
-        keeps-counted (state (suc l) (suc f) ws ts p h) (on (j (unknown (length ws))) (state l f (ws ++ job ∷ []) ts p h)) _ (record { tree = k (unknown (length ws)); does = d l (le-refl _) _; same = refl }) e
+    keeps-free zero f ws ts p h j k u d e = keeps-cut (state zero f ws ts p h) e
+    keeps-free (suc l) zero ws ts p h j k u d e = keeps-cut (state (suc l) zero ws ts p h) e
+    keeps-free (suc l) (suc f) ws ts p h j k u d e =
+        keeps-counted (state (suc l) (suc f) ws ts p h) (on (j (unknown (length ws))) (state l f (ws ++ job ∷ []) ts p h)) _ (record { tree = k (unknown (length ws)); sure = u _; does = d l (le-refl _) _; same = refl }) e
 
   -- a comparison, after its step
-  goes-side : (x : Option (List Window)) (o : Bool) (q : Cmp) (a b : Value) (l f : ℕ) (ws : List Window) (ts : List Test) (p h : List Bool) (m : Machine Value) (t : Does Value) → Runs known work c l m t
+  goes-side : (x : Option (List Window)) (o : Bool) (q : Cmp) (a b : Value) (l f : ℕ) (ws : List Window) (ts : List Test) (p h : List Bool) (m : Machine Value) (t : Does Value) → Sure t
+      → Runs known work c l m t
       → GoesOn (behind h (taking o (sided x (λ us. route solver job t l f us (asTest (holding o q) a b ∷ ts) (later p))))) (siding q a b m (state l f ws ts p h) o x)
   unfolding last
-  goes-side none o q a b l f ws ts p h m t d = refl
-  goes-side (some us) o q a b l f ws ts p h m t d = record { tree = t; does = d; same = route-eq (append-assoc h (o ∷ []) _) }
+  goes-side none o q a b l f ws ts p h m t u d = refl
+  goes-side (some us) o q a b l f ws ts p h m t u d = record { tree = t; sure = u; does = d; same = route-eq (append-assoc h (o ∷ []) _) }
 
   goes-choice : (x : Option Bool) (q : Cmp) (a b : Value) (l f : ℕ) (ws : List Window) (ts : List Test) (p h : List Bool) (j : Bool → Machine Value) (k : Bool → Does Value)
-      → ((o : Bool) → Runs known work c l (j o) (k o))
+      → ((o : Bool) → Sure (k o)) → ((o : Bool) → Runs known work c l (j o) (k o))
       → GoesOn (behind h (elim x as (λ x. Route) [
         | some o ↦ route solver job (k o) l f ws ts p
         | none ↦ taking (outcome p) (sided (solver .narrow (holding (outcome p) q) a b ws) (λ us. route solver job (k (outcome p)) l f us (asTest (holding (outcome p) q) a b ∷ ts) (later p)))
       ])) (elim x as (λ x. Went) [ some o ↦ on (j o) (state l f ws ts p h) | none ↦ choosing solver job q a b j (state l f ws ts p h) (outcome p) ])
   unfolding choosing
-  goes-choice (some o) q a b l f ws ts p h j k d = record { tree = k o; does = d o; same = refl }
-  goes-choice none q a b l f ws ts p h j k d = goes-side (solver .narrow (holding (outcome p) q) a b ws) (outcome p) q a b l f ws ts p h (j (outcome p)) (k (outcome p)) (d (outcome p))
+  goes-choice (some o) q a b l f ws ts p h j k u d = record { tree = k o; sure = u o; does = d o; same = refl }
+  goes-choice none q a b l f ws ts p h j k u d = goes-side (solver .narrow (holding (outcome p) q) a b ws) (outcome p) q a b l f ws ts p h (j (outcome p)) (k (outcome p)) (u (outcome p)) (d (outcome p))
 
   module _ (r : Route) where
-    keeps-test : (l f : ℕ) (ws : List Window) (ts : List Test) (p h : List Bool) (o : Cmp) (a b : Value) (j : Bool → Machine Value) (k : Bool → Does Value) → ((i : ℕ) → i < l → (q : Bool) → Runs known work c i (j q) (k q))
+    keeps-test : (l f : ℕ) (ws : List Window) (ts : List Test) (p h : List Bool) (o : Cmp) (a b : Value) (j : Bool → Machine Value) (k : Bool → Does Value) → ((o : Bool) → Sure (k o))
+        → ((i : ℕ) → i < l → (q : Bool) → Runs known work c i (j q) (k q))
         → at (Does.step (Does.test o a b k)) (state l f ws ts p h) ≡ r → Keeps r (turning solver job (Doing.test o a b j) (state l f ws ts p h))
     unfolding turning comparing route
-    keeps-test zero f ws ts p h o a b j k d e = keeps-cut r (state zero f ws ts p h) e
-    keeps-test (suc l) f ws ts p h o a b j k d e =
-        keeps-counted r (state (suc l) f ws ts p h) (comparing solver job o a b j (state l f ws ts p h)) (route solver job (Does.test o a b k) l f ws ts p) (goes-choice (solver .decide o a b ws) o a b l f ws ts p h j k (d l (le-refl _))) e
+    keeps-test zero f ws ts p h o a b j k u d e = keeps-cut r (state zero f ws ts p h) e
+    keeps-test (suc l) f ws ts p h o a b j k u d e =
+        keeps-counted r (state (suc l) f ws ts p h) (comparing solver job o a b j (state l f ws ts p h)) (route solver job (Does.test o a b k) l f ws ts p) (goes-choice (solver .decide o a b ws) o a b l f ws ts p h j k u (d l (le-refl _))) e
 
-    keeps-makes : (s : State) {d : Doing Value} {t : Does Value} → Makes known work c (s .steps) d t → at t s ≡ r → Keeps r (turning solver job d s)
-    unfolding turning route last
-    keeps-makes s (simulate.silent {m} {t} h) e = keeps-still r (on m s) (record { tree = t; does = h; same = e })
-    keeps-makes s (simulate.step {m} {t} h) e = keeps-step r (s .steps) (s .frees) (s .windows) (s .tests) (s .forced) (s .chosen) m t h e
-    keeps-makes s (simulate.free {j} {k} h) e = keeps-free r (s .steps) (s .frees) (s .windows) (s .tests) (s .forced) (s .chosen) j k h e
-    keeps-makes s (simulate.test {o} {a} {b} {j} {k} h) e = keeps-test (s .steps) (s .frees) (s .windows) (s .tests) (s .forced) (s .chosen) o a b j k h e
-    keeps-makes s (simulate.returned {v}) e = keeps-still r (ended (returned v) s) (route-eq (sym (append-nil (s .chosen))) ∙ e)
-    keeps-makes s simulate.failed e = keeps-still r (ended failed s) (route-eq (sym (append-nil (s .chosen))) ∙ e)
-    keeps-makes s simulate.cut e = keeps-cut r s e
+    keeps-makes : (s : State) {d : Doing Value} {t : Does Value} → Makes known work c (s .steps) d t → Sure t → at t s ≡ r → Keeps r (turning solver job d s)
+    unfolding turning route last Sure
+    keeps-makes s (simulate.silent {m} {t} h) u e = keeps-still r (on m s) (record { tree = t; sure = u; does = h; same = e })
+    keeps-makes s (simulate.step {m} {t} h) u e = keeps-step r (s .steps) (s .frees) (s .windows) (s .tests) (s .forced) (s .chosen) m t u h e
+    keeps-makes s (simulate.free {j} {k} h) u e = keeps-free r (s .steps) (s .frees) (s .windows) (s .tests) (s .forced) (s .chosen) j k u h e
+    keeps-makes s (simulate.test {o} {a} {b} {j} {k} h) u e = keeps-test (s .steps) (s .frees) (s .windows) (s .tests) (s .forced) (s .chosen) o a b j k u h e
+    keeps-makes s (simulate.returned {v}) u e = keeps-still r (ended (returned v) s) (route-eq (sym (append-nil (s .chosen))) ∙ e)
+    keeps-makes s simulate.failed u e = keeps-still r (ended failed s) (route-eq (sym (append-nil (s .chosen))) ∙ e)
+    keeps-makes s simulate.cut u e = keeps-cut r s e
+    keeps-makes s simulate.stuck u e = absurd u
 
     -- a turn keeps to the route
     pub turn-keeps : (m : Machine Value) (s : State) → Goes r m s → Keeps r (turn solver job c m s)
     unfolding turn
-    turn-keeps m s h = run (h .does) (h .same)
+    turn-keeps m s h = run (h .does) (h .sure) (h .same)
       where
-        run : {t : Does Value} → Runs known work c (s .steps) m t → at t s ≡ r → Keeps r (turning solver job (advance known work c m) s)
-        run (simulate.runs d) e = keeps-makes s d e
+        run : {t : Does Value} → Runs known work c (s .steps) m t → Sure t → at t s ≡ r → Keeps r (turning solver job (advance known work c m) s)
+        run (simulate.runs d) u e = keeps-makes s d u e
 
   -- on a program's code, a path goes its route from the start on
-  pub goes-start : (most : ℕ) (p : Program) → Placed c p → (forced : List Bool) → Goes (route solver job (does known work most p) most 8 [] [] forced) (start known work c) (begins most forced)
-  goes-start most p h forced = record { tree = does known work most p; does = does-runs known work c most p h most (le-refl _); same = refl }
+  pub goes-start : (most : ℕ) (p : Program) → Placed c p → Sure (does known work most p) → (forced : List Bool)
+      → Goes (route solver job (does known work most p) most 8 [] [] forced) (start known work c) (begins most forced)
+  goes-start most p h u forced = record { tree = does known work most p; sure = u; does = does-runs known work c most p h most (le-refl _); same = refl }
 
 -- ---- the turns come to an end
 
@@ -250,11 +256,12 @@ module _ (solver : Solver) (job : Window) (c : Code) where
       by g r (on m₂ s₂) a b = g r m₂ s₂ a (b .kept) (lt-of-lt-of-le (b .nearer) (le-of-suc-le-suc l))
       by g r (ended e s₂) a b = a
 
-  driven-ok : (most : ℕ) (p : Program) → Placed c p → (forced : List Bool) (n : ℕ) → most-turns c most ≤ n
+  driven-ok : (most : ℕ) (p : Program) → Placed c p → Sure (does known work most p) → (forced : List Bool) (n : ℕ) → most-turns c most ≤ n
       → drive n (start known work c) (begins most forced) ≡ route solver job (does known work most p) most 8 [] [] forced
-  driven-ok most p h forced n l = drive-ok most n _ _ _ (goes-start solver job c most p h forced) (kept-start c most forced) (lt-of-lt-of-le (turns-le c most _ _ (kept-start c most forced)) l)
+  driven-ok most p h u forced n l = drive-ok most n _ _ _ (goes-start solver job c most p h u forced) (kept-start c most forced) (lt-of-lt-of-le (turns-le c most _ _ (kept-start c most forced)) l)
 
 -- the path that the machine goes from the start of main with forced outcomes is that path of the search
-pub replay-ok : (solver : Solver) (job : Window) (most : ℕ) (p : Program) (forced : List Bool) → Has (paths solver job (within most 8 (does known work most p)) [] []) forced → (n : ℕ) → most-turns (codeOf p) most ≤ n
+pub replay-ok : (solver : Solver) (job : Window) (most : ℕ) (p : Program) → Sure (does known work most p) → (forced : List Bool)
+    → Has (paths solver job (within most 8 (does known work most p)) [] []) forced → (n : ℕ) → most-turns (codeOf p) most ≤ n
     → drive solver job (codeOf p) n (start known work (codeOf p)) (begins most forced) ≡ of (paths solver job (within most 8 (does known work most p)) [] []) forced
-replay-ok solver job most p forced h n l = driven-ok solver job (codeOf p) most p (placed p) forced n l ∙ route-of solver job (does known work most p) most 8 [] [] forced h
+replay-ok solver job most p u forced h n l = driven-ok solver job (codeOf p) most p (placed p) u forced n l ∙ route-of solver job (does known work most p) most 8 [] [] forced h

@@ -2,6 +2,7 @@
 pub mod Replay
 pub mod Route
 pub mod Placed
+pub mod Agrees
 pub mod Simulate
 pub mod Bounds
 pub mod Drive

@@ -8,7 +8,7 @@ use native.Mathlib.Omega.{arith}
 use native.Mathlib.Nat.{le-of-suc-le-suc, lt-of-lt-of-le}
 use lib.IntN.{ℤ}
 use Rattle.semantics.specs.Program.{Program}
-use Rattle.semantics.specs.Does.{does, within}
+use Rattle.semantics.specs.Does.{does, within, Sure}
 use Rattle.semantics.specs.Run.{Window, Row, Job}
 use Rattle.semantics.specs.Search as search
 use Rattle.semantics.specs.Search.{Value, known, work, under, Solver, Test, meets, settings, Kind, missed, Move, plain, found, tried, probed, Paths, paths, moves, probedOnce, Close, Answer, answer, listed}
@@ -226,14 +226,14 @@ module _ (a : Answer) where
 
   -- ---- all paths
 
-  module _ (solver : Solver) (job : Window) (c : Code) (most : ℕ) (p : Program) (placing : Placed c p) where
+  module _ (solver : Solver) (job : Window) (c : Code) (most : ℕ) (p : Program) (placing : Placed c p) (sure : Sure (does known work most p)) where
     -- a path starts on its route
     pub leads-start : (b : Start) → Opens (treeOf solver job most p) b → Leads (treeOf solver job most p) solver job c (start known work c) (begins most (b .forced)) (b .tally)
     leads-start b o =
         let t = treeOf solver job most p in
         record {
           route = of t (b .forced);
-          goes = subst (λ r. Goes solver job c r (start known work c) (begins most (b .forced))) (route-of solver job (does known work most p) most 8 [] [] (b .forced) (o .has)) (goes-start solver job c most p placing (b .forced));
+          goes = subst (λ r. Goes solver job c r (start known work c) (begins most (b .forced))) (route-of solver job (does known work most p) most 8 [] [] (b .forced) (o .has)) (goes-start solver job c most p placing sure (b .forced));
           has = has-chosen t (b .forced) (o .has);
           gives = ap (outlook (b .tally)) (sym (one-path t (b .forced) (o .has) ∙ ap (λ l. replayed t (b .forced) ++ l) (take-back t (chosen t (b .forced)) (has-chosen t (b .forced) (o .has))))) ∙ o .gives;
         }
@@ -258,7 +258,8 @@ opens-start solver j skip room budget = record { has = tt; gives = answer-eq ref
 
 -- The search that the machine makes on a program's code answers what the definitions say, for every solver, job, skip, room and budget:
 -- where k allows more paths than the budget has moves, and n as many turns as a path can have.
-pub placed-lists : (solver : Solver) (j : Job) (c : Code) → Placed c (j .program) → (skip room budget : ℕ) (k n : ℕ) → budget < k → most-turns c (j .steps) ≤ n
+pub placed-lists : (solver : Solver) (j : Job) (c : Code) → Placed c (j .program) → Sure (does known work (j .steps) (j .program)) → (skip room budget : ℕ) (k n : ℕ) → budget < k
+    → most-turns c (j .steps) ≤ n
     → searching solver (j .window) c (j .steps) k n (opening skip room budget) ≡ listed solver j skip room budget
-placed-lists solver j c h skip room budget k n g l =
-    searching-ok (listed solver j skip room budget) solver (j .window) c (j .steps) (j .program) h k n l (opening skip room budget) (opens-start solver j skip room budget) g
+placed-lists solver j c h u skip room budget k n g l =
+    searching-ok (listed solver j skip room budget) solver (j .window) c (j .steps) (j .program) h u k n l (opening skip room budget) (opens-start solver j skip room budget) g

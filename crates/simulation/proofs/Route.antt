@@ -5,7 +5,7 @@ use mathlib.Core.Bool.{Bool, true, false}
 use mathlib.Core.Option.{Option, none, some}
 use mathlib.Core.List.{List, [], _∷_, _++_}
 use lib.ListN.{length}
-use Rattle.semantics.specs.Does.{Does, returned, failed, cut, step, free, test, within}
+use Rattle.semantics.specs.Does.{Does, returned, failed, cut, stuck, step, free, test, within}
 use Rattle.semantics.specs.Run.{Window}
 use Rattle.semantics.specs.Search.{Value, unknown, Solver, Test, settings, Move, plain, stepped, tried, probed, Paths, leaf, onward, fork, asTest, side, paths}
 use Rattle.simulation.specs.Path.{holding, outcome, later}
@@ -36,6 +36,7 @@ module _ (solver : Solver) (job : Window) where
   route (returned v) l f ws ts p = ending (tried v ts (settings ws))
   route failed l f ws ts p = ending []
   route cut l f ws ts p = ending (probed ts (settings ws))
+  route stuck l f ws ts p = ending []
   route (step t) zero f ws ts p = ending (probed ts (settings ws))
   route (step t) (suc l) f ws ts p = stepping p (route t l f ws ts p)
   route (free k) zero f ws ts p = ending (probed ts (settings ws))
@@ -86,6 +87,7 @@ module _ (solver : Solver) (job : Window) where
   route-of (returned v) l f ws ts p h = of-leaf _ p h
   route-of failed l f ws ts p h = of-leaf _ p h
   route-of cut l f ws ts p h = of-leaf _ p h
+  route-of stuck l f ws ts p h = of-leaf _ p h
   route-of (step t) zero f ws ts p h = of-leaf _ p h
   route-of (step t) (suc l) f ws ts p h = ap (stepping p) (route-of t l f ws ts p (has-step _ p h)) ∙ of-step _ p
   route-of (free k) zero f ws ts p h = of-leaf _ p h

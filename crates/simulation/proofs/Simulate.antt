@@ -2,6 +2,7 @@
 use Prim.Native.Nat.{ℕ, zero, suc, _-_, _≤_, _<_}
 use mathlib.Core.Path.{_≡_, refl, sym, ap, _∙_, subst}
 use mathlib.Core.Bool.{Bool, true, false}
+use mathlib.Core.Option.{Option, none, some}
 use mathlib.Core.List.{List, [], _∷_, _++_, append-nil}
 use native.Mathlib.Omega.{arith}
 use native.Mathlib.Nat.{lt-of-lt-of-le, le-of-lt, le-trans, le-of-suc-le-suc}
@@ -11,13 +12,14 @@ use Rattle.semantics.specs.Int.{Op, Cmp}
 use Rattle.semantics.specs.Program
 use Rattle.semantics.specs.Does
 use Rattle.semantics.specs.Program.{Expr, Exprs, Cond, Stmt, Stmts, Program}
-use Rattle.semantics.specs.Does.{Does, frame, expr, exprs, loop, stmt, stmts, enter, does, fetch, store}
+use Rattle.semantics.specs.Does.{Does, Frame, fetch, store, expr, exprs, loop, stmt, stmts, enter, does}
 use Rattle.simulation.specs.Code.{Act, Entry, argument, act, Code, count}
 use Rattle.simulation.specs.Machine.{Caller, Machine, Doing, machine, entryAt, reading, taken, two, gather, entering, leaving, working, advance, start}
 use Rattle.simulation.specs.Placed.{InE, InEs, InC, InS, InSs, InB, Placed}
+use Rattle.simulation.proofs.Agrees.{Has, nothing, same, Agrees, agrees-frame, agrees-fetch, agrees-store, agrees-declare}
 
 module _ {X : Type 0} (num : ℤ → X) (work : Op → X → X → X) (c : Code) where
-  -- For n steps, the machine does what the tree does, and what it does next is what the tree does.
+  -- For n steps, the machine does what the tree does, and what it does next is what the tree does. Where the tree is stuck, nothing is said of the machine.
   mutual
     pub data Runs : ℕ → Machine X → Does X → Type 0 where
       runs : {n : ℕ} {m : Machine X} {t : Does X} → Makes n (advance num work c m) t → Runs n m t
@@ -30,6 +32,7 @@ module _ {X : Type 0} (num : ℤ → X) (work : Op → X → X → X) (c : Code)
       returned : {n : ℕ} {v : X} → Makes n (Doing.returned v) (Does.returned v)
       failed : {n : ℕ} → Makes n Doing.failed Does.failed
       cut : {n : ℕ} → Makes n Doing.cut Does.cut
+      stuck : {n : ℕ} {d : Doing X} → Makes n d Does.stuck
 
   mutual
     fewer : {n : ℕ} {m : Machine X} {t : Does X} → Runs n m t → (k : ℕ) → k ≤ n → Runs k m t
@@ -43,6 +46,7 @@ module _ {X : Type 0} (num : ℤ → X) (work : Op → X → X → X) (c : Code)
     makes-fewer returned k h = returned
     makes-fewer failed k h = failed
     makes-fewer cut k h = cut
+    makes-fewer stuck k h = stuck
 
   -- what the entry at i makes, where it is known
   by : {n i : ℕ} {b : Bool} {ts f : List X} {cs : List (Caller X)} {d : ℕ} {t : Does X} (x : Entry) → entryAt c i ≡ x → Makes n (working num work c i b ts f cs d x) t → Runs n (machine i b ts f cs d) t
@@ -51,6 +55,11 @@ module _ {X : Type 0} (num : ℤ → X) (work : Op → X → X → X) (c : Code)
 
   steps : {n : ℕ} {m : Machine X} {t : Does X} → Runs n m t → Makes n (Doing.step m) (Does.step t)
   steps r = step (λ k l. fewer r k (le-of-lt l))
+
+  -- a variable read, if the tree's place holds something
+  reads : {n : ℕ} {m : Machine X} {o : Option X} {x : X} (k : X → Does X) → Has o x → Runs n m (k x) → Runs n m (elim o as (λ o. Does X) [ none ↦ Does.stuck | some v ↦ k v ])
+  reads k nothing r = runs stuck
+  reads k same r = r
 
   -- ---- operands
 
@@ -93,94 +102,97 @@ module _ {X : Type 0} (num : ℤ → X) (work : Op → X → X → X) (c : Code)
     mutual
       unfolding expr
 
-      expr-runs : {e : Expr} {i j : ℕ} → InE (c .entries) e i j → (n : ℕ) → n ≤ most → (b : Bool) (ts f : List X) (cs : List (Caller X)) (k : X → Does X)
+      expr-runs : {e : Expr} {i j : ℕ} → InE (c .entries) e i j → (n : ℕ) → n ≤ most → (b : Bool) (ts : List X) {F : Frame X} {f : List X} → Agrees F f → (cs : List (Caller X)) (k : X → Does X)
           → ((v : X) (ts₁ : List X) (b : Bool) → Takes f ts₁ j v ts → Runs n (machine j b ts₁ f cs d) (k v))
-          → Runs n (machine i b ts f cs d) (expr num work call e f k)
-      expr-runs (InE.number {z} e) n l b ts f cs k h = by _ e (silent (h (num z) ts b (takes-at _ e)))
-      expr-runs (InE.name {a} e) n l b ts f cs k h = by _ e (silent (h (fetch (num (pos 0)) f a) ts b (takes-at _ e)))
-      expr-runs (InE.op {o} {n = j} {d = r} x y e q) n l b ts f cs k h =
-          expr-runs x n l b ts f cs _ λ v ts₁ b p. expr-runs y n l b ts₁ f cs _ λ w ts₂ b p₂.
+          → Runs n (machine i b ts f cs d) (expr num work call e F k)
+      expr-runs (InE.number {z} e) n l b ts u cs k h = by _ e (silent (h (num z) ts b (takes-at _ e)))
+      expr-runs (InE.name {a} e) n l b ts {f} u cs k h = reads k (agrees-fetch (num (pos 0)) a u) (by _ e (silent (h (fetch (num (pos 0)) f a) ts b (takes-at _ e))))
+      expr-runs (InE.op {o} {n = j} {d = r} x y e q) n l b ts {f} u cs k h =
+          expr-runs x n l b ts u cs _ λ v ts₁ b p. expr-runs y n l b ts₁ u cs _ λ w ts₂ b p₂.
           by _ e (subst (λ t. Makes n (Doing.step (machine (suc j) b (work o (t .first) (t .second) ∷ t .rest) f cs d)) (Does.step (k (work o v w)))) (sym (two-ok r p₂ q p))
           (steps (h (work o v w) (work o v w ∷ ts) b (takes-at _ e))))
-      expr-runs (InE.call {g} {es} {n = j} x e) n l b ts f cs k h =
-          exprs-runs x n l b ts f cs _ λ vs ts₁ b p.
+      expr-runs (InE.call {g} {es} {n = j} x e) n l b ts {f} u cs k h =
+          exprs-runs x n l b ts u cs _ λ vs ts₁ b p.
           by _ e (subst (λ a. Makes n (entering num work c d g a j b f cs) (call g vs k)) (sym (gathers-all p))
           (calls n l g vs ts f cs j b k (λ v b. h v (v ∷ ts) b (takes-at _ e))))
 
-      exprs-runs : {es : Exprs} {i j : ℕ} → InEs (c .entries) es i j → (n : ℕ) → n ≤ most → (b : Bool) (ts f : List X) (cs : List (Caller X)) (k : List X → Does X)
+      exprs-runs : {es : Exprs} {i j : ℕ} → InEs (c .entries) es i j → (n : ℕ) → n ≤ most → (b : Bool) (ts : List X) {F : Frame X} {f : List X} → Agrees F f
+          → (cs : List (Caller X)) (k : List X → Does X)
           → ((vs ts₁ : List X) (b : Bool) → Gathers es f ts₁ i j vs ts → Runs n (machine j b ts₁ f cs d) (k vs))
-          → Runs n (machine i b ts f cs d) (exprs num work call es f k)
-      exprs-runs InEs.none n l b ts f cs k h = h [] ts b gathers-none
-      exprs-runs (InEs.more x e q y) n l b ts f cs k h =
-          expr-runs x n l b ts f cs _ λ v ts₁ b p. by _ e (silent (exprs-runs y n l b ts₁ f cs _ λ vs ts₂ b r. h (v ∷ vs) ts₂ b (gathers-more e q p r)))
+          → Runs n (machine i b ts f cs d) (exprs num work call es F k)
+      exprs-runs InEs.none n l b ts u cs k h = h [] ts b gathers-none
+      exprs-runs (InEs.more x e q y) n l b ts u cs k h =
+          expr-runs x n l b ts u cs _ λ v ts₁ b p. by _ e (silent (exprs-runs y n l b ts₁ u cs _ λ vs ts₂ b r. h (v ∷ vs) ts₂ b (gathers-more e q p r)))
 
-    cond-runs : {q : Cond} {i j : ℕ} → InC (c .entries) q i j → (n : ℕ) → n ≤ most → (b : Bool) (ts f : List X) (cs : List (Caller X)) (k : Bool → Does X)
+    cond-runs : {q : Cond} {i j : ℕ} → InC (c .entries) q i j → (n : ℕ) → n ≤ most → (b : Bool) (ts : List X) {F : Frame X} {f : List X} → Agrees F f → (cs : List (Caller X)) (k : Bool → Does X)
         → ((b : Bool) → Runs n (machine j b ts f cs d) (k b))
-        → Runs n (machine i b ts f cs d) (Does.cond num work call q f k)
+        → Runs n (machine i b ts f cs d) (Does.cond num work call q F k)
     unfolding Does.cond
-    cond-runs (InC.const {b = o} e) n l b ts f cs k h = by _ e (silent (h o))
-    cond-runs (InC.compare {c = o} {n = j} {d = r} x y e q) n l b ts f cs k h =
-        expr-runs x n l b ts f cs _ λ v ts₁ b p. expr-runs y n l b ts₁ f cs _ λ w ts₂ b p₂.
+    cond-runs (InC.const {b = o} e) n l b ts u cs k h = by _ e (silent (h o))
+    cond-runs (InC.compare {c = o} {n = j} {d = r} x y e q) n l b ts {f} u cs k h =
+        expr-runs x n l b ts u cs _ λ v ts₁ b p. expr-runs y n l b ts₁ u cs _ λ w ts₂ b p₂.
         by _ e (subst (λ t. Makes n (Doing.test o (t .first) (t .second) (λ z. machine (suc j) z (t .rest) f cs d)) (Does.step (Does.test o v w k))) (sym (two-ok r p₂ q p))
         (test (λ i m z. fewer (h z) i (le-of-lt m))))
-    cond-runs (InC.and x e y q) n l b ts f cs k h = cond-runs x n l b ts f cs _ (elim [
-      | true ↦ by _ e (silent (cond-runs y n l true ts f cs k h))
+    cond-runs (InC.and x e y q) n l b ts {f} u cs k h = cond-runs x n l b ts u cs _ (elim [
+      | true ↦ by _ e (silent (cond-runs y n l true ts u cs k h))
       | false ↦ by _ e (silent (subst (λ z. Runs n (machine z false ts f cs d) (k false)) (sym q) (h false)))
     ])
-    cond-runs (InC.or x e y q) n l b ts f cs k h = cond-runs x n l b ts f cs _ (elim [
+    cond-runs (InC.or x e y q) n l b ts {f} u cs k h = cond-runs x n l b ts u cs _ (elim [
       | true ↦ by _ e (silent (subst (λ z. Runs n (machine z true ts f cs d) (k true)) (sym q) (h true)))
-      | false ↦ by _ e (silent (cond-runs y n l false ts f cs k h))
+      | false ↦ by _ e (silent (cond-runs y n l false ts u cs k h))
     ])
 
     -- ---- statements
 
     -- what follows a statement, and what its function's return does
-    abbrev Follows : ℕ → ℕ → List (Caller X) → (List X → Does X) → Type 0
-    Follows n j cs k = (f ts : List X) (b : Bool) → Runs n (machine j b ts f cs d) (k f)
+    abbrev Follows : ℕ → ℕ → List (Caller X) → (Frame X → Does X) → Type 0
+    Follows n j cs k = (F : Frame X) (f : List X) → Agrees F f → (ts : List X) (b : Bool) → Runs n (machine j b ts f cs d) (k F)
 
     abbrev Leaves : ℕ → List (Caller X) → (X → Does X) → Type 0
     Leaves n cs r = (v : X) (b : Bool) → Makes n (leaving num work c cs v b d) (r v)
 
     -- a while has more turns left than the steps that count
-    loop-runs : (j : ℕ) {top bottom e : ℕ} → entryAt c bottom ≡ act (Act.again e) → bottom - e ≡ top → (cs : List (Caller X)) (turn : List X → (List X → Does X) → Does X) (n : ℕ) → n < j
-        → ((i : ℕ) → i ≤ n → (f ts : List X) (b : Bool) (a : List X → Does X) → Follows i bottom cs a → Runs i (machine top b ts f cs d) (turn f a))
-        → (f ts : List X) (b : Bool) → Runs n (machine top b ts f cs d) (loop num work call j turn f)
+    loop-runs : (j : ℕ) {top bottom e : ℕ} → entryAt c bottom ≡ act (Act.again e) → bottom - e ≡ top → (cs : List (Caller X)) (turn : Frame X → (Frame X → Does X) → Does X) (n : ℕ) → n < j
+        → ((i : ℕ) → i ≤ n → (a : Frame X → Does X) → Follows i bottom cs a → Follows i top cs (λ F. turn F a))
+        → Follows n top cs (loop num work call j turn)
     unfolding loop
-    loop-runs zero p q cs turn n l h f ts b = absurd (omega arith)
-    loop-runs (suc j) p q cs turn n l h f ts b = h n (omega arith) f ts b _ λ f ts b. by _ p
-        (subst (λ w. Makes n (Doing.step (machine w b ts f cs d)) (Does.step (loop num work call j turn f))) (sym q)
-        (step (λ i m. loop-runs j p q cs turn i (lt-of-lt-of-le m (le-of-suc-le-suc l)) (λ i′ m′. h i′ (le-trans m′ (le-of-lt m))) f ts b)))
+    loop-runs zero p q cs turn n l h F f u ts b = absurd (omega arith)
+    loop-runs (suc j) p q cs turn n l h F f u ts b = h n (omega arith) _ (λ F f u ts b. by _ p
+        (subst (λ w. Makes n (Doing.step (machine w b ts f cs d)) (Does.step (loop num work call j turn F))) (sym q)
+        (step (λ i m. loop-runs j p q cs turn i (lt-of-lt-of-le m (le-of-suc-le-suc l)) (λ i′ m′. h i′ (le-trans m′ (le-of-lt m))) F f u ts b)))) F f u ts b
 
     mutual
       unfolding stmt
 
-      stmt-runs : {s : Stmt} {i j : ℕ} → InS (c .entries) s i j → (n : ℕ) → n ≤ most → (b : Bool) (ts f : List X) (cs : List (Caller X)) (k : List X → Does X) (r : X → Does X)
-          → Follows n j cs k → Leaves n cs r → Runs n (machine i b ts f cs d) (stmt num work call most s f k r)
-      stmt-runs (InS.empty e) n l b ts f cs k r h g = by _ e (steps (h f ts b))
-      stmt-runs (InS.declare {a} e) n l b ts f cs k r h g = by _ e (steps (h (store f a (num (pos 0))) ts b))
-      stmt-runs (InS.unknown {a} e) n l b ts f cs k r h g = by _ e (free (λ i m v. fewer (h (store f a v) ts b) i (le-of-lt m)))
-      stmt-runs (InS.assign {a} {n = j} e x e₂) n l b ts f cs k r h g =
-          by _ e (steps (expr-runs x n l b ts f cs _ λ v ts₁ b p. by _ e₂
-          (subst (λ t. Makes n (Doing.silent (machine (suc j) b (t .rest) (store f a (t .value)) cs d)) (k (store f a v))) (sym (p .takes)) (silent (h (store f a v) ts b)))))
-      stmt-runs (InS.eval e x) n l b ts f cs k r h g = by _ e (steps (expr-runs x n l b ts f cs _ λ v ts₁ b p. h f ts₁ b))
-      stmt-runs (InS.block e x) n l b ts f cs k r h g = by _ e (steps (stmts-runs x n l b ts f cs k r h g))
-      stmt-runs (InS.if {t} e x e₂ y e₃ z q q₂) n l b ts f cs k r h g = by _ e (steps (cond-runs x n l b ts f cs _ (elim [
-        | true ↦ by _ e₂ (silent (stmt-runs y n l true ts f cs k r (λ f ts b. by _ e₃ (silent (subst (λ z. Runs n (machine z b ts f cs d) (k f)) (sym q₂) (h f ts b)))) g))
-        | false ↦ by _ e₂ (silent (subst (λ w. Runs n (machine w false ts f cs d) (stmt num work call most t f k r)) (sym q) (stmt-runs z n l false ts f cs k r h g)))
+      stmt-runs : {s : Stmt} {i j : ℕ} → InS (c .entries) s i j → (n : ℕ) → n ≤ most → (b : Bool) (ts : List X) {F : Frame X} {f : List X} → Agrees F f
+          → (cs : List (Caller X)) (k : Frame X → Does X) (r : X → Does X)
+          → Follows n j cs k → Leaves n cs r → Runs n (machine i b ts f cs d) (stmt num work call most s F k r)
+      stmt-runs (InS.empty e) n l b ts u cs k r h g = by _ e (steps (h _ _ u ts b))
+      stmt-runs (InS.declare {a} e) n l b ts u cs k r h g = by _ e (steps (h _ _ (agrees-declare a u) ts b))
+      stmt-runs (InS.unknown {a} e) n l b ts u cs k r h g = by _ e (free (λ i m v. fewer (h _ _ (agrees-store a v u) ts b) i (le-of-lt m)))
+      stmt-runs (InS.assign {a} {n = j} e x e₂) n l b ts {F} {f} u cs k r h g =
+          by _ e (steps (expr-runs x n l b ts u cs _ λ v ts₁ b p. by _ e₂
+          (subst (λ t. Makes n (Doing.silent (machine (suc j) b (t .rest) (store f a (t .value)) cs d)) (k (store F a (some v)))) (sym (p .takes)) (silent (h _ _ (agrees-store a v u) ts b)))))
+      stmt-runs (InS.eval e x) n l b ts u cs k r h g = by _ e (steps (expr-runs x n l b ts u cs _ λ v ts₁ b p. h _ _ u ts₁ b))
+      stmt-runs (InS.block e x) n l b ts u cs k r h g = by _ e (steps (stmts-runs x n l b ts u cs k r h g))
+      stmt-runs (InS.if {t} e x e₂ y e₃ z q q₂) n l b ts {F} {f} u cs k r h g = by _ e (steps (cond-runs x n l b ts u cs _ (elim [
+        | true ↦ by _ e₂ (silent (stmt-runs y n l true ts u cs k r (λ F f u ts b. by _ e₃ (silent (subst (λ z. Runs n (machine z b ts f cs d) (k F)) (sym q₂) (h F f u ts b)))) g))
+        | false ↦ by _ e₂ (silent (subst (λ w. Runs n (machine w false ts f cs d) (stmt num work call most t F k r)) (sym q) (stmt-runs z n l false ts u cs k r h g)))
       ])))
-      stmt-runs (InS.while e x e₂ y e₃ q q₂) n l b ts f cs k r h g =
-          by _ e (step (λ i m. loop-runs most e₃ q₂ cs _ i (lt-of-lt-of-le m l) (λ i′ m′ f ts b a h₂. cond-runs x i′ (le-trans m′ (le-trans (le-of-lt m) l)) b ts f cs _ (elim [
-            | true ↦ by _ e₂ (silent (stmt-runs y i′ (le-trans m′ (le-trans (le-of-lt m) l)) true ts f cs a r h₂ (λ v b. makes-fewer (g v b) i′ (le-trans m′ (le-of-lt m)))))
-            | false ↦ by _ e₂ (silent (subst (λ w. Runs i′ (machine w false ts f cs d) (k f)) (sym q) (fewer (h f ts false) i′ (le-trans m′ (le-of-lt m)))))
-          ])) f ts b))
-      stmt-runs (InS.return e x e₂) n l b ts f cs k r h g =
-          by _ e (steps (expr-runs x n l b ts f cs _ λ v ts₁ b p. by _ e₂ (subst (λ t. Makes n (leaving num work c cs (t .value) b d) (r v)) (sym (p .takes)) (g v b))))
-      stmt-runs (InS.fail e e₂) n l b ts f cs k r h g = by _ e (steps (by _ e₂ failed))
+      stmt-runs (InS.while e x e₂ y e₃ q q₂) n l b ts u cs k r h g =
+          by _ e (step (λ i m. loop-runs most e₃ q₂ cs _ i (lt-of-lt-of-le m l) (λ i′ m′ a h₂ F f u ts b. cond-runs x i′ (le-trans m′ (le-trans (le-of-lt m) l)) b ts u cs _ (elim [
+            | true ↦ by _ e₂ (silent (stmt-runs y i′ (le-trans m′ (le-trans (le-of-lt m) l)) true ts u cs a r h₂ (λ v b. makes-fewer (g v b) i′ (le-trans m′ (le-of-lt m)))))
+            | false ↦ by _ e₂ (silent (subst (λ w. Runs i′ (machine w false ts f cs d) (k F)) (sym q) (fewer (h F f u ts false) i′ (le-trans m′ (le-of-lt m)))))
+          ])) _ _ u ts b))
+      stmt-runs (InS.return e x e₂) n l b ts u cs k r h g =
+          by _ e (steps (expr-runs x n l b ts u cs _ λ v ts₁ b p. by _ e₂ (subst (λ t. Makes n (leaving num work c cs (t .value) b d) (r v)) (sym (p .takes)) (g v b))))
+      stmt-runs (InS.fail e e₂) n l b ts u cs k r h g = by _ e (steps (by _ e₂ failed))
 
-      stmts-runs : {ss : Stmts} {i j : ℕ} → InSs (c .entries) ss i j → (n : ℕ) → n ≤ most → (b : Bool) (ts f : List X) (cs : List (Caller X)) (k : List X → Does X) (r : X → Does X)
-          → Follows n j cs k → Leaves n cs r → Runs n (machine i b ts f cs d) (stmts num work call most ss f k r)
-      stmts-runs InSs.end n l b ts f cs k r h g = h f ts b
-      stmts-runs (InSs.next x y) n l b ts f cs k r h g = stmt-runs x n l b ts f cs _ r (λ f ts b. stmts-runs y n l b ts f cs k r h g) g
+      stmts-runs : {ss : Stmts} {i j : ℕ} → InSs (c .entries) ss i j → (n : ℕ) → n ≤ most → (b : Bool) (ts : List X) {F : Frame X} {f : List X} → Agrees F f
+          → (cs : List (Caller X)) (k : Frame X → Does X) (r : X → Does X)
+          → Follows n j cs k → Leaves n cs r → Runs n (machine i b ts f cs d) (stmts num work call most ss F k r)
+      stmts-runs InSs.end n l b ts u cs k r h g = h _ _ u ts b
+      stmts-runs (InSs.next x y) n l b ts u cs k r h g = stmt-runs x n l b ts u cs _ r (λ F f u ts b. stmts-runs y n l b ts u cs k r h g) g
 
   -- ---- calls
 
@@ -191,8 +203,8 @@ module _ {X : Type 0} (num : ℤ → X) (work : Op → X → X → X) (c : Code)
     unfolding enter
     enter-runs zero n l g vs ts f cs i b k h = cut
     enter-runs (suc d) n l g vs ts f cs i b k h =
-        steps (stmts-runs most d (enter num work most p d) (enter-runs d) (bodies g .body) n l b [] (frame (num (pos 0)) 16 vs) _ _ k
-        (λ f ts b. by _ (bodies g .last) failed) (λ v b. silent (h v b)))
+        steps (stmts-runs most d (enter num work most p d) (enter-runs d) (bodies g .body) n l b [] (agrees-frame (num (pos 0)) 16 vs) _ _ k
+        (λ F f u ts b. by _ (bodies g .last) failed) (λ v b. silent (h v b)))
 
   -- for n steps the machine does what the program does
   pub does-runs : (most : ℕ) (p : Program) → Placed c p → (n : ℕ) → n ≤ most → Runs n (start num work c) (does num work most p)

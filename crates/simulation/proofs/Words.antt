@@ -10,7 +10,8 @@ use lib.Seq.{getD-at, take-append-seam, drop-append-seam}
 use Rattle.semantics.specs.Int.{add, sub, mul, lt, le, gt, ge, eq, ne}
 use Rattle.semantics.specs.Program.{slot, Expr, Exprs, Cond, Stmt, Stmts, Program}
 use Rattle.semantics.specs.Does.{frame}
-use Rattle.simulation.specs.Code.{number, name, operate, compare, call, constant, jump, skip, again, begin, clear, ask, store, return, fail, Entry, leaf, argument, act, Code, codeE, codeEs, codeC, codeS, codeSs, codeB, entriesOf, startsOf, codeOf}
+use Rattle.semantics.proofs.Frames.{length-frame}
+use Rattle.simulation.specs.Code.{number, name, operate, compare, call, constant, jump, skip, again, begin, ask, store, return, fail, Entry, leaf, argument, act, Code, codeE, codeEs, codeC, codeS, codeSs, codeB, entriesOf, startsOf, codeOf}
 use Rattle.simulation.specs.Words.{entryOf, entriesIn, codeIn, kindOf, wordOf, wordsOf, wordsIn, Plain, FitsE, FitsEs, FitsC, FitsS, FitsSs, FitsBs, Fits}
 use Rattle.simulation.specs.Placed.{Placed, InB}
 use Rattle.simulation.proofs.Placed.{placed}
@@ -50,7 +51,6 @@ read-back (act (jump true d)) h = refl
 read-back (act (skip d)) h = refl
 read-back (act (again d)) h = refl
 read-back (act begin) h = refl
-read-back (act (clear (slot i))) h = ap (λ k. act (clear (slot k))) (omega arith)
 read-back (act (ask (slot i))) h = ap (λ k. act (ask (slot k))) (omega arith)
 read-back (act (store (slot i))) h = ap (λ k. act (store (slot k))) (omega arith)
 read-back (act return) h = refl
@@ -108,7 +108,7 @@ mutual
 
   plain-s : (s : Stmt) → FitsS s → AllPlain (codeS s)
   plain-s Stmt.empty h = (tt, tt)
-  plain-s (Stmt.declare a) h = (h, tt)
+  plain-s (Stmt.declare a) h = (tt, tt)
   plain-s (Stmt.unknown a) h = (h, tt)
   plain-s (Stmt.assign a e) h = (tt, plain-append (codeE e) _ (plain-e e (h .1)) (h .0, tt))
   plain-s (Stmt.eval e) h = (tt, plain-e e h)
@@ -132,12 +132,6 @@ unfolding codeOf
 plain-code p h = (h .main, (tt, (tt, plain-bs (p .bodies) (h .bodies))))
 
 -- ---- the code of a program in memory
-
-frame-length : (d : ℕ) (n : ℕ) (vs : List ℕ) → length (frame d n vs) ≡ n
-unfolding frame
-frame-length d zero vs = refl
-frame-length d (suc n) [] = ap suc (frame-length d n [])
-frame-length d (suc n) (v ∷ vs) = ap suc (frame-length d n vs)
 
 -- a default that fills a list up is what the list gives beside its places
 frame-getD : (d : ℕ) (n : ℕ) (vs : List ℕ) → length vs ≤ n → (i : ℕ) → getD (frame d n vs) i d ≡ getD vs i d
@@ -165,7 +159,7 @@ code-back c h rest = λ i. record { entries = entries i; starts = starts i }
         ap (λ l. take 16 (drop (2 * length (c .entries)) l)) split
         ∙ ap (λ n. take 16 (drop n (wordsOf (c .entries) ++ (frame 2 16 (c .starts) ++ rest)))) (sym (length-words (c .entries)))
         ∙ ap (take 16) (drop-append-seam (wordsOf (c .entries)) (frame 2 16 (c .starts) ++ rest))
-        ∙ ap (λ n. take n (frame 2 16 (c .starts) ++ rest)) (sym (frame-length 2 16 (c .starts)))
+        ∙ ap (λ n. take n (frame 2 16 (c .starts) ++ rest)) (sym (length-frame 2 16 (c .starts)))
         ∙ take-append-seam (frame 2 16 (c .starts)) rest
 
 length-starts : (i : ℕ) (bs : List Stmts) → length (startsOf i bs) ≡ length bs

@@ -29,8 +29,6 @@ pub data Act : Type 0 where
   again : ℕ → Act
   -- a statement begun, which is a step
   begin : Act
-  -- a variable declared: begun, and set to 0
-  clear : Address → Act
   -- a variable declared free: begun, and set to a new unknown
   ask : Address → Act
   -- the operand that ends just before this entry goes into a variable
@@ -78,7 +76,7 @@ codeC (Cond.or a b) = codeC a ++ act (jump true (length (codeC b))) ∷ codeC b
 unfoldable mutual
   pub codeS : Stmt → List Entry
   codeS Stmt.empty = act begin ∷ []
-  codeS (Stmt.declare a) = act (clear a) ∷ []
+  codeS (Stmt.declare a) = act begin ∷ []
   codeS (Stmt.unknown a) = act (ask a) ∷ []
   codeS (Stmt.assign a e) = act begin ∷ (codeE e ++ act (store a) ∷ [])
   codeS (Stmt.eval e) = act begin ∷ codeE e

@@ -23,7 +23,7 @@ pub record Machine (X : Type 0) : Type 0 where
   pub flag : Bool
   -- the temporaries of the function that runs: results of operations and calls that are still to be used, the newest first
   pub temps : List X
-  -- its variables
+  -- its variables, which all hold a value; a declaration leaves its place as it is, for no run of an accepted text reads it before another is stored
   pub frame : List X
   -- the calls that wait for it, the newest first
   pub callers : List (Caller X)
@@ -127,7 +127,6 @@ module _ {X : Type 0} (num : ℤ → X) (work : Op → X → X → X) (c : Code)
     acting (Act.skip n) = Doing.silent (machine (suc i + n) b ts f cs d)
     acting (Act.again n) = Doing.step (machine (i - n) b ts f cs d)
     acting Act.begin = Doing.step (machine (suc i) b ts f cs d)
-    acting (Act.clear a) = Doing.step (machine (suc i) b ts (store f a (num (pos 0))) cs d)
     acting (Act.ask a) = Doing.free (λ v. machine (suc i) b ts (store f a v) cs d)
     acting (Act.store a) = let t = taken f ts i in Doing.silent (machine (suc i) b (t .rest) (store f a (t .value)) cs d)
     acting Act.return = leaving cs (taken f ts i .value) b d

@@ -33,7 +33,7 @@ module _ (l : List Entry) where
   mutual
     pub data InS : Stmt → ℕ → ℕ → Type 0 where
       empty : {i : ℕ} → at l i ≡ act Act.begin → InS Stmt.empty i (suc i)
-      declare : {a : Address} {i : ℕ} → at l i ≡ act (Act.clear a) → InS (Stmt.declare a) i (suc i)
+      declare : {a : Address} {i : ℕ} → at l i ≡ act Act.begin → InS (Stmt.declare a) i (suc i)
       unknown : {a : Address} {i : ℕ} → at l i ≡ act (Act.ask a) → InS (Stmt.unknown a) i (suc i)
       assign : {a : Address} {e : Expr} {i n : ℕ} → at l i ≡ act Act.begin → InE e (suc i) n → at l n ≡ act (Act.store a) → InS (Stmt.assign a e) i (suc n)
       eval : {e : Expr} {i n : ℕ} → at l i ≡ act Act.begin → InE e (suc i) n → InS (Stmt.eval e) i n

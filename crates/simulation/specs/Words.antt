@@ -9,7 +9,7 @@ use mir.Val.{toZ}
 use Rattle.semantics.specs.Int.{add, sub, mul, lt, le, gt, ge, eq, ne, low32}
 use Rattle.semantics.specs.Program.{Address, slot, Expr, Exprs, Cond, Stmt, Stmts, Program}
 use Rattle.semantics.specs.Does.{frame}
-use Rattle.simulation.specs.Code.{number, name, operate, compare, call, constant, jump, skip, again, begin, clear, ask, store, return, fail, Entry, leaf, argument, act, Code}
+use Rattle.simulation.specs.Code.{number, name, operate, compare, call, constant, jump, skip, again, begin, ask, store, return, fail, Entry, leaf, argument, act, Code}
 
 -- ---- the kinds of entries; a comparison has the kind `cCompare` and its number, 0 to 5
 
@@ -61,17 +61,14 @@ cAgain = 19
 abbrev pub cBegin : ℕ
 cBegin = 20
 
-abbrev pub cClear : ℕ
-cClear = 21
-
 abbrev pub cAsk : ℕ
-cAsk = 22
+cAsk = 21
 
 abbrev pub cStore : ℕ
-cStore = 23
+cStore = 22
 
 abbrev pub cReturn : ℕ
-cReturn = 24
+cReturn = 23
 
 -- the words of an entry: its kind, then its number
 abbrev pub entryWords : ℕ
@@ -90,7 +87,7 @@ kinds w = act fail
     ∷ act (compare lt w) ∷ act (compare le w) ∷ act (compare gt w) ∷ act (compare ge w) ∷ act (compare eq w) ∷ act (compare ne w)
     ∷ act (call (w % 16) (w / 16))
     ∷ act (constant false) ∷ act (constant true) ∷ act (jump false w) ∷ act (jump true w) ∷ act (skip w) ∷ act (again w)
-    ∷ act begin ∷ act (clear (slot (w % 16))) ∷ act (ask (slot (w % 16))) ∷ act (store (slot (w % 16))) ∷ act return ∷ []
+    ∷ act begin ∷ act (ask (slot (w % 16))) ∷ act (store (slot (w % 16))) ∷ act return ∷ []
 
 -- a kind that is none of these fails
 unfoldable pub entryOf : ℕ → ℕ → Entry
@@ -129,7 +126,6 @@ kindOf (act (jump true d)) = cJumpTrue
 kindOf (act (skip d)) = cSkip
 kindOf (act (again d)) = cAgain
 kindOf (act begin) = cBegin
-kindOf (act (clear a)) = cClear
 kindOf (act (ask a)) = cAsk
 kindOf (act (store a)) = cStore
 kindOf (act return) = cReturn
@@ -151,7 +147,6 @@ wordOf (act (jump b d)) = d
 wordOf (act (skip d)) = d
 wordOf (act (again d)) = d
 wordOf (act begin) = 0
-wordOf (act (clear a)) = placeOf a
 wordOf (act (ask a)) = placeOf a
 wordOf (act (store a)) = placeOf a
 wordOf (act return) = 0
@@ -180,7 +175,6 @@ Plain (act (jump b d)) = Unit {0}
 Plain (act (skip d)) = Unit {0}
 Plain (act (again d)) = Unit {0}
 Plain (act begin) = Unit {0}
-Plain (act (clear a)) = placeOf a < 16
 Plain (act (ask a)) = placeOf a < 16
 Plain (act (store a)) = placeOf a < 16
 Plain (act return) = Unit {0}
@@ -210,7 +204,7 @@ FitsC (Cond.or a b) = FitsC a × FitsC b
 abbrev mutual
   pub FitsS : Stmt → Type 0
   FitsS Stmt.empty = Unit {0}
-  FitsS (Stmt.declare a) = Small a
+  FitsS (Stmt.declare a) = Unit {0}
   FitsS (Stmt.unknown a) = Small a
   FitsS (Stmt.assign a e) = Small a × FitsE e
   FitsS (Stmt.eval e) = FitsE e

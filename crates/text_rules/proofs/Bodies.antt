@@ -7,6 +7,7 @@ use native.Mathlib.Omega.{arith}
 use Rattle.syntax.specs.Ast.{Sort, Ast, expr, args, mark, cond, stmt, stmts, body, params, fun, prog}
 use Rattle.syntax.specs.Ast as A
 use Rattle.events.specs.Event.{Event, function, parameter, thing, opens, closes, declares, ends, first, closing, stops, eventsAt}
+use Rattle.text_rules.specs.Assigned.{parameterCount}
 use Rattle.text_rules.specs.Rules.{mostDeclarations}
 use Rattle.text_rules.specs.Names.{Declared, Scope, scope, declared, outer, entered}
 use Rattle.text_rules.proofs.OneMeaning.{Each, done, also}
@@ -230,11 +231,7 @@ module _ (counts : List ℕ) (means : ℕ → ℕ) where
   few-slots s h done = h
   few-slots s h (also {e = e} f w) = few-slots (entered s e) (next-few counts means s e h f) w
 
--- how many parameters; and the first n slots, the newest first
-unfoldable pub parameterCount : Ast params → ℕ
-parameterCount A.noParams = 0
-parameterCount (A.moreParams l i) = suc (parameterCount l)
-
+-- the first n slots, the newest first
 unfoldable pub firstSlots : ℕ → List ℕ
 firstSlots zero = []
 firstSlots (suc n) = n ∷ firstSlots n

@@ -16,12 +16,13 @@ use Rattle.semantics.specs.Program.{Stmts, Program}
 use Rattle.semantics.specs.Program as P
 use Rattle.text_rules.specs.Rules.{Head, parameters, heads, miscalls, mainless, tooMany}
 use Rattle.text_rules.specs.Names.{Scope, nowhere, meant, meanings, badNames}
+use Rattle.text_rules.specs.Assigned.{parameterCount}
 use Rattle.text_rules.specs.Resolve.{part, resolved}
 use Rattle.text_rules.specs.Answers.{head}
 use Rattle.text_rules.proofs.Counts.{arities, main-lt, main-bare}
 use Rattle.text_rules.proofs.OneMeaning.{Each}
 use Rattle.text_rules.proofs.Resolving.{Fits, names-fit}
-use Rattle.text_rules.proofs.Bodies.{after, front, back-to, parameterCount, ResolvedBody, body-resolved}
+use Rattle.text_rules.proofs.Bodies.{after, front, back-to, ResolvedBody, body-resolved}
 
 -- ---- the functions of a tree, in the order of the text
 

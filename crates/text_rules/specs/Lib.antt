@@ -3,5 +3,6 @@ pub mod Scan
 pub mod Spelling
 pub mod Rules
 pub mod Names
+pub mod Assigned
 pub mod Resolve
 pub mod Answers

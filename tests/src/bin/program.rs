@@ -200,6 +200,8 @@ fn limits() -> Vec<(String, Vec<u8>, String)> {
     add("the paper's", "job 0 3 100", A.as_bytes(), whole);
     add("no values", "job 0 3 100", b"int main() { return 7; }", "whole 1 rows 3 moves");
     add("no text", "job 0 3 100", b"", "refused 8 at 0");
+    let unset = b"int main() { int x; return x; }";
+    add("nothing to read", "job 0 3 100", unset, "refused 17 at 27");
     // The shortest line and the longest, with texts of the greatest length and more.
     for (line, last) in
         [("job 0 3 5", whole), ("job -0000000004 -0000000001 0000001000", "whole 4 rows 9 moves")]

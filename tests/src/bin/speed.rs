@@ -4,6 +4,7 @@
 //! cost what it would cost unfolded. The lent buffers are made once and not
 //! cleared between calls; that list zeroes its scratch is in its time.
 
+use reference::examples::declarations;
 use reference::search::LEAST_SCRATCH;
 use reference::{cases, check, linked, list, with_room, Job};
 use std::time::{Duration, Instant};
@@ -65,17 +66,25 @@ fn texts() -> Vec<(&'static str, Vec<u8>)> {
         .map(|n| {
             let name = if n == 15 { "main".to_string() } else { format!("f{n}") };
             let declared: String = ('a'..='p').map(|letter| format!("int {letter};")).collect();
-            format!("int {name}(){{{declared}return p;}}")
+            format!("int {name}(){{{declared}p=1;return p;}}")
         })
         .collect();
     let mut names = functions.into_bytes();
     assert!(names.len() <= LENGTH);
     names.resize(LENGTH, b' ');
+    // Rule 17 comes before 10, and so meets more variables than a function may
+    // have: the most that fit, and the most of variables times statements.
+    let most = format!("int main(){{{}", declarations(297));
+    let half = format!("int main(){{{}", declarations(150));
     vec![
         ("empty statements", filled("int main() { ", ";", " return 1; }")),
-        ("assignments", filled("int main() { int a; ", "a = a + 1; ", "return a; }")),
+        ("assignments", filled("int main() { int a; a = 0; ", "a = a + 1; ", "return a; }")),
         ("sixteen functions of sixteen names", names),
-        ("a sum", filled("int main() { int a; return a", "+a", "; }")),
+        ("a sum", filled("int main() { int a; a = 1; return a", "+a", "; }")),
+        ("297 declarations", filled(&most, " ", "fail;}")),
+        ("297 declarations and a read", filled(&most, " ", "return a;}")),
+        ("150 declarations and statements", filled(&half, ";", "fail;}")),
+        ("150 declarations and a sum", filled(&(half.clone() + "a=1"), "+1", ";fail;}")),
         ("calls", filled("int main() { return 1", "+main()", "; }")),
         ("tests", filled("int main() { if (1<2", "&&1<2", ") return 1; else fail; }")),
         ("brackets", filled("int main() { return ", "(", "")),
@@ -135,17 +144,19 @@ fn jobs() -> Vec<(&'static str, String, Job)> {
         ),
         (
             "a tree of choices eight deep",
-            main_with(&format!("{frees}int s; {tree} return s;")),
+            main_with(&format!("{frees}int s; s = 0; {tree} return s;")),
             Job { skip: u32::MAX, ..job(0, 1, 1_000) },
         ),
         (
             "known steps only",
-            main_with("int i; int s; while (i < 1000) { s = s + i * i; i = i + 1; } return s;"),
+            main_with(
+                "int i; int s; i = 0; s = 0; while (i < 1000) { s = s + i * i; i = i + 1; } return s;",
+            ),
             job(0, 0, 1_000),
         ),
         (
             "a loop with a free bound of up to 1,000 turns",
-            main_with("int n free; int i; while (i < n) i = i + 1; return i;"),
+            main_with("int n free; int i; i = 0; while (i < n) i = i + 1; return i;"),
             job(0, 999, 1_000),
         ),
         (

@@ -4,6 +4,7 @@
 //! The name of each text is printed before it is tried: if the stack does not
 //! suffice, the last line says for which.
 
+use reference::examples::declarations;
 use reference::search::{Ending, LEAST_SCRATCH};
 use reference::{cases, check, linked, list, remarks, with_room, with_stack, Job};
 
@@ -103,6 +104,71 @@ fn ring(count: usize, body: impl Fn(&str) -> String) -> Vec<u8> {
         .map(|number| format!("int {}() {{ {} }}\n", name(number), body(&name(number + 1))))
         .collect::<String>()
         .into_bytes()
+}
+
+/// A chain as long as can be within each kind of nesting, nearly as deep as is
+/// accepted; `body` declares a and x.
+fn deep_chains(body: &str) -> Vec<(String, Vec<u8>)> {
+    let mut texts = Vec::new();
+    let statements = [
+        ("braces", "{", "}", 21),
+        ("if arms", "if(a<1)", "else;", 21),
+        ("else arms", "if(a<1);else ", "", 21),
+        ("loops", "while(a<1)", "", 21),
+        ("braced arms", "if(a<1){", "}else;", 10),
+        ("braced loops", "while(a<1){", "}", 10),
+    ];
+    let expressions = [("brackets", "(", ")", 22), ("calls", "f(", ")", 22)];
+    let none = [("nothing", "", "", 0)];
+    let sums = [("a sum", "a", "+x", ""), ("a product", "a", "*x", "")];
+    let chains = [
+        ("a sum", "x=a", "+x", ";"),
+        ("a sum of calls", "x=f(a)", "+f(x)", ";"),
+        ("tests with &&", "if(a<9", "&&x<9", ");else;"),
+        ("tests with ||", "if(a>9", "||x>9", ");else;"),
+        ("a loop's tests", "while(a<0", "||x<0", ");"),
+        ("assignments", "{x=a;", "x=x;", "}"),
+    ];
+    let mut add = |(nest, open, close, deep): (&str, &str, &str, usize), chain, last: &str| {
+        let (name, begin, unit, end): (&str, &str, &str, &str) = chain;
+        let before = [body, &open.repeat(deep), begin].concat();
+        let after = [end, &close.repeat(deep), last, " return a; }"].concat();
+        texts.push((format!("{name} within {nest}"), framed(&before, unit, "", "", &after)));
+    };
+    for nest in statements.into_iter().chain(none) {
+        for chain in chains {
+            add(nest, chain, "");
+        }
+    }
+    for nest in expressions.into_iter().chain(none) {
+        for chain in sums {
+            add(nest, chain, ";");
+        }
+    }
+    texts
+}
+
+/// More declarations, parameters, arguments and functions than are accepted:
+/// every rule before 10 has to go through all of them.
+fn many(functions: &str) -> Vec<(String, Vec<u8>)> {
+    let mut texts = Vec::new();
+    for (name, last) in [("", "fail;}"), (" and a read", "return a;}")] {
+        let text = ["int main(){", &declarations(297), last].concat();
+        texts.push((format!("297 declarations{name}"), text.into_bytes()));
+    }
+    let parameters: Vec<String> = (0..170).map(|n| format!("int p{n}")).collect();
+    let text = format!(
+        "int main(){{int x free;return f({});}}int f({}){{fail;}}",
+        vec!["x"; 170].join(","),
+        parameters.join(",")
+    );
+    assert!(text.len() <= LENGTH);
+    texts.push(("170 parameters and arguments".into(), text.into_bytes()));
+    let many: String = (0..120).map(|n| format!("int g{n}(){{fail;}}")).collect();
+    let text = format!("{functions}int main(){{fail;}}{many}");
+    assert!(text.len() <= LENGTH);
+    texts.push(("122 functions".into(), text.into_bytes()));
+    texts
 }
 
 fn texts() -> Vec<(String, Vec<u8>)> {
@@ -207,12 +273,26 @@ fn texts() -> Vec<(String, Vec<u8>)> {
             ("calls", "f(", "a", ")", "; return 1; }"),
             ("braces", "{", ";", "}", " return 1; }"),
             ("if arms", "if(a<1)", ";", "else;", " return 1; }"),
+            ("else arms", "if(a<1);else ", ";", "", " return 1; }"),
             ("loops", "while(a<1)", "a=a+1;", "", " return 1; }"),
         ] {
             let text = nested(&body, unit, middle, counterpart, after, count);
             texts.push((format!("{count} deep {name}"), text));
         }
     }
+    // Arms and loops with braces are two deeper each.
+    for count in [11, 12] {
+        for (name, unit, middle, counterpart, after) in [
+            ("braced arms", "if(a<1){", ";", "}else;", " return 1; }"),
+            ("braced else arms", "if(a<1);else{", ";", "}", " return 1; }"),
+            ("braced loops", "while(a<1){", "a=a+1;", "}", " return 1; }"),
+        ] {
+            let text = nested(&body, unit, middle, counterpart, after, count);
+            texts.push((format!("{count} deep {name}"), text));
+        }
+    }
+    texts.extend(deep_chains(&format!("{body}int x; x=0; ")));
+    texts.extend(many(functions));
     texts.push((
         "1,000 statements".into(),
         format!("int main() {{ {} return 1; }}", ";".repeat(1_000)).into_bytes(),

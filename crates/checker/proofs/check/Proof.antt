@@ -1,3 +1,4 @@
+use mathlib.Core.Path.{refl}
 use Rattle.checker.proofs.Analysing.{says-refused, says-accepted}
 use borrow.Author.Needs.{needs}
 use Rattle.checker.proofs.check.Statement.{statement}
@@ -28,7 +29,16 @@ slice-aggregate-analyse-8 : tie.Need-slice-aggregate-analyse-8
 slice-aggregate-analyse-8 c = search needs
 
 analyse-requires : tie.Need-analyse-requires
-analyse-requires c κs = search needs
+analyse-requires c κs = record {
+  kinds = search needs;
+  places = search needs;
+  values = search needs;
+  table = search needs;
+  words = search needs;
+  functions = search needs;
+  blocks = search needs;
+  blank = refl;
+}
 
 enum-known-analysed : tie.Need-enum-known-analysed
 enum-known-analysed c = search needs

@@ -11,7 +11,7 @@ judge-requires : tie.Need-judge-requires
 judge-requires c κs =
     let lent = c .before .before .before .before .before .before .before .before .before .before .before .before .before .before .before .before .before .pre in
     let f = few-events (lent .0) (c .before .before .before .before .before .before .walk .ensures) in
-    record { tokens = lent .4; listed = omega (arith, f, lent); functions = omega (arith, f, lent); names = omega (arith, f, lent); few = omega (arith, f, lent) }
+    (lent .0 .rooted, record { tokens = lent .4; listed = omega (arith, f, lent); functions = omega (arith, f, lent); names = omega (arith, f, lent); few = omega (arith, f, lent); blank = lent .5 })
 
 conclude-requires : tie.Need-conclude-requires
 conclude-requires c κs = search needs
@@ -31,7 +31,7 @@ same-length-4 c = search needs
 returns : tie.Need-returns
 returns c =
     let walked = c .before .before .before .before .before .before .before .before .before .before .before .before .before .before .walk .ensures in
-    rw (c .conclude .ensures) (inspected _ _ _ _ _ _ _ _ _ walked (c .before .before .before .before .before .before .before .judge .ensures))
+    rw (c .conclude .ensures) (inspected _ _ _ _ _ _ _ _ walked (c .before .before .before .before .before .before .before .judge .ensures))
 
 pub inspect-spec : {M : Type 1} → statement M
 inspect-spec =

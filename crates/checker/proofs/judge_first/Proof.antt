@@ -1,7 +1,8 @@
 use native.Mathlib.Omega.{arith}
 use Rattle.names.proofs.Walks.{as-many}
-use Rattle.checker.specs.Check.{rulesOf, firstBroken}
+use Rattle.checker.specs.Check.{source, rulesOf, firstBroken}
 use Rattle.checker.proofs.Faults.{at, nowhere, goes-on}
+use Rattle.checker.proofs.Naming.{meant-so}
 use borrow.Author.Needs.{needs}
 use Rattle.checker.proofs.judge_first.Statement.{statement}
 use Rattle.checker.proofs.judge_first.Tie as tie
@@ -79,7 +80,9 @@ returns-3 c =
     let resolved = c .before .before .before .before .before .before .before .before .resolve .ensures in
     let names = nowhere (resolved .least) (c .before .before .enum-told2 .given .1) in
     let heads = c .before .before .before .before .before .before .before .before .before .before .before .before .before .before .collect-heads .ensures .written in
-    goes-on (c .judge-functions .ensures) (λ p e. rw (← e, depth, names)) (λ p e. rw (← e) (heads, resolved .means))
+    let entry = c .before .before .before .before .before .before .before .before .before .before .before .before .before .before .before .before .before .before .before .before .before .before .before .before .before .before .before in
+    let s = source (entry .args .text .now) (entry .args .kinds .now) (entry .args .places .now) (entry .args .values .now) in
+    goes-on (c .judge-functions .ensures) (λ p e. rw (← e, depth, names)) (λ p e. (rw (← e) heads, meant-so s p resolved e (entry .pre .blank)))
 
 pub judge-first-spec : {M : Type 1} → statement M
 judge-first-spec =

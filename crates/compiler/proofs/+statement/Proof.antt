@@ -4,7 +4,7 @@ use Prim.Native.Nat.{ℕ, _+_}
 use mathlib.Core.Path.{refl, sym}
 use native.Mathlib.Omega.{arith}
 use Rattle.semantics.specs.Program.{slot}
-use Rattle.simulation.specs.Code.{begin, clear, ask, store, return, fail, act}
+use Rattle.simulation.specs.Code.{begin, ask, store, return, fail, act}
 use Rattle.simulation.specs.Words.{kindOf, wordOf}
 use Rattle.events.proofs.Nodes.{at-kind}
 use Rattle.compiler.specs.Coded.{word}
@@ -15,7 +15,7 @@ use Rattle.compiler.proofs.statement.Reads as statement′
 use Rattle.compiler.proofs.+statement.Lts-statement as statement-lts
 use Rattle.compiler.proofs.+statement.{statement}
 use Rattle.compiler.proofs.+statement.Tie.{close}
-use Rattle.compiler.proofs.+statement.Proof.Arms.{μ-statement, statement-at, statement-C, statement-emit-requires-5, statement-expression-requires-3, statement-emit-requires-6, statement-statement-requires-2, statement-emit-requires-7, statement-statement-requires-3, statement-aim-requires, statement-aim-requires-2, statement-emit-requires-8, statement-expression-requires-4, statement-emit-requires-9, statement-statement-requires-4, statement-sub-emit, statement-emit-requires-10, statement-aim-requires-3, statement-same-length-7, statement-returns-7, statement-same-length-8, statement-returns-8}
+use Rattle.compiler.proofs.+statement.Proof.Arms.{μ-statement, statement-at, statement-C, statement-emit-requires-6, statement-expression-requires-3, statement-emit-requires-7, statement-statement-requires-2, statement-emit-requires-8, statement-statement-requires-3, statement-aim-requires, statement-aim-requires-2, statement-emit-requires-9, statement-expression-requires-4, statement-emit-requires-10, statement-statement-requires-4, statement-sub-emit, statement-emit-requires-11, statement-aim-requires-3, statement-same-length-7, statement-returns-7, statement-same-length-8, statement-returns-8}
 mod Arms
 
 statement-fetch-requires : (t : ℕ) → statement-lts.Need-fetch-requires (statement-C t) (statement-at t) statement′.Post
@@ -30,46 +30,34 @@ statement-emit-requires t c κs =
     let d = due-room (due-as (v .code) (S .pre .1 .due)) in
     (d .0, d .1, omega arith)
 
+statement-emit-requires-2 : (t : ℕ) → statement-lts.Need-emit-requires-2 (statement-C t) (statement-at t) statement′.Post
+statement-emit-requires-2 t c κs =
+    let S = c .before .before .before .before .before .before .before in
+    let v = declare-node (word (S .args .values .now)) (word (S .args .slots .now)) (S .pre .1 .tokens) (c .before .before .fetch .ensures) (c .before .match .keys2) (S .pre .1 .rooted .holds) in
+    let d = due-room (due-as (v .code) (S .pre .1 .due)) in
+    (d .0, d .1, omega arith)
+
 statement-add-address : (t : ℕ) → statement-lts.Need-add-address (statement-C t) (statement-at t) statement′.Post
 statement-add-address t c =
     let S = c .before .before .before .before .before .before .before in
-    let v = declare-node (word (S .args .values .now)) (word (S .args .slots .now)) (S .pre .1 .tokens) (c .before .before .fetch .ensures) (c .before .match .keys2) (S .pre .1 .rooted .holds) in
+    let v = free-node (word (S .args .values .now)) (word (S .args .slots .now)) (S .pre .1 .tokens) (c .before .before .fetch .ensures) (c .before .match .keys3) (S .pre .1 .rooted .holds) in
     omega (arith, v .own (S .pre .1 .sound), S .pre .1 .within .small)
 
 statement-address-requires : (t : ℕ) → statement-lts.Need-address-requires (statement-C t) (statement-at t) statement′.Post
 statement-address-requires t c κs =
     let S = c .before .before .before .before .before .before .before in
-    let v = declare-node (word (S .args .values .now)) (word (S .args .slots .now)) (S .pre .1 .tokens) (c .before .before .fetch .ensures) (c .before .match .keys2) (S .pre .1 .rooted .holds) in
+    let v = free-node (word (S .args .values .now)) (word (S .args .slots .now)) (S .pre .1 .tokens) (c .before .before .fetch .ensures) (c .before .match .keys3) (S .pre .1 .rooted .holds) in
     omega (arith, v .own (S .pre .1 .sound), S .pre .1 .within .named)
 
 statement-emit-address-requires : (t : ℕ) → statement-lts.Need-emit-address-requires (statement-C t) (statement-at t) statement′.Post
 statement-emit-address-requires t c κs =
     let S = c .before .before .before .before .before .before .before .before .before in
-    let v = declare-node (word (S .args .values .now)) (word (S .args .slots .now)) (S .pre .1 .tokens) (c .before .before .before .before .fetch .ensures) (c .before .before .before .match .keys2) (S .pre .1 .rooted .holds) in
+    let v = free-node (word (S .args .values .now)) (word (S .args .slots .now)) (S .pre .1 .tokens) (c .before .before .before .before .fetch .ensures) (c .before .before .before .match .keys3) (S .pre .1 .rooted .holds) in
     let d = due-room (due-as (v .code) (S .pre .1 .due)) in
     (d .0, d .1, c .before .address .ensures .1)
 
-statement-add-address-2 : (t : ℕ) → statement-lts.Need-add-address-2 (statement-C t) (statement-at t) statement′.Post
-statement-add-address-2 t c =
-    let S = c .before .before .before .before .before .before .before in
-    let v = free-node (word (S .args .values .now)) (word (S .args .slots .now)) (S .pre .1 .tokens) (c .before .before .fetch .ensures) (c .before .match .keys3) (S .pre .1 .rooted .holds) in
-    omega (arith, v .own (S .pre .1 .sound), S .pre .1 .within .small)
-
-statement-address-requires-2 : (t : ℕ) → statement-lts.Need-address-requires-2 (statement-C t) (statement-at t) statement′.Post
-statement-address-requires-2 t c κs =
-    let S = c .before .before .before .before .before .before .before in
-    let v = free-node (word (S .args .values .now)) (word (S .args .slots .now)) (S .pre .1 .tokens) (c .before .before .fetch .ensures) (c .before .match .keys3) (S .pre .1 .rooted .holds) in
-    omega (arith, v .own (S .pre .1 .sound), S .pre .1 .within .named)
-
-statement-emit-address-requires-2 : (t : ℕ) → statement-lts.Need-emit-address-requires-2 (statement-C t) (statement-at t) statement′.Post
-statement-emit-address-requires-2 t c κs =
-    let S = c .before .before .before .before .before .before .before .before .before in
-    let v = free-node (word (S .args .values .now)) (word (S .args .slots .now)) (S .pre .1 .tokens) (c .before .before .before .before .fetch .ensures) (c .before .before .before .match .keys3) (S .pre .1 .rooted .holds) in
-    let d = due-room (due-as (v .code) (S .pre .1 .due)) in
-    (d .0, d .1, c .before .address2 .ensures .1)
-
-statement-emit-requires-2 : (t : ℕ) → statement-lts.Need-emit-requires-2 (statement-C t) (statement-at t) statement′.Post
-statement-emit-requires-2 t c κs =
+statement-emit-requires-3 : (t : ℕ) → statement-lts.Need-emit-requires-3 (statement-C t) (statement-at t) statement′.Post
+statement-emit-requires-3 t c κs =
     let S = c .before .before .before .before .before .before .before in
     let v = assign-node (word (S .args .values .now)) (word (S .args .slots .now)) (S .pre .1 .tokens) (c .before .before .fetch .ensures) (c .before .match .keys4) (S .pre .1 .rooted .holds) in
     let d = due-room (due-as (v .code) (S .pre .1 .due)) in
@@ -79,23 +67,23 @@ statement-expression-requires : (t : ℕ) → statement-lts.Need-expression-requ
 statement-expression-requires t c κs =
     let S = c .before .before .before .before .before .before .before .before .before .before .before in
     let v = assign-node (word (S .args .values .now)) (word (S .args .slots .now)) (S .pre .1 .tokens) (c .before .before .before .before .before .before .fetch .ensures) (c .before .before .before .before .before .match .keys4) (S .pre .1 .rooted .holds) in
-    room refl (S .pre .1 .rooted) (v .falls) (v .holds) (S .pre .1 .within) (v .sound (S .pre .1 .sound)) (due-front _ _ (due-next (due-as (v .code) (S .pre .1 .due)) (c .before .before .before .emit2 .ensures)))
+    room refl (S .pre .1 .rooted) (v .falls) (v .holds) (S .pre .1 .within) (v .sound (S .pre .1 .sound)) (due-front _ _ (due-next (due-as (v .code) (S .pre .1 .due)) (c .before .before .before .emit3 .ensures)))
 
-statement-address-requires-3 : (t : ℕ) → statement-lts.Need-address-requires-3 (statement-C t) (statement-at t) statement′.Post
-statement-address-requires-3 t c κs =
+statement-address-requires-2 : (t : ℕ) → statement-lts.Need-address-requires-2 (statement-C t) (statement-at t) statement′.Post
+statement-address-requires-2 t c κs =
     let S = c .before .before .before .before .before .before .before .before .before .before .before .before .before .before in
     let v = assign-node (word (S .args .values .now)) (word (S .args .slots .now)) (S .pre .1 .tokens) (c .before .before .before .before .before .before .before .before .before .fetch .ensures) (c .before .before .before .before .before .before .before .before .match .keys4) (S .pre .1 .rooted .holds) in
     omega (arith, v .own (S .pre .1 .sound), S .pre .1 .within .named)
 
-statement-emit-address-requires-3 : (t : ℕ) → statement-lts.Need-emit-address-requires-3 (statement-C t) (statement-at t) statement′.Post
-statement-emit-address-requires-3 t c κs =
+statement-emit-address-requires-2 : (t : ℕ) → statement-lts.Need-emit-address-requires-2 (statement-C t) (statement-at t) statement′.Post
+statement-emit-address-requires-2 t c κs =
     let S = c .before .before .before .before .before .before .before .before .before .before .before .before .before .before .before .before in
     let v = assign-node (word (S .args .values .now)) (word (S .args .slots .now)) (S .pre .1 .tokens) (c .before .before .before .before .before .before .before .before .before .before .before .fetch .ensures) (c .before .before .before .before .before .before .before .before .before .before .match .keys4) (S .pre .1 .rooted .holds) in
-    let d = due-room (due-after (due-next (due-as (v .code) (S .pre .1 .due)) (c .before .before .before .before .before .before .before .before .emit2 .ensures)) (c .before .before .before .before .expression .ensures .is (v .x) (v .holds))) in
-    (d .0, d .1, c .before .address3 .ensures .1)
+    let d = due-room (due-after (due-next (due-as (v .code) (S .pre .1 .due)) (c .before .before .before .before .before .before .before .before .emit3 .ensures)) (c .before .before .before .before .expression .ensures .is (v .x) (v .holds))) in
+    (d .0, d .1, c .before .address2 .ensures .1)
 
-statement-emit-requires-3 : (t : ℕ) → statement-lts.Need-emit-requires-3 (statement-C t) (statement-at t) statement′.Post
-statement-emit-requires-3 t c κs =
+statement-emit-requires-4 : (t : ℕ) → statement-lts.Need-emit-requires-4 (statement-C t) (statement-at t) statement′.Post
+statement-emit-requires-4 t c κs =
     let S = c .before .before .before .before .before .before .before in
     let v = eval-node (word (S .args .values .now)) (word (S .args .slots .now)) (S .pre .1 .tokens) (c .before .before .fetch .ensures) (c .before .match .keys5) (S .pre .1 .rooted .holds) in
     let d = due-room (due-as (v .code) (S .pre .1 .due)) in
@@ -105,10 +93,10 @@ statement-expression-requires-2 : (t : ℕ) → statement-lts.Need-expression-re
 statement-expression-requires-2 t c κs =
     let S = c .before .before .before .before .before .before .before .before .before .before .before in
     let v = eval-node (word (S .args .values .now)) (word (S .args .slots .now)) (S .pre .1 .tokens) (c .before .before .before .before .before .before .fetch .ensures) (c .before .before .before .before .before .match .keys5) (S .pre .1 .rooted .holds) in
-    room refl (S .pre .1 .rooted) (v .falls) (v .holds) (S .pre .1 .within) (v .sound (S .pre .1 .sound)) (due-next (due-as (v .code) (S .pre .1 .due)) (c .before .before .before .emit3 .ensures))
+    room refl (S .pre .1 .rooted) (v .falls) (v .holds) (S .pre .1 .within) (v .sound (S .pre .1 .sound)) (due-next (due-as (v .code) (S .pre .1 .due)) (c .before .before .before .emit4 .ensures))
 
-statement-emit-requires-4 : (t : ℕ) → statement-lts.Need-emit-requires-4 (statement-C t) (statement-at t) statement′.Post
-statement-emit-requires-4 t c κs =
+statement-emit-requires-5 : (t : ℕ) → statement-lts.Need-emit-requires-5 (statement-C t) (statement-at t) statement′.Post
+statement-emit-requires-5 t c κs =
     let S = c .before .before .before .before .before .before .before in
     let v = block-node (word (S .args .values .now)) (word (S .args .slots .now)) (S .pre .1 .tokens) (c .before .before .fetch .ensures) (c .before .match .keys6) (S .pre .1 .rooted .holds) in
     let d = due-room (due-as (v .code) (S .pre .1 .due)) in
@@ -118,10 +106,10 @@ statement-statement-requires : (t : ℕ) → statement-lts.Need-statement-requir
 statement-statement-requires t c κs =
     let S = c .before .before .before .before .before .before .before .before .before .before .before in
     let v = block-node (word (S .args .values .now)) (word (S .args .slots .now)) (S .pre .1 .tokens) (c .before .before .before .before .before .before .fetch .ensures) (c .before .before .before .before .before .match .keys6) (S .pre .1 .rooted .holds) in
-    (omega (arith, v .falls, S .pre .0), room refl (S .pre .1 .rooted) (v .falls) (v .holds) (S .pre .1 .within) (v .sound (S .pre .1 .sound)) (due-next (due-as (v .code) (S .pre .1 .due)) (c .before .before .before .emit4 .ensures)))
+    (omega (arith, v .falls, S .pre .0), room refl (S .pre .1 .rooted) (v .falls) (v .holds) (S .pre .1 .within) (v .sound (S .pre .1 .sound)) (due-next (due-as (v .code) (S .pre .1 .due)) (c .before .before .before .emit5 .ensures)))
 
-statement-emit-requires-11 : (t : ℕ) → statement-lts.Need-emit-requires-11 (statement-C t) (statement-at t) statement′.Post
-statement-emit-requires-11 t c κs =
+statement-emit-requires-12 : (t : ℕ) → statement-lts.Need-emit-requires-12 (statement-C t) (statement-at t) statement′.Post
+statement-emit-requires-12 t c κs =
     let S = c .before .before .before .before .before .before .before in
     let v = return-node (word (S .args .values .now)) (word (S .args .slots .now)) (S .pre .1 .tokens) (c .before .before .fetch .ensures) (c .before .match .keys9) (S .pre .1 .rooted .holds) in
     let d = due-room (due-as (v .code) (S .pre .1 .due)) in
@@ -131,27 +119,27 @@ statement-expression-requires-5 : (t : ℕ) → statement-lts.Need-expression-re
 statement-expression-requires-5 t c κs =
     let S = c .before .before .before .before .before .before .before .before .before .before .before in
     let v = return-node (word (S .args .values .now)) (word (S .args .slots .now)) (S .pre .1 .tokens) (c .before .before .before .before .before .before .fetch .ensures) (c .before .before .before .before .before .match .keys9) (S .pre .1 .rooted .holds) in
-    room refl (S .pre .1 .rooted) (v .falls) (v .holds) (S .pre .1 .within) (v .sound (S .pre .1 .sound)) (due-front _ _ (due-next (due-as (v .code) (S .pre .1 .due)) (c .before .before .before .emit11 .ensures)))
-
-statement-emit-requires-12 : (t : ℕ) → statement-lts.Need-emit-requires-12 (statement-C t) (statement-at t) statement′.Post
-statement-emit-requires-12 t c κs =
-    let S = c .before .before .before .before .before .before .before .before .before .before .before .before .before .before .before in
-    let v = return-node (word (S .args .values .now)) (word (S .args .slots .now)) (S .pre .1 .tokens) (c .before .before .before .before .before .before .before .before .before .before .fetch .ensures) (c .before .before .before .before .before .before .before .before .before .match .keys9) (S .pre .1 .rooted .holds) in
-    let d = due-room (due-after (due-next (due-as (v .code) (S .pre .1 .due)) (c .before .before .before .before .before .before .before .emit11 .ensures)) (c .before .before .before .expression5 .ensures .is (v .x) (v .holds))) in
-    (d .0, d .1, omega arith)
+    room refl (S .pre .1 .rooted) (v .falls) (v .holds) (S .pre .1 .within) (v .sound (S .pre .1 .sound)) (due-front _ _ (due-next (due-as (v .code) (S .pre .1 .due)) (c .before .before .before .emit12 .ensures)))
 
 statement-emit-requires-13 : (t : ℕ) → statement-lts.Need-emit-requires-13 (statement-C t) (statement-at t) statement′.Post
 statement-emit-requires-13 t c κs =
+    let S = c .before .before .before .before .before .before .before .before .before .before .before .before .before .before .before in
+    let v = return-node (word (S .args .values .now)) (word (S .args .slots .now)) (S .pre .1 .tokens) (c .before .before .before .before .before .before .before .before .before .before .fetch .ensures) (c .before .before .before .before .before .before .before .before .before .match .keys9) (S .pre .1 .rooted .holds) in
+    let d = due-room (due-after (due-next (due-as (v .code) (S .pre .1 .due)) (c .before .before .before .before .before .before .before .emit12 .ensures)) (c .before .before .before .expression5 .ensures .is (v .x) (v .holds))) in
+    (d .0, d .1, omega arith)
+
+statement-emit-requires-14 : (t : ℕ) → statement-lts.Need-emit-requires-14 (statement-C t) (statement-at t) statement′.Post
+statement-emit-requires-14 t c κs =
     let S = c .before .before .before .before .before .before .before in
     let v = fail-node (word (S .args .values .now)) (word (S .args .slots .now)) (S .pre .1 .tokens) (c .before .before .fetch .ensures) (c .before .match .keys10) (S .pre .1 .rooted .holds) in
     let d = due-room (due-as (v .code) (S .pre .1 .due)) in
     (d .0, d .1, omega arith)
 
-statement-emit-requires-14 : (t : ℕ) → statement-lts.Need-emit-requires-14 (statement-C t) (statement-at t) statement′.Post
-statement-emit-requires-14 t c κs =
+statement-emit-requires-15 : (t : ℕ) → statement-lts.Need-emit-requires-15 (statement-C t) (statement-at t) statement′.Post
+statement-emit-requires-15 t c κs =
     let S = c .before .before .before .before .before .before .before .before .before .before .before in
     let v = fail-node (word (S .args .values .now)) (word (S .args .slots .now)) (S .pre .1 .tokens) (c .before .before .before .before .before .before .fetch .ensures) (c .before .before .before .before .before .match .keys10) (S .pre .1 .rooted .holds) in
-    let d = due-room (due-next (due-as (v .code) (S .pre .1 .due)) (c .before .before .before .emit13 .ensures)) in
+    let d = due-room (due-next (due-as (v .code) (S .pre .1 .due)) (c .before .before .before .emit14 .ensures)) in
     (d .0, d .1, omega arith)
 
 statement-statement-requires-5 : (t : ℕ) → statement-lts.Need-statement-requires-5 (statement-C t) (statement-at t) statement′.Post
@@ -191,11 +179,11 @@ statement-same-length-2 t c = search needs
 statement-returns-2 : (t : ℕ) → statement-lts.Need-returns-2 (statement-C t) (statement-at t) statement′.Post
 unfolding kindOf wordOf
 statement-returns-2 t c =
-    let S = c .before .before .before .before .before .before .before .before .before .before .before .before in
+    let S = c .before .before .before .before .before .before .before .before .before .before in
     record {
       is = λ u h.
-          let v = declare-node (word (S .args .values .now)) (word (S .args .slots .now)) (S .pre .1 .tokens) (c .before .before .before .before .before .before .before .fetch .ensures) (c .before .before .before .before .before .before .match .keys2) h in
-          grown-as (v .code) (said (act (clear (slot (word (S .args .slots .now) (c .before .before .before .before .before .before .before .fetch .result .token + 1))))) refl (sym (c .before .before .before .before .address .ensures .0)) (c .before .before .emit-address .ensures));
+          let v = declare-node (word (S .args .values .now)) (word (S .args .slots .now)) (S .pre .1 .tokens) (c .before .before .before .before .before .fetch .ensures) (c .before .before .before .before .match .keys2) h in
+          grown-as (v .code) (said (act begin) refl refl (c .before .before .emit2 .ensures));
     }
 
 statement-same-length-3 : (t : ℕ) → statement-lts.Need-same-length-3 (statement-C t) (statement-at t) statement′.Post
@@ -208,7 +196,7 @@ statement-returns-3 t c =
     record {
       is = λ u h.
           let v = free-node (word (S .args .values .now)) (word (S .args .slots .now)) (S .pre .1 .tokens) (c .before .before .before .before .before .before .before .fetch .ensures) (c .before .before .before .before .before .before .match .keys3) h in
-          grown-as (v .code) (said (act (ask (slot (word (S .args .slots .now) (c .before .before .before .before .before .before .before .fetch .result .token + 1))))) refl (sym (c .before .before .before .before .address2 .ensures .0)) (c .before .before .emit-address2 .ensures));
+          grown-as (v .code) (said (act (ask (slot (word (S .args .slots .now) (c .before .before .before .before .before .before .before .fetch .result .token + 1))))) refl (sym (c .before .before .before .before .address .ensures .0)) (c .before .before .emit-address .ensures));
     }
 
 statement-same-length-4 : (t : ℕ) → statement-lts.Need-same-length-4 (statement-C t) (statement-at t) statement′.Post
@@ -221,7 +209,7 @@ statement-returns-4 t c =
     record {
       is = λ u h.
           let v = assign-node (word (S .args .values .now)) (word (S .args .slots .now)) (S .pre .1 .tokens) (c .before .before .before .before .before .before .before .before .before .before .before .before .before .before .fetch .ensures) (c .before .before .before .before .before .before .before .before .before .before .before .before .before .match .keys4) h in
-          grown-as (v .code) (said-then (act begin) refl refl (c .before .before .before .before .before .before .before .before .before .before .before .emit2 .ensures) (grown-then (c .before .before .before .before .before .before .before .expression .ensures .is (v .x) (v .holds)) (said (act (store (slot (word (S .args .slots .now) (c .before .before .before .before .before .before .before .before .before .before .before .before .before .before .fetch .result .token))))) refl (sym (c .before .before .before .before .address3 .ensures .0)) (c .before .before .emit-address3 .ensures))));
+          grown-as (v .code) (said-then (act begin) refl refl (c .before .before .before .before .before .before .before .before .before .before .before .emit3 .ensures) (grown-then (c .before .before .before .before .before .before .before .expression .ensures .is (v .x) (v .holds)) (said (act (store (slot (word (S .args .slots .now) (c .before .before .before .before .before .before .before .before .before .before .before .before .before .before .fetch .result .token))))) refl (sym (c .before .before .before .before .address2 .ensures .0)) (c .before .before .emit-address2 .ensures))));
     }
 
 statement-same-length-5 : (t : ℕ) → statement-lts.Need-same-length-5 (statement-C t) (statement-at t) statement′.Post
@@ -234,7 +222,7 @@ statement-returns-5 t c =
     record {
       is = λ u h.
           let v = eval-node (word (S .args .values .now)) (word (S .args .slots .now)) (S .pre .1 .tokens) (c .before .before .before .before .before .before .before .before .before .fetch .ensures) (c .before .before .before .before .before .before .before .before .match .keys5) h in
-          grown-as (v .code) (said-then (act begin) refl refl (c .before .before .before .before .before .before .emit3 .ensures) (c .before .before .expression2 .ensures .is (v .x) (v .holds)));
+          grown-as (v .code) (said-then (act begin) refl refl (c .before .before .before .before .before .before .emit4 .ensures) (c .before .before .expression2 .ensures .is (v .x) (v .holds)));
     }
 
 statement-same-length-6 : (t : ℕ) → statement-lts.Need-same-length-6 (statement-C t) (statement-at t) statement′.Post
@@ -247,7 +235,7 @@ statement-returns-6 t c =
     record {
       is = λ u h.
           let v = block-node (word (S .args .values .now)) (word (S .args .slots .now)) (S .pre .1 .tokens) (c .before .before .before .before .before .before .before .before .before .fetch .ensures) (c .before .before .before .before .before .before .before .before .match .keys6) h in
-          grown-as (v .code) (said-then (act begin) refl refl (c .before .before .before .before .before .before .emit4 .ensures) (c .before .before .statement .ensures .is (v .x) (v .holds)));
+          grown-as (v .code) (said-then (act begin) refl refl (c .before .before .before .before .before .before .emit5 .ensures) (c .before .before .statement .ensures .is (v .x) (v .holds)));
     }
 
 statement-same-length-9 : (t : ℕ) → statement-lts.Need-same-length-9 (statement-C t) (statement-at t) statement′.Post
@@ -260,7 +248,7 @@ statement-returns-9 t c =
     record {
       is = λ u h.
           let v = return-node (word (S .args .values .now)) (word (S .args .slots .now)) (S .pre .1 .tokens) (c .before .before .before .before .before .before .before .before .before .before .before .before .before .fetch .ensures) (c .before .before .before .before .before .before .before .before .before .before .before .before .match .keys9) h in
-          grown-as (v .code) (said-then (act begin) refl refl (c .before .before .before .before .before .before .before .before .before .before .emit11 .ensures) (grown-then (c .before .before .before .before .before .before .expression5 .ensures .is (v .x) (v .holds)) (said (act return) refl refl (c .before .before .emit12 .ensures))));
+          grown-as (v .code) (said-then (act begin) refl refl (c .before .before .before .before .before .before .before .before .before .before .emit12 .ensures) (grown-then (c .before .before .before .before .before .before .expression5 .ensures .is (v .x) (v .holds)) (said (act return) refl refl (c .before .before .emit13 .ensures))));
     }
 
 statement-same-length-10 : (t : ℕ) → statement-lts.Need-same-length-10 (statement-C t) (statement-at t) statement′.Post
@@ -273,7 +261,7 @@ statement-returns-10 t c =
     record {
       is = λ u h.
           let v = fail-node (word (S .args .values .now)) (word (S .args .slots .now)) (S .pre .1 .tokens) (c .before .before .before .before .before .before .before .before .before .fetch .ensures) (c .before .before .before .before .before .before .before .before .match .keys10) h in
-          grown-as (v .code) (said-then (act begin) refl refl (c .before .before .before .before .before .before .emit13 .ensures) (said (act fail) refl refl (c .before .before .emit14 .ensures)));
+          grown-as (v .code) (said-then (act begin) refl refl (c .before .before .before .before .before .before .emit14 .ensures) (said (act fail) refl refl (c .before .before .emit15 .ensures)));
     }
 
 statement-same-length-11 : (t : ℕ) → statement-lts.Need-same-length-11 (statement-C t) (statement-at t) statement′.Post
@@ -313,40 +301,38 @@ pub +statement-spec : {M : Type 1} → statement M
     statement′.Post
     (statement-fetch-requires t)
     (statement-emit-requires t)
+    (statement-emit-requires-2 t)
     (statement-add-address t)
     (statement-address-requires t)
     (statement-emit-address-requires t)
-    (statement-add-address-2 t)
+    (statement-emit-requires-3 t)
+    (statement-expression-requires t)
     (statement-address-requires-2 t)
     (statement-emit-address-requires-2 t)
-    (statement-emit-requires-2 t)
-    (statement-expression-requires t)
-    (statement-address-requires-3 t)
-    (statement-emit-address-requires-3 t)
-    (statement-emit-requires-3 t)
-    (statement-expression-requires-2 t)
     (statement-emit-requires-4 t)
-    (statement-statement-requires t)
+    (statement-expression-requires-2 t)
     (statement-emit-requires-5 t)
-    (statement-expression-requires-3 t)
+    (statement-statement-requires t)
     (statement-emit-requires-6 t)
-    (statement-statement-requires-2 t)
+    (statement-expression-requires-3 t)
     (statement-emit-requires-7 t)
+    (statement-statement-requires-2 t)
+    (statement-emit-requires-8 t)
     (statement-statement-requires-3 t)
     (statement-aim-requires t)
     (statement-aim-requires-2 t)
-    (statement-emit-requires-8 t)
-    (statement-expression-requires-4 t)
     (statement-emit-requires-9 t)
+    (statement-expression-requires-4 t)
+    (statement-emit-requires-10 t)
     (statement-statement-requires-4 t)
     (statement-sub-emit t)
-    (statement-emit-requires-10 t)
-    (statement-aim-requires-3 t)
     (statement-emit-requires-11 t)
-    (statement-expression-requires-5 t)
+    (statement-aim-requires-3 t)
     (statement-emit-requires-12 t)
+    (statement-expression-requires-5 t)
     (statement-emit-requires-13 t)
     (statement-emit-requires-14 t)
+    (statement-emit-requires-15 t)
     (statement-statement-requires-5 t)
     (statement-statement-requires-6 t)
     (statement-statement-requires-7 t)

@@ -5,13 +5,14 @@ use native.Mathlib.Nat.{zero-add}
 use native.Mathlib.Omega.{arith}
 use Rattle.syntax.specs.Ast.{Ast, prog}
 use Rattle.syntax.specs.Table.{Holds}
-use Rattle.compiler.proofs.Leaves.{Rest, rest-step, rest-none}
-use Rattle.compiler.proofs.Parts.{funs-length}
+use Rattle.events.proofs.Counting.{Rest, rest-step, rest-none}
+use Rattle.compiler.proofs.Leaves.{counts-functions}
+use Rattle.compiler.proofs.Parts.{funs, funs-length}
 use Rattle.compiler.proofs.functions.Statement.{statement}
 use Rattle.compiler.proofs.functions.Tie as tie
 
 abbrev Inv-loop : tie.InvT-loop
-Inv-loop nodes i j₀ count₀ j count = (count + j ≤ i) × ((a : Ast prog) → Holds nodes i a → Rest nodes j count a)
+Inv-loop nodes i j₀ count₀ j count = (count + j ≤ i) × ((a : Ast prog) → Holds nodes i a → Rest funs nodes j count a)
 
 abbrev μ-loop : tie.MeasureT-loop
 μ-loop nodes i j₀ count₀ j count = j
@@ -23,18 +24,18 @@ fetch-requires : tie.Need-fetch-requires Inv-loop μ-loop
 fetch-requires c κs = omega (arith, c .loop .inv .0, c .before .before .pre .room, c .before .before .pre .few)
 
 returns : tie.Need-returns Inv-loop μ-loop
-returns c = record { small = omega (arith, c .before .before .before .loop .inv .0); is = λ value means a h. rest-none (c .if1 .taken) (c .before .before .fetch .ensures) (c .before .before .before .loop .inv .1 a h) ∙ sym (funs-length value means a) }
+returns c = record { small = omega (arith, c .before .before .before .loop .inv .0); is = λ value means a h. rest-none counts-functions (c .if1 .taken) (c .before .before .fetch .ensures) (c .before .before .before .loop .inv .1 a h) ∙ sym (funs-length value means a) }
 
 add-count : tie.Need-add-count Inv-loop μ-loop
 add-count c = omega (arith, c .before .before .before .loop .inv .0, c .before .before .before .before .before .pre .few)
 
 loop-less : tie.Need-loop-less Inv-loop μ-loop
-loop-less c = rest-step (c .if1 .left) (c .before .before .fetch .ensures) (c .before .before .before .loop .inv .1 (c .before .before .before .before .before .pre .tree) (c .before .before .before .before .before .pre .holds)) .0
+loop-less c = rest-step counts-functions (c .if1 .left) (c .before .before .fetch .ensures) (c .before .before .before .loop .inv .1 (c .before .before .before .before .before .pre .tree) (c .before .before .before .before .before .pre .holds)) .0
 
 loop-again : tie.Need-loop-again Inv-loop μ-loop
 loop-again c =
-    let w = rest-step (c .if1 .left) (c .before .before .fetch .ensures) (c .before .before .before .loop .inv .1 (c .before .before .before .before .before .pre .tree) (c .before .before .before .before .before .pre .holds)) .0 in
-    (omega (arith, w, c .before .before .before .loop .inv .0), λ a h. rest-step (c .if1 .left) (c .before .before .fetch .ensures) (c .before .before .before .loop .inv .1 a h) .1)
+    let w = rest-step counts-functions (c .if1 .left) (c .before .before .fetch .ensures) (c .before .before .before .loop .inv .1 (c .before .before .before .before .before .pre .tree) (c .before .before .before .before .before .pre .holds)) .0 in
+    (omega (arith, w, c .before .before .before .loop .inv .0), λ a h. rest-step counts-functions (c .if1 .left) (c .before .before .fetch .ensures) (c .before .before .before .loop .inv .1 a h) .1)
 
 pub functions-spec : {M : Type 1} → statement M
 functions-spec =

@@ -31,7 +31,19 @@ slice-aggregate-translate-8 : tie.Need-slice-aggregate-translate-8
 slice-aggregate-translate-8 c = search needs
 
 translate-requires : tie.Need-translate-requires
-translate-requires c κs = (search needs, refl, c .before .before .before .before .before .before .before .before .before .before .before .pre)
+translate-requires c κs = (
+  record {
+    kinds = search needs;
+    places = search needs;
+    values = search needs;
+    table = search needs;
+    words = search needs;
+    functions = search needs;
+    blocks = search needs;
+    blank = refl;
+  },
+  c .before .before .before .before .before .before .before .before .before .before .before .pre,
+)
 
 same-length : tie.Need-same-length
 same-length c = search needs

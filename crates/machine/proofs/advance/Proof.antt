@@ -2,7 +2,7 @@ use Prim.Native.Nat.{_+_, _*_}
 use mathlib.Core.Path.{refl}
 use native.Mathlib.Omega.{arith}
 use lib.ListN.{getD}
-use Rattle.machine.proofs.Entries.{past-all, goes-run, goes-from, adv-out, adv-fail, adv-big, adv-leaf, adv-op, adv-cmp, adv-cut, adv-call, adv-false, adv-true, adv-jump-false, adv-jump-true, adv-skip, adv-again, adv-begin, adv-clear, adv-ask, adv-store, adv-return, adv-returned}
+use Rattle.machine.proofs.Entries.{past-all, goes-run, goes-from, adv-out, adv-fail, adv-big, adv-leaf, adv-op, adv-cmp, adv-cut, adv-call, adv-false, adv-true, adv-jump-false, adv-jump-true, adv-skip, adv-again, adv-begin, adv-ask, adv-store, adv-return, adv-returned}
 use borrow.Author.Needs.{needs}
 use Rattle.machine.proofs.advance.Statement.{statement}
 use Rattle.machine.proofs.advance.Tie as tie
@@ -91,9 +91,6 @@ add-moved-3 c = search needs
 moved-requires-5 : tie.Need-moved-requires-5
 moved-requires-5 c κs = search needs
 
-clear-requires : tie.Need-clear-requires
-clear-requires c κs = search needs
-
 ask-requires : tie.Need-ask-requires
 ask-requires c κs = search needs
 
@@ -110,7 +107,7 @@ returns-3 : tie.Need-returns-3
 returns-3 c =
     let a = c .before .before .before .before .before .before .before .before .before .before .before .before .before .args in
     adv-returned (a .code .now) (a .size) (a .mem .now) (a .run) (c .before .before .before .before .before .before .before .before .before .if1 .left)
-    (c .before .before .before .before .match .keys12) (c .before .before .if3 .taken) (c .take .result .value) (c .take .result .top) (c .take .ensures)
+    (c .before .before .before .before .match .keys11) (c .before .before .if3 .taken) (c .take .result .value) (c .take .result .top) (c .take .ensures)
 
 leave-requires : tie.Need-leave-requires
 leave-requires c κs = search needs
@@ -135,8 +132,8 @@ operate-requires c κs =
 pair-requires : tie.Need-pair-requires
 pair-requires c κs = search needs
 
-add-t71 : tie.Need-add-t71
-add-t71 c = search needs
+add-t66 : tie.Need-add-t66
+add-t66 c = search needs
 
 same-length-2 : tie.Need-same-length-2
 same-length-2 c = search needs
@@ -200,8 +197,8 @@ same-length-3 c = search needs
 returns-12 : tie.Need-returns-12
 returns-12 c =
     let a = c .before .before .before .before .before .before .before .before .before .before .before .before .before .args in
-    adv-clear (a .code .now) (a .size) (a .mem .now) (a .run) (c .before .before .before .before .before .before .before .before .before .if1 .left)
-    (c .before .before .before .before .match .keys9) _ _ (c .before .before .clear .ensures)
+    adv-ask (a .code .now) (a .size) (a .mem .now) (a .run) (c .before .before .before .before .before .before .before .before .before .if1 .left)
+    (c .before .before .before .before .match .keys9) _ (a .k) _ (c .before .before .ask .ensures)
 
 same-length-4 : tie.Need-same-length-4
 same-length-4 c = search needs
@@ -209,65 +206,56 @@ same-length-4 c = search needs
 returns-13 : tie.Need-returns-13
 returns-13 c =
     let a = c .before .before .before .before .before .before .before .before .before .before .before .before .before .args in
-    adv-ask (a .code .now) (a .size) (a .mem .now) (a .run) (c .before .before .before .before .before .before .before .before .before .if1 .left)
-    (c .before .before .before .before .match .keys10) _ (a .k) _ (c .before .before .ask .ensures)
+    goes-from (adv-store (a .code .now) (a .size) (a .mem .now) (a .run) (c .before .before .before .before .before .before .before .before .before .if1 .left)
+    (c .before .before .before .before .match .keys10)) (c .before .before .store .ensures)
 
 same-length-5 : tie.Need-same-length-5
 same-length-5 c = search needs
 
 returns-14 : tie.Need-returns-14
 returns-14 c =
-    let a = c .before .before .before .before .before .before .before .before .before .before .before .before .before .args in
-    goes-from (adv-store (a .code .now) (a .size) (a .mem .now) (a .run) (c .before .before .before .before .before .before .before .before .before .if1 .left)
-    (c .before .before .before .before .match .keys11)) (c .before .before .store .ensures)
-
-same-length-6 : tie.Need-same-length-6
-same-length-6 c = search needs
+    let a = c .before .before .before .before .before .before .before .before .before .before .before .before .before .before .before .args in
+    goes-from (adv-return (a .code .now) (a .size) (a .mem .now) (a .run) (c .before .before .before .before .before .before .before .before .before .before .before .if1 .left)
+    (c .before .before .before .before .before .before .match .keys11)) (c .before .before .leave .ensures)
 
 returns-15 : tie.Need-returns-15
 returns-15 c =
-    let a = c .before .before .before .before .before .before .before .before .before .before .before .before .before .before .before .args in
-    goes-from (adv-return (a .code .now) (a .size) (a .mem .now) (a .run) (c .before .before .before .before .before .before .before .before .before .before .before .if1 .left)
-    (c .before .before .before .before .before .before .match .keys12)) (c .before .before .leave .ensures)
-
-returns-16 : tie.Need-returns-16
-returns-16 c =
     let s = c .before .before .before .before .before .before .before .before .before .before .before .before .before in
     let a = s .args in
     goes-run (c .moved6 .ensures) (adv-leaf (a .code .now) (a .size) (a .mem .now) (a .run) (c .before .before .before .before .before .before .before .before .before .if1 .left)
     (c .before .before .before .if4 .left) (c .before .before .if5 .taken) (s .pre .2))
+
+same-length-6 : tie.Need-same-length-6
+same-length-6 c = search needs
+
+returns-16 : tie.Need-returns-16
+returns-16 c =
+    let a = c .before .before .before .before .before .before .before .before .before .before .before .before .before .before .before .before .args in
+    goes-from (adv-op (a .code .now) (a .size) (a .mem .now) (a .run) (c .before .before .before .before .before .before .before .before .before .before .before .before .if1 .left)
+    (c .before .before .before .before .before .if5 .left) (c .before .before .before .before .if6 .taken)) (c .before .before .operate .ensures)
 
 same-length-7 : tie.Need-same-length-7
 same-length-7 c = search needs
 
 returns-17 : tie.Need-returns-17
 returns-17 c =
-    let a = c .before .before .before .before .before .before .before .before .before .before .before .before .before .before .before .before .args in
-    goes-from (adv-op (a .code .now) (a .size) (a .mem .now) (a .run) (c .before .before .before .before .before .before .before .before .before .before .before .before .if1 .left)
-    (c .before .before .before .before .before .if5 .left) (c .before .before .before .before .if6 .taken)) (c .before .before .operate .ensures)
-
-same-length-8 : tie.Need-same-length-8
-same-length-8 c = search needs
-
-returns-18 : tie.Need-returns-18
-returns-18 c =
     let s = c .before .before .before .before .before .before .before .before .before .before .before .before .before .before .before .before in
     let a = s .args in
     adv-cmp (a .code .now) (a .size) (a .mem .now) (a .run) (c .before .before .before .before .before .before .before .before .before .before .before .before .if1 .left)
     (c .before .before .before .before .if6 .left) (c .before .before .before .if7 .taken) (c .before .pair .result .left) (c .before .pair .result .right) (c .before .pair .result .top)
     (s .pre .2) (c .before .pair .ensures)
 
-returns-19 : tie.Need-returns-19
-returns-19 c =
+returns-18 : tie.Need-returns-18
+returns-18 c =
     let a = c .before .before .before .before .before .before .before .before .before .before .args in
     (adv-fail (a .code .now) (a .size) (a .mem .now) (a .run) (c .before .before .before .before .before .before .if1 .left) (c .if4 .taken), refl)
 
-returns-20 : tie.Need-returns-20
-returns-20 c =
+returns-19 : tie.Need-returns-19
+returns-19 c =
     let a = c .before .before .before .before .before .before .before .before .before .before .before .before .before .args in
     let r = c .before .before .before .before .match .rest in (
       adv-big (a .code .now) (a .size) (a .mem .now) (a .run) (c .before .before .before .before .before .before .before .before .before .if1 .left)
-          (past-all (getD (a .code .now) (2 * a .run .pc) 0) (c .if7 .left) (r .0 .0 .0 .0 .0 .0 .0 .0 .0 .0 .0 .1) (r .0 .0 .0 .0 .0 .0 .0 .0 .0 .0 .1) (r .0 .0 .0 .0 .0 .0 .0 .0 .0 .1)
+          (past-all (getD (a .code .now) (2 * a .run .pc) 0) (c .if7 .left) (r .0 .0 .0 .0 .0 .0 .0 .0 .0 .0 .1) (r .0 .0 .0 .0 .0 .0 .0 .0 .0 .1)
           (r .0 .0 .0 .0 .0 .0 .0 .0 .1) (r .0 .0 .0 .0 .0 .0 .0 .1) (r .0 .0 .0 .0 .0 .0 .1)
           (r .0 .0 .0 .0 .0 .1) (r .0 .0 .0 .0 .1) (r .0 .0 .0 .1) (r .0 .0 .1) (r .0 .1) (r .1)),
       refl,
@@ -301,7 +289,6 @@ advance-spec =
     moved-requires-4
     add-moved-3
     moved-requires-5
-    clear-requires
     ask-requires
     store-requires
     take-requires
@@ -312,7 +299,7 @@ advance-spec =
     moved-requires-6
     operate-requires
     pair-requires
-    add-t71
+    add-t66
     same-length-2
     returns-4
     returns-5
@@ -328,12 +315,10 @@ advance-spec =
     returns-13
     same-length-5
     returns-14
-    same-length-6
     returns-15
+    same-length-6
     returns-16
     same-length-7
     returns-17
-    same-length-8
     returns-18
-    returns-19
-    returns-20)
+    returns-19)

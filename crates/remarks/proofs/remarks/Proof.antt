@@ -1,5 +1,6 @@
 -- 15, or as check.
 use native.Mathlib.Omega.{arith}
+use mathlib.Core.Path.{refl}
 use borrow.Author.Needs.{needs}
 use Rattle.remarks.proofs.Telling.{too-short, as-check}
 use Rattle.remarks.proofs.remarks.Statement.{statement}
@@ -33,7 +34,19 @@ slice-aggregate-remark-8 : tie.Need-slice-aggregate-remark-8
 slice-aggregate-remark-8 c = search needs
 
 remark-requires : tie.Need-remark-requires
-remark-requires c κs = search needs
+remark-requires c κs = (
+  record {
+    kinds = search needs;
+    places = search needs;
+    values = search needs;
+    table = search needs;
+    words = search needs;
+    functions = search needs;
+    blocks = search needs;
+    blank = refl;
+  },
+  search needs,
+)
 
 same-length : tie.Need-same-length
 same-length c = search needs

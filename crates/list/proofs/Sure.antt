@@ -1,0 +1,30 @@
+-- No run of an accepted text, whatever values are chosen and however its tests go, reads a variable that holds nothing; so every choice of values has a run.
+use Prim.Native.Nat.{ℕ, _≤_}
+use mathlib.Core.Path.{_≡_}
+use mathlib.Core.List.{List}
+use lib.IntN.{ℤ}
+use lib.ListN.{length}
+use Rattle.checker.specs.Check as C
+use Rattle.checker.specs.Check.{kinds, checked, programOf}
+use Rattle.checker.proofs.Exactly.{read-so, exactly}
+use Rattle.checker.proofs.Sure.{accepted-sure}
+use Rattle.semantics.specs.Int.{Op, arith}
+use Rattle.semantics.specs.Does.{does, Sure}
+use Rattle.semantics.specs.Run.{meaning}
+use Rattle.semantics.proofs.Sure.{Reaches, every-choice}
+use Rattle.list.specs.List.{program, jobOf}
+
+module _ (text : List ℕ) (e : checked text ≡ C.accepted) where
+  -- its program is that of the tokens and the tree by which it keeps the rules
+  program-so : program text ≡ programOf text (exactly text .0 e .tokens) (exactly text .0 e .tree)
+  unfolding program
+  program-so =
+      let k = exactly text .0 e in
+      rw (k .lexes, program) (rw (read-so (kinds (k .tokens)) (k .tree) (k .grammar), program))
+
+  pub never-stuck : {X : Type 0} (num : ℤ → X) (work : Op → X → X → X) (most : ℕ) → Sure (does num work most (program text))
+  never-stuck num work most = rw program-so (accepted-sure text e num work most)
+
+  -- with any eight values, the first ones of them, as many as it reaches, have a run, which "returns, fails or is cut"
+  pub always-runs : (low high : ℤ) (steps : ℕ) (vs : List ℤ) → 8 ≤ length vs → Reaches (meaning (jobOf text low high steps)) vs
+  always-runs low high steps vs h = every-choice (jobOf text low high steps) (never-stuck (λ z. z) arith steps) vs h
