@@ -28,6 +28,9 @@ table =
     ∷ case "int main() { int x; { int x; } return 1; }" (refused 6 26)
     ∷ case "int main() { int x; return x; }" (refused 17 27)
     ∷ case "int main() { int x; if (1 < 2 && true) x = 1; else fail; return x; }" accepted
+    ∷ case "int main() { int x; if (1 < 2) x = 1; else ; return x; }" (refused 17 52)
+    ∷ case "int main() { int x; if (true || x < 1) x = 1; else ; return x; }" accepted
+    ∷ case "int main() { int x; while (true) ; return x; }" accepted
     ∷ []
 
 unfoldable pub given : Case → Verdict
