@@ -80,13 +80,18 @@ function tokens(    i, n, words) {
             for (; is_letter(byte[i + n]) || is_digit(byte[i + n]) || byte[i + n] == 95; n++) word[last] = word[last] char[byte[i + n]]
             kind[last] = word[last] in reserved ? word[last] : "name"
         } else if (is_digit(byte[i])) {
-            for (; is_digit(byte[i + n]); n++) word[last] = word[last] char[byte[i + n]]
+            for (n = number_size(i); length(word[last]) < n;) word[last] = word[last] char[byte[i + length(word[last])]]
             kind[last] = "number"
         } else if (index(" <= >= == != && || ", " " word[last] char[byte[i + 1]] " ")) {
             kind[last] = word[last] = word[last] char[byte[i + 1]]; n = 2
         }
     }
     word[++last] = "the end of the text"; token_place[last] = size; kind[last] = "end"
+}
+# The bytes of the number at i, up to its last digit.
+function number_size(i,    n, digits) {
+    for (n = digits = 1; is_digit(byte[i + n]) || byte[i + n] == 95; n++) if (is_digit(byte[i + n])) digits = n + 1
+    return digits
 }
 function is_blank(b) { return b == 32 || b == 9 || b == 10 || b == 13 }
 function is_digit(b) { return b >= 48 && b <= 57 }

@@ -542,9 +542,11 @@ impl Writer<'_> {
     }
 
     fn number(&mut self, number: &str) {
-        match number.strip_prefix('-') {
-            Some(digits) => self.put(&["-", digits]),
-            None => self.put(&[number]),
+        let digits = number.strip_prefix('-');
+        let grouped = grouped(self.random, digits.unwrap_or(number), 100);
+        match digits {
+            Some(_) => self.put(&["-", &grouped]),
+            None => self.put(&[&grouped]),
         }
     }
 
@@ -814,7 +816,7 @@ fn noise(random: &mut Random) -> Vec<u8> {
     match random.below(3) {
         0 => (0..length).map(|_| random.below(256) as u8).collect(),
         1 => {
-            let bytes = b"ab1_ \t\n\r(){};,=<>!&|+-*if";
+            let bytes = b"ab12__ \t\n\r(){};,=<>!&|+-*if";
             (0..length).map(|_| bytes[random.below(bytes.len())]).collect()
         }
         _ => {
@@ -859,8 +861,34 @@ fn large_number(random: &mut Random) -> Vec<u8> {
         4 => "18446744073709551616".to_string(),
         _ => random.between(2_147_483_640, 2_147_483_655).to_string(),
     };
+    let often = *random.pick(&[&0, &100, &500]);
+    let number = grouped(random, &number, often);
+    let number = misplaced(random, &number);
     let minus = random.pick(&["", "-", "- "]);
     format!("int main() {{ return {minus}{number}; }}").into_bytes()
+}
+
+/// A number with underscores between its digits, so often in a thousand places, some of them several in a row.
+fn grouped(random: &mut Random, digits: &str, often: usize) -> String {
+    let mut number = String::new();
+    for (place, digit) in digits.chars().enumerate() {
+        if place > 0 && random.chance(often) {
+            number += random.pick(&["_", "_", "__", "___"]);
+        }
+        number.push(digit);
+    }
+    number
+}
+
+/// Sometimes an underscore that stands before a number, behind it, or with a blank or a name after it.
+fn misplaced(random: &mut Random, number: &str) -> String {
+    match random.below(12) {
+        0 => format!("_{number}"),
+        1 => format!("{number}_"),
+        2 => format!("{number}_ 2"),
+        3 => format!("{number}_a"),
+        _ => number.to_string(),
+    }
 }
 
 /// Mixed nesting to a depth of about 24.

@@ -73,11 +73,10 @@ fn first_token(rest: &[u8]) -> Option<(Kind, usize)> {
         return Some((if reserved { Kind::Fixed } else { Kind::Name }, length));
     }
     if rest[0].is_ascii_digit() {
-        let length = count(rest, |b| b.is_ascii_digit());
-        let value = rest[..length].iter().fold(0u64, |value, digit| {
-            value.saturating_mul(10).saturating_add(u64::from(digit - b'0'))
-        });
-        return Some((Kind::Number(value), length));
+        let groups = count(rest, |b| b.is_ascii_digit() || b == b'_');
+        let after = rest[..groups].iter().rev().take_while(|b| **b == b'_').count();
+        let length = groups - after;
+        return Some((Kind::Number(value(&rest[..length])), length));
     }
     if rest.len() >= 2 && DOUBLE_MARKS.contains(&&rest[..2]) {
         return Some((Kind::Fixed, 2));
@@ -86,6 +85,13 @@ fn first_token(rest: &[u8]) -> Option<(Kind, usize)> {
         return Some((Kind::Fixed, 1));
     }
     None
+}
+
+/// The value of a number, which underscores do not change.
+fn value(number: &[u8]) -> u64 {
+    number.iter().filter(|b| **b != b'_').fold(0, |value: u64, digit| {
+        value.saturating_mul(10).saturating_add(u64::from(digit - b'0'))
+    })
 }
 
 fn count(bytes: &[u8], belongs: impl Fn(u8) -> bool) -> usize {

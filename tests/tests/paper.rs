@@ -363,7 +363,7 @@ fn refused_main(number: u32, marked: &str) {
 
 #[test]
 fn bytes_and_tokens() {
-    for body in ["@!", "@&", "@|", "@_a = 1;", "1@_0;", "@%", "&&@&", "!==@!", "@\u{e9}", "@\0"] {
+    for body in ["@!", "@&", "@|", "@_a = 1;", "12@_;", "@%", "&&@&", "!==@!", "@\u{e9}", "@\0"] {
         refused_main(2, body);
     }
     // 2 over the whole text before 3, 3 before 4.

@@ -2,7 +2,7 @@
 use Prim.Native.String.{String}
 use mathlib.Core.Path.{_≡_, refl}
 use mathlib.Core.List.{List, [], _∷_, map}
-use Rattle.lexer.specs.Lex.{bytes, lexed, noneLarge, scan, front, valueOf, decimal, longestWithin, kindOf, kindIn, same, all}
+use Rattle.lexer.specs.Lex.{bytes, lexed, noneLarge, scan, front, valueOf, decimal, digitsOf, longestWithin, kindOf, grouped, kindIn, same, all}
 use Rattle.syntax.specs.Abstract.{ast}
 use Rattle.grammar.specs.Parse.{readText, moreProg, readFun, readParams, moreParams, readStmt, readDecl, readBlock, readEnded, readFail, readGuard, readNamed, readIf, readWhile, moreBody, readCond, moreCond, readConj, moreConj, readAtom, readCmp, readSum, moreSum, readTerm, moreTerm, readOperand, readBracket, readCall, readArgs, moreArgs}
 use Rattle.events.specs.Event.{events, eventsAt, stops, count, first}
@@ -37,5 +37,5 @@ unfoldable pub given : Case → Verdict
 given c = checked (bytes (c .text))
 
 pub right : map given table ≡ map (λ c. c .answer) table
-unfolding given checked lexed noneLarge scan front valueOf decimal longestWithin kindOf kindIn same all ast readText moreProg readFun readParams moreParams readStmt readDecl readBlock readEnded readFail readGuard readNamed readIf readWhile moreBody readCond moreCond readConj moreConj readAtom readCmp readSum moreSum readTerm moreTerm readOperand readBracket readCall readArgs moreArgs events eventsAt stops count first on R.scan least lesser deep parameters heads functionOf arityOf wrong miscounted mains withParameters badMain unended counted over declared outer entered inBlock sought misnamed uncalled repeated named meant parameterCount atEnd after unset rulesOf firstBroken checkedTokens
+unfolding given checked lexed noneLarge scan front valueOf decimal digitsOf longestWithin kindOf grouped kindIn same all ast readText moreProg readFun readParams moreParams readStmt readDecl readBlock readEnded readFail readGuard readNamed readIf readWhile moreBody readCond moreCond readConj moreConj readAtom readCmp readSum moreSum readTerm moreTerm readOperand readBracket readCall readArgs moreArgs events eventsAt stops count first on R.scan least lesser deep parameters heads functionOf arityOf wrong miscounted mains withParameters badMain unended counted over declared outer entered inBlock sought misnamed uncalled repeated named meant parameterCount atEnd after unset rulesOf firstBroken checkedTokens
 right = refl

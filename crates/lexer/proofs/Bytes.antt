@@ -1,6 +1,6 @@
--- Laws of byte classes, of spans, of equal bytes, of a table's kinds and of decimal values.
-use Prim.Native.Nat.{ℕ, zero, suc, _+_, _-_, _*_, _≤_, _<_, min}
-use mathlib.Core.Path.{_≡_, refl, sym, ap, _∙_, subst}
+-- Laws of byte classes, of spans, of equal bytes and of a table's kinds.
+use Prim.Native.Nat.{ℕ, zero, suc, _+_, _-_, _≤_, _<_}
+use mathlib.Core.Path.{_≡_, refl, sym, ap, subst}
 use mathlib.Core.Bool.{Bool, true, false, _&&_, _||_, Bool·beq}
 use mathlib.Core.List.{List, [], _∷_}
 use native.Mathlib.Omega.{arith}
@@ -11,8 +11,8 @@ use lib.Seq.{drop-cons}
 use lib.Dec.{T, eqb, leb, ltb, eqb→eq}
 use borrow.Author.Tests.{eq-eqb, ne-eqb, eqb-true, leb-true}
 use Rattle.syntax.specs.Token.{kName, kNumber}
-use Rattle.lexer.specs.Lex.{isWord, isDigit, isLetter, isBlank, all, same, kindIn, decimal}
-use Rattle.lexer.specs.Parts.{classOf, atLeast, span, limit, largeAs}
+use Rattle.lexer.specs.Lex.{isWord, isDigit, isLetter, isUnderscore, isBlank, all, same, kindIn}
+use Rattle.lexer.specs.Parts.{classOf, span, largeAs}
 
 abbrev pub both : Bool → Bool → Bool
 both true b = b
@@ -54,8 +54,11 @@ class-letter b h = beq→eq _ _ (upto-at 256 (λ b. Bool·beq (isLetter b) (eqb 
 pub class-digit : (b : ℕ) → b < 256 → isDigit b ≡ eqb (classOf b) 4
 class-digit b h = beq→eq _ _ (upto-at 256 (λ b. Bool·beq (isDigit b) (eqb (classOf b) 4)) tt b h)
 
--- the bytes of a name after its first, and the digits, by their class
-pub word-class : (b : ℕ) → isWord b ≡ atLeast 2 b
+pub class-underscore : (b : ℕ) → b < 256 → isUnderscore b ≡ eqb (classOf b) 2
+class-underscore b h = beq→eq _ _ (upto-at 256 (λ b. Bool·beq (isUnderscore b) (eqb (classOf b) 2)) tt b h)
+
+-- the bytes of a name after its first, by their class
+pub word-class : (b : ℕ) → isWord b ≡ leb 2 (classOf b)
 word-class b = go (isDigit b) (isLetter b) (eqb b 95) (isBlank b)
   where
     go : (d l u w : Bool) → d || l || u ≡ leb 2 (elim d [ true ↦ 4 | false ↦ elim l [ true ↦ 3 | false ↦ elim u [ true ↦ 2 | false ↦ elim w [ true ↦ 1 | false ↦ 0 ] ] ] ])
@@ -65,21 +68,6 @@ word-class b = go (isDigit b) (isLetter b) (eqb b 95) (isBlank b)
     go false false true w = refl
     go false false false true = refl
     go false false false false = refl
-
-pub digit-class : (b : ℕ) → isDigit b ≡ atLeast 4 b
-digit-class b = go (isDigit b) (isLetter b) (eqb b 95) (isBlank b)
-  where
-    go : (d l u w : Bool) → d ≡ leb 4 (elim d [ true ↦ 4 | false ↦ elim l [ true ↦ 3 | false ↦ elim u [ true ↦ 2 | false ↦ elim w [ true ↦ 1 | false ↦ 0 ] ] ] ])
-    go true l u w = refl
-    go false true u w = refl
-    go false false true w = refl
-    go false false false true = refl
-    go false false false false = refl
-
-pub span-same : (p q : ℕ → Bool) → ((b : ℕ) → p b ≡ q b) → (l : List ℕ) → span p l ≡ span q l
-unfolding span
-span-same p q h [] = refl
-span-same p q h (b ∷ bs) = rw (h b, span) (ap (λ (n : ℕ). elim (q b) [ true ↦ suc n | false ↦ zero ]) (span-same p q h bs))
 
 pub span-more : (p : ℕ → Bool) (l : List ℕ) (i : ℕ) → i < length l → p (getD l i 0) ≡ true → span p (drop i l) ≡ suc (span p (drop (i + 1) l))
 unfolding span
@@ -121,20 +109,6 @@ all-past p (b ∷ bs) (suc n) h k = go (p b) refl h (λ f. all-past p bs n f (om
     go : (t : Bool) → p b ≡ t → elim t [ true ↦ suc (span p bs) | false ↦ zero ] < suc n → (span p bs < n → all p (take n bs) ≡ false) → all p (b ∷ take n bs) ≡ false
     go true e h f = rw (e, all) (f (omega arith))
     go false e h f = rw (e, all)
-
-pub all-at : (p : ℕ → Bool) (l : List ℕ) (i : ℕ) → all p l ≡ true → i < length l → p (getD l i 0) ≡ true
-unfolding all
-all-at p [] i e h = absurd (omega arith)
-all-at p (b ∷ bs) zero e h = go (p b) refl e
-  where
-    go : (t : Bool) → p b ≡ t → elim t [ true ↦ all p bs | false ↦ false ] ≡ true → p b ≡ true
-    go true e f = e
-    go false e f = absurd (subst (λ (x : Bool). T x) (sym f) tt)
-all-at p (b ∷ bs) (suc i) e h = all-at p bs i (go (p b) e) (omega arith)
-  where
-    go : (t : Bool) → elim t [ true ↦ all p bs | false ↦ false ] ≡ true → all p bs ≡ true
-    go true f = f
-    go false f = absurd (subst (λ (x : Bool). T x) (sym f) tt)
 
 -- the same bytes
 module _ (a b : List ℕ) (i : ℕ) (h : i < length a) (k : i < length b) where
@@ -206,23 +180,6 @@ kindIn-chain (w ∷ ws) other l = go (same l (w .0)) (kindIn-chain ws other l)
     go : (t : Bool) → kindIn ws other l ≡ chain ws other l → elim t [ true ↦ w .1 | false ↦ kindIn ws other l ] ≡ pick t (w .1) (chain ws other l)
     go true e = refl
     go false e = e
-
--- a value is held up to the limit, whatever digits follow
-pub decimal-held : (l : List ℕ) (v : ℕ) → min (decimal v l) limit ≡ min (decimal (min v limit) l) limit
-unfolding decimal
-decimal-held [] v = omega arith
-decimal-held (b ∷ bs) v =
-    let e : min (10 * v + (b - 48)) limit ≡ min (10 * min v limit + (b - 48)) limit = omega arith in
-    decimal-held bs (10 * v + (b - 48)) ∙ ap (λ (w : ℕ). min (decimal w bs) limit) e ∙ sym (decimal-held bs (10 * min v limit + (b - 48)))
-
-pub decimal-more : (l : List ℕ) (i v : ℕ) → i < length l
-    → min (decimal v (drop i l)) limit ≡ min (decimal (min (10 * v + (getD l i 0 - 48)) limit) (drop (i + 1) l)) limit
-unfolding decimal
-decimal-more l i v h = rw (drop-cons l i 0 h, add-one) (decimal-held (drop (suc i) l) (10 * v + (getD l i 0 - 48)))
-
-pub decimal-end : (l : List ℕ) (i v : ℕ) → length l ≤ i → decimal v (drop i l) ≡ v
-unfolding decimal
-decimal-end l i v h = rw (drop-of-length-le l {i = i} h)
 
 pub digit-bounds : (b : ℕ) → isDigit b ≡ true → (48 ≤ b) × (b ≤ 57)
 digit-bounds b e = go (leb 48 b) refl e

@@ -9,9 +9,11 @@ use Rattle.lexer.specs.Lex.{
   all,
   same,
   kindIn,
+  grouped,
   kindOf,
   longestWithin,
   decimal,
+  digitsOf,
   valueOf,
   Token,
   front,
@@ -52,9 +54,18 @@ vectors =
     ∷ (bytes "a &&& b", refused 2 4)
     ∷ (bytes "a |", refused 2 2)
     ∷ (bytes "a _b", refused 2 2)
-    ∷ (bytes "1_000", refused 2 1)
     ∷ (195 ∷ 164 ∷ [], refused 2 0)
     ∷ (0 ∷ [], refused 2 0)
+    -- underscores between two digits of a number belong to it, one or several; others begin no token
+    ∷ (bytes "1_250_000", tokens (tok kNumber 0 1250000 ∷ tok kEnd 9 0 ∷ []))
+    ∷ (bytes "1__0", tokens (tok kNumber 0 10 ∷ tok kEnd 4 0 ∷ []))
+    ∷ (bytes "0_0", tokens (tok kNumber 0 0 ∷ tok kEnd 3 0 ∷ []))
+    ∷ (bytes "-1_0", tokens (tok kMinus 0 1 ∷ tok kNumber 1 10 ∷ tok kEnd 4 0 ∷ []))
+    ∷ (bytes "1_2a", tokens (tok kNumber 0 12 ∷ tok kName 3 1 ∷ tok kEnd 4 0 ∷ []))
+    ∷ (bytes "12_;", refused 2 2)
+    ∷ (bytes "12_a", refused 2 2)
+    ∷ (bytes "1_2__", refused 2 3)
+    ∷ (bytes "_1", refused 2 0)
     -- a name of 16 bytes and of 17, the largest number and the next one, with zeros before it or not
     ∷ (bytes "abcdefghijklmnop", tokens (tok kName 0 16 ∷ tok kEnd 16 0 ∷ []))
     ∷ (bytes " abcdefghijklmnopq", refused 3 1)
@@ -62,11 +73,15 @@ vectors =
     ∷ (bytes "-2147483648", refused 3 1)
     ∷ (bytes "00000000000002147483647", tokens (tok kNumber 0 2147483647 ∷ tok kEnd 23 0 ∷ []))
     ∷ (bytes "00000000000002147483648", refused 3 0)
+    -- number 3 goes by the value, whatever the length
+    ∷ (bytes "2_147_483_647", tokens (tok kNumber 0 2147483647 ∷ tok kEnd 13 0 ∷ []))
+    ∷ (bytes " 2_147_483_648", refused 3 1)
+    ∷ (bytes "0__000_000_000_007", tokens (tok kNumber 0 7 ∷ tok kEnd 18 0 ∷ []))
     -- the first of two; number 2 goes before number 3
     ∷ (bytes "1 99999999999 abcdefghijklmnopq", refused 3 2)
     ∷ (bytes "99999999999 ?", refused 2 12)
     ∷ []
 
 pub examples : map (λ (v : Vector). lexed (v .0)) vectors ≡ map (λ (v : Vector). v .1) vectors
-unfolding lexed scan front kindOf kindIn same all longestWithin decimal valueOf noneLarge
+unfolding lexed scan front kindOf kindIn same all grouped longestWithin decimal digitsOf valueOf noneLarge
 examples = refl

@@ -9,11 +9,12 @@ use lib.ListN.{length, take, drop, getD, length-drop, drop-of-length-le}
 use lib.Seq.{drop-cons, length-take-le}
 use lib.Dec.{eqb}
 use Rattle.syntax.specs.Token.{kEnd, kName, kNumber}
-use Rattle.lexer.specs.Lex.{isWord, isDigit, isLetter, isBlank, all, words, marks, kindIn, kindOf, longest, decimal, valueOf, front, nothing, token}
-use Rattle.lexer.specs.Parts.{classOf, atLeast, span, limit, held, pieceOf}
+use Rattle.lexer.specs.Lex.{isWord, isDigit, isLetter, isBlank, words, marks, kindIn, kindOf, longest, decimal, digitsOf, valueOf, front, nothing, token}
+use Rattle.lexer.specs.Parts.{classOf, span, limit, held, pieceOf}
 use Rattle.lexer.specs.declared.Piece.the-variants.{Blank, Nothing, Token}
 use borrow.Author.Tests.{eq-eqb, ne-eqb, eqb-true}
-use Rattle.lexer.proofs.Bytes.{span-le, span-same, all-span, class-blank, class-letter, class-digit, word-class, digit-class}
+use Rattle.lexer.proofs.Bytes.{span-le, all-span, class-blank, class-letter, class-digit}
+use Rattle.lexer.proofs.Numbers.{more, grouped-more, endOf, end-start}
 use Rattle.lexer.proofs.Longest.{
   name-kind,
   number-kind,
@@ -32,7 +33,7 @@ pub size-value : (l : List ℕ) → eqb (kindOf l) kNumber ≡ false → valueOf
 unfolding valueOf
 size-value l e = rw (e, valueOf)
 
-number-value : (l : List ℕ) → kindOf l ≡ kNumber → valueOf l ≡ decimal 0 l
+number-value : (l : List ℕ) → kindOf l ≡ kNumber → valueOf l ≡ decimal 0 (digitsOf l)
 unfolding valueOf
 number-value l e = rw (e, valueOf)
 
@@ -69,12 +70,12 @@ module _ (b : ℕ) (bs : List ℕ) (e : isBlank b ≡ false) where
       sized (span isWord bs) (span-le isWord bs) (name-longest b bs f) (rw k (word-no-number (b ∷ take (span isWord bs) bs)))
       ∙ ap (λ (x : ℕ). Token x (suc (span isWord bs)) (suc (span isWord bs))) k
 
-  pub front-number : isLetter b ≡ false → isDigit b ≡ true → pieceOf (front (b ∷ bs)) ≡ Token kNumber (suc (span isDigit bs)) (min (decimal 0 (b ∷ take (span isDigit bs) bs)) limit)
+  pub front-number : isLetter b ≡ false → isDigit b ≡ true → pieceOf (front (b ∷ bs)) ≡ Token kNumber (suc (more bs)) (min (decimal 0 (digitsOf (b ∷ take (more bs) bs))) limit)
   front-number f g =
-      let k = number-kind b (take (span isDigit bs) bs) f g (all-span isDigit bs) in
-      ap pieceOf (front-token (span isDigit bs) (number-longest b bs f g))
-      ∙ ap (λ (x : ℕ). Token x (suc (span isDigit bs)) (held x (valueOf (b ∷ take (span isDigit bs) bs)))) k
-      ∙ ap (Token kNumber (suc (span isDigit bs))) (held-number (valueOf (b ∷ take (span isDigit bs) bs)) ∙ ap (λ (x : ℕ). min x limit) (number-value (b ∷ take (span isDigit bs) bs) k))
+      let k = number-kind b (take (more bs) bs) f g (grouped-more bs) in
+      ap pieceOf (front-token (more bs) (number-longest b bs f g))
+      ∙ ap (λ (x : ℕ). Token x (suc (more bs)) (held x (valueOf (b ∷ take (more bs) bs)))) k
+      ∙ ap (Token kNumber (suc (more bs))) (held-number (valueOf (b ∷ take (more bs) bs)) ∙ ap (λ (x : ℕ). min x limit) (number-value (b ∷ take (more bs) bs) k))
 
   module _ (f : isLetter b ≡ false) (g : isDigit b ≡ false) where
     pub front-pair : eqb (pairOf b bs) kEnd ≡ false → 1 ≤ length bs → pieceOf (front (b ∷ bs)) ≡ Token (pairOf b bs) 2 2
@@ -113,30 +114,31 @@ module _ (l : List ℕ) (i : ℕ) (h : i < length l) (small : getD l i 0 < 256) 
   pub blank-piece : classOf b ≡ 1 → Blank ≡ pieceOf (front (drop i l))
   blank-piece e = sym (ap (λ (x : List ℕ). pieceOf (front x)) (at-drop l i h) ∙ front-blank b bs (class-blank b small ∙ eq-eqb _ _ e))
 
-  pub name-piece : (e k : ℕ) → isLetter b ≡ true → e ≡ i + 1 + span (atLeast 2) bs → k ≡ kindIn words kName (take (e - i) (drop i l)) → Token k (e - i) (e - i) ≡ pieceOf (front (drop i l))
+  pub name-piece : (e k : ℕ) → isLetter b ≡ true → e ≡ i + 1 + span isWord bs → k ≡ kindIn words kName (take (e - i) (drop i l)) → Token k (e - i) (e - i) ≡ pieceOf (front (drop i l))
   name-piece e k f q r =
-      let w : span (atLeast 2) bs ≡ span isWord bs = sym (span-same isWord (atLeast 2) word-class bs) in
       let n : e - i ≡ suc (span isWord bs) = omega arith in
       let c : classOf b ≡ 3 = eqb-true _ _ (sym (class-letter b small) ∙ f) in
       ap (λ (x : ℕ). Token x (e - i) (e - i)) (r ∙ ap (λ (x : List ℕ). kindIn words kName (take (e - i) x)) (at-drop l i h))
       ∙ ap (λ (x : ℕ). Token (kindIn words kName (take x (b ∷ bs))) x x) n
       ∙ sym (ap (λ (x : List ℕ). pieceOf (front x)) (at-drop l i h) ∙ front-name b bs (class-blank b small ∙ rw c) f)
 
-  pub number-digits : (e : ℕ) → isDigit b ≡ true → e ≡ i + 1 + span (atLeast 4) bs → all isDigit (take (e - i) (drop i l)) ≡ true
-  unfolding all
-  number-digits e f q =
-      let w : span (atLeast 4) bs ≡ span isDigit bs = sym (span-same isDigit (atLeast 4) digit-class bs) in
-      let n : e - i ≡ suc (span isDigit bs) = omega arith in
-      ap (λ (x : List ℕ). all isDigit (take (e - i) x)) (at-drop l i h) ∙ ap (λ (x : ℕ). all isDigit (take x (b ∷ bs))) n ∙ rw (f, all) (all-span isDigit bs)
+  module _ (f : isDigit b ≡ true) where
+    four : classOf b ≡ 4
+    four = eqb-true _ _ (sym (class-digit b small) ∙ f)
 
-  pub number-piece : (e v : ℕ) → isDigit b ≡ true → e ≡ i + 1 + span (atLeast 4) bs → v ≡ min (decimal 0 (take (e - i) (drop i l))) limit → Token kNumber (e - i) v ≡ pieceOf (front (drop i l))
-  number-piece e v f q r =
-      let w : span (atLeast 4) bs ≡ span isDigit bs = sym (span-same isDigit (atLeast 4) digit-class bs) in
-      let n : e - i ≡ suc (span isDigit bs) = omega arith in
-      let c : classOf b ≡ 4 = eqb-true _ _ (sym (class-digit b small) ∙ f) in
-      ap (Token kNumber (e - i)) (r ∙ ap (λ (x : List ℕ). min (decimal 0 (take (e - i) x)) limit) (at-drop l i h))
-      ∙ ap (λ (x : ℕ). Token kNumber x (min (decimal 0 (take x (b ∷ bs))) limit)) n
-      ∙ sym (ap (λ (x : List ℕ). pieceOf (front x)) (at-drop l i h) ∙ front-number b bs (class-blank b small ∙ rw c) (class-letter b small ∙ rw c) f)
+    -- the number that begins here has the bytes up to the last digit
+    number-size : longest (drop i l) ≡ suc (more bs)
+    number-size = ap longest (at-drop l i h) ∙ number-longest b bs (class-letter b small ∙ rw four) f
+
+    pub number-start : i + longest (drop i l) ≡ endOf (i + 1) (i + 1) (more bs)
+    number-start = omega (arith, number-size, end-start (i + 1) (more bs))
+
+    pub number-piece : (e v : ℕ) → e ≡ i + longest (drop i l) → v ≡ min (decimal 0 (digitsOf (take (e - i) (drop i l)))) limit → Token kNumber (e - i) v ≡ pieceOf (front (drop i l))
+    number-piece e v q r =
+        let n : e - i ≡ suc (more bs) = omega (arith, number-size) in
+        ap (Token kNumber (e - i)) (r ∙ ap (λ (x : List ℕ). min (decimal 0 (digitsOf (take (e - i) x))) limit) (at-drop l i h))
+        ∙ ap (λ (x : ℕ). Token kNumber x (min (decimal 0 (digitsOf (take x (b ∷ bs)))) limit)) n
+        ∙ sym (ap (λ (x : List ℕ). pieceOf (front x)) (at-drop l i h) ∙ front-number b bs (class-blank b small ∙ rw four) (class-letter b small ∙ rw four) f)
 
   -- neither blank, letter nor digit
   module _ (low : classOf b ≤ 2) (full : classOf b ≡ 1 → ⊥) where

@@ -1,4 +1,5 @@
 pub mod Bytes
+pub mod Numbers
 pub mod Longest
 pub mod Fronts
 pub mod Loop

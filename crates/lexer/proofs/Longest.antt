@@ -8,9 +8,10 @@ use native.Mathlib.Nat.{add-zero, add-suc}
 use lib.ListN.{length, take}
 use lib.Dec.{T, eqb}
 use Rattle.syntax.specs.Token.{kEnd, kName, kNumber}
-use Rattle.lexer.specs.Lex.{isWord, isDigit, isLetter, all, same, words, marks, kindIn, kindOf, longestWithin, longest}
+use Rattle.lexer.specs.Lex.{isWord, isDigit, isLetter, all, same, words, marks, kindIn, grouped, kindOf, longestWithin, longest}
 use Rattle.lexer.specs.Parts.{span}
 use Rattle.lexer.proofs.Bytes.{span-le, all-span, all-past, and-false, kindIn-has, kindIn-chain}
+use Rattle.lexer.proofs.Numbers.{more, more-le, grouped-more, grouped-past}
 
 -- the kind of bytes, by the first one
 pub name-kind : (b : ℕ) (bs : List ℕ) → isLetter b ≡ true → all isWord bs ≡ true → kindOf (b ∷ bs) ≡ kindIn words kName (b ∷ bs)
@@ -21,11 +22,11 @@ pub no-name : (b : ℕ) (bs : List ℕ) → isLetter b ≡ true → all isWord b
 unfolding kindOf
 no-name b bs e f = rw (e, kindOf) (rw f)
 
-pub number-kind : (b : ℕ) (bs : List ℕ) → isLetter b ≡ false → isDigit b ≡ true → all isDigit bs ≡ true → kindOf (b ∷ bs) ≡ kNumber
+pub number-kind : (b : ℕ) (bs : List ℕ) → isLetter b ≡ false → isDigit b ≡ true → grouped true bs ≡ true → kindOf (b ∷ bs) ≡ kNumber
 unfolding kindOf
 number-kind b bs e f g = rw (e, kindOf) (rw f (rw g))
 
-pub no-number : (b : ℕ) (bs : List ℕ) → isLetter b ≡ false → isDigit b ≡ true → all isDigit bs ≡ false → kindOf (b ∷ bs) ≡ kEnd
+pub no-number : (b : ℕ) (bs : List ℕ) → isLetter b ≡ false → isDigit b ≡ true → grouped true bs ≡ false → kindOf (b ∷ bs) ≡ kEnd
 unfolding kindOf
 no-number b bs e f g = rw (e, kindOf) (rw f (rw g))
 
@@ -72,26 +73,26 @@ miss : (l : List ℕ) (m : ℕ) → kindOf (take (suc m) l) ≡ kEnd → longest
 unfolding longestWithin
 miss l m e = rw (e, longestWithin)
 
--- a first byte, then as many bytes as have p
-module _ (p : ℕ → Bool) (b : ℕ) (bs : List ℕ) (right : (n : ℕ) → all p (take n bs) ≡ true → eqb (kindOf (b ∷ take n bs)) kEnd ≡ false) (wrong : (n : ℕ) → all p (take n bs) ≡ false → kindOf (b ∷ take n bs) ≡ kEnd) where
-  run-longest : longest (b ∷ bs) ≡ suc (span p bs)
+-- a first byte and n more are a token, and no longer ones are
+module _ (b : ℕ) (bs : List ℕ) (n : ℕ) (fits : n ≤ length bs) (right : eqb (kindOf (b ∷ take n bs)) kEnd ≡ false) (wrong : (m : ℕ) → n < m → m ≤ length bs → kindOf (b ∷ take m bs) ≡ kEnd) where
+  run-longest : longest (b ∷ bs) ≡ suc n
   run-longest =
-      let e : suc (length bs) ≡ suc (span p bs) + (length bs - span p bs) = omega (arith, span-le p bs) in
-      ap (λ (n : ℕ). longestWithin n (b ∷ bs)) e ∙ past (b ∷ bs) (suc (span p bs)) (length bs - span p bs) over ∙ hit (b ∷ bs) (span p bs) (right (span p bs) (all-span p bs))
+      let e : suc (length bs) ≡ suc n + (length bs - n) = omega arith in
+      ap (λ (m : ℕ). longestWithin m (b ∷ bs)) e ∙ past (b ∷ bs) (suc n) (length bs - n) over ∙ hit (b ∷ bs) n right
     where
-      over : (n : ℕ) → suc (span p bs) < n → n ≤ suc (span p bs) + (length bs - span p bs) → kindOf (take n (b ∷ bs)) ≡ kEnd
+      over : (m : ℕ) → suc n < m → m ≤ suc n + (length bs - n) → kindOf (take m (b ∷ bs)) ≡ kEnd
       over zero h k = absurd (omega arith)
-      over (suc n) h k = wrong n (all-past p bs n (omega arith) (omega (arith, span-le p bs)))
+      over (suc m) h k = wrong m (omega arith) (omega arith)
 
 pub name-longest : (b : ℕ) (bs : List ℕ) → isLetter b ≡ true → longest (b ∷ bs) ≡ suc (span isWord bs)
-name-longest b bs e = run-longest isWord b bs
-    (λ n f. rw (name-kind b (take n bs) e f) (word-token (b ∷ take n bs)))
-    (λ n f. no-name b (take n bs) e f)
+name-longest b bs e = run-longest b bs (span isWord bs) (span-le isWord bs)
+    (rw (name-kind b (take (span isWord bs) bs) e (all-span isWord bs)) (word-token (b ∷ take (span isWord bs) bs)))
+    (λ m h k. no-name b (take m bs) e (all-past isWord bs m h k))
 
-pub number-longest : (b : ℕ) (bs : List ℕ) → isLetter b ≡ false → isDigit b ≡ true → longest (b ∷ bs) ≡ suc (span isDigit bs)
-number-longest b bs e f = run-longest isDigit b bs
-    (λ n g. rw (number-kind b (take n bs) e f g))
-    (λ n g. no-number b (take n bs) e f g)
+pub number-longest : (b : ℕ) (bs : List ℕ) → isLetter b ≡ false → isDigit b ≡ true → longest (b ∷ bs) ≡ suc (more bs)
+number-longest b bs e f = run-longest b bs (more bs) (more-le bs)
+    (rw (number-kind b (take (more bs) bs) e f (grouped-more bs)))
+    (λ m h k. no-number b (take m bs) e f (grouped-past true bs m h k))
 
 -- the kind of a mark of two bytes at the front, if there are two
 unfoldable pub pairOf : ℕ → List ℕ → ℕ

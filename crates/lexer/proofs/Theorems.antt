@@ -1,7 +1,7 @@
 -- Theorems about the definition: what holds of the tokens of a text.
 use Prim.Native.Nat.{ℕ, zero, suc, _+_, _-_, _≤_, _<_}
 use mathlib.Core.Path.{_≡_, refl, sym, ap, _∙_, subst}
-use mathlib.Core.Bool.{Bool, true, false, _||_}
+use mathlib.Core.Bool.{Bool, true, false, _&&_, _||_}
 use mathlib.Core.List.{List, [], _∷_, _++_, map-append}
 use native.Mathlib.Omega.{arith}
 use native.Mathlib.Decide.{decLt}
@@ -11,9 +11,14 @@ use lib.Dec.{eqb, ltb}
 use borrow.Author.Tests.{eqb-true, le-ltb, ltb-true, ltb-false}
 use Rattle.syntax.specs.Token.{kEnd, kNumber}
 use Rattle.lexer.specs.Lex.{
+  isDigit,
+  isLetter,
+  isWord,
   isBlank,
+  all,
   same,
   kindIn,
+  grouped,
   kindOf,
   longest,
   valueOf,
@@ -36,7 +41,10 @@ use Rattle.lexer.specs.Lex.{
   lexed,
 }
 use Rattle.lexer.specs.Tokens.{Longest, endAt, Blanks, Scans, ended, strayed, next, next-stray, FirstLarge, here, there}
-use Rattle.lexer.specs.Parts.{stored, kindsOf, placesOf}
+use Rattle.lexer.specs.Parts.{classOf, stored, kindsOf, placesOf}
+use Rattle.lexer.proofs.Bytes.{class-letter, class-digit, digit-bounds}
+use Rattle.lexer.proofs.Numbers.{digitOrUnderscore, last, grouped-last}
+use Rattle.lexer.proofs.Longest.{name-kind, no-name, number-kind, no-number, mark-kind, word-no-number, mark-no-number}
 use Rattle.lexer.proofs.Fronts.{size-value, front-token}
 use Rattle.lexer.proofs.Loop.{lexed-long, front-longest, at-blank, at-nothing, at-size, at-token}
 
@@ -229,6 +237,23 @@ pub data Ended (n : ℕ) : List Token → Type 0 where
 pub end-last : {text : List ℕ} {p : ℕ} {ts : List Token} → Scans text p (found ts) → Ended (length text) ts
 end-last (ended b) = the-end
 end-last (next size b f c) = before-end (f .is-token) (end-last c)
+
+no-letter : (b : ℕ) → isDigit b ≡ true → isLetter b ≡ false
+no-letter b e =
+    let small : b < 256 = omega (arith, digit-bounds b e) in
+    let four : classOf b ≡ 4 = eqb-true _ _ (sym (class-digit b small) ∙ e) in
+    class-letter b small ∙ rw four
+
+-- THEOREM. Bytes are a number exactly if the first is a digit, the others are digits or underscores, and the last is a digit: so an underscore stands between two digits.
+pub number-exactly : (b : ℕ) (bs : List ℕ) → eqb (kindOf (b ∷ bs)) kNumber ≡ isDigit b && (all digitOrUnderscore bs && isDigit (last b bs))
+number-exactly b bs = go (isDigit b) (isLetter b) (all isWord bs) (grouped true bs) refl refl refl refl
+  where
+    go : (d l w g : Bool) → isDigit b ≡ d → isLetter b ≡ l → all isWord bs ≡ w → grouped true bs ≡ g → eqb (kindOf (b ∷ bs)) kNumber ≡ d && (all digitOrUnderscore bs && isDigit (last b bs))
+    go true l w true d l′ w′ g = rw (number-kind b bs (no-letter b d) d g) (sym g ∙ ap (λ (t : Bool). grouped t bs) (sym d) ∙ grouped-last b bs)
+    go true l w false d l′ w′ g = rw (no-number b bs (no-letter b d) d g) (sym g ∙ ap (λ (t : Bool). grouped t bs) (sym d) ∙ grouped-last b bs)
+    go false true true g d l′ w′ g′ = rw (name-kind b bs l′ w′) (word-no-number (b ∷ bs))
+    go false true false g d l′ w′ g′ = rw (no-name b bs l′ w′)
+    go false false w g d l′ w′ g′ = rw (mark-kind b bs l′ d) (mark-no-number (b ∷ bs))
 
 -- THEOREM. The value of a token that is no number is its size.
 pub token-fits : {l : List ℕ} {k m v : ℕ} → Longest l k m v → eqb k kNumber ≡ false → v ≡ m

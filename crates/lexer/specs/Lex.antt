@@ -1,4 +1,4 @@
--- From bytes to tokens: document 01, "The text", and "Check", numbers 1 to 3. A text is the list of its bytes.
+-- From bytes to tokens: document 01, "The text", and "Check", numbers 1 to 3, with slip 2 of document 02. A text is the list of its bytes.
 use Prim.Native.Nat.{ℕ, zero, suc, _+_, _-_, _*_}
 use Prim.Native.Char.{code}
 use Prim.Native.String as S
@@ -52,9 +52,13 @@ isDigit b = between 48 57 b
 abbrev pub isLetter : ℕ → Bool
 isLetter b = between 65 90 b || between 97 122 b
 
+-- _
+abbrev pub isUnderscore : ℕ → Bool
+isUnderscore b = eqb b 95
+
 -- a byte of a name after its first: a letter, a digit or an underscore
 abbrev pub isWord : ℕ → Bool
-isWord b = isDigit b || isLetter b || eqb b 95
+isWord b = isDigit b || isLetter b || isUnderscore b
 
 -- blank, tab, LF, CR
 abbrev pub isBlank : ℕ → Bool
@@ -119,6 +123,16 @@ unfoldable pub kindIn : List (List ℕ × ℕ) → ℕ → List ℕ → ℕ
 kindIn [] other bytes = other
 kindIn (w ∷ ws) other bytes = elim (same bytes (w .0)) [ true ↦ w .1 | false ↦ kindIn ws other bytes ]
 
+-- Slip 2, "As in JLS 3.10.1, underscores may stand between two digits of a number": one or several in a row.
+-- These bytes may follow in a number, after a digit (true) or an underscore (false): digits and underscores, and an underscore is not the last.
+unfoldable pub grouped : Bool → List ℕ → Bool
+grouped digit [] = digit
+grouped digit (b ∷ bs) =
+    elim (isDigit b) [
+      | true ↦ grouped true bs
+      | false ↦ elim (isUnderscore b) [ true ↦ grouped false bs | false ↦ false ]
+    ]
+
 -- The kind of the token that these bytes are; kEnd if they are none.
 -- "names (a letter, then letters, digits, underscores), decimal numbers, single marks, `<= >= == != && ||`"
 unfoldable pub kindOf : List ℕ → ℕ
@@ -127,7 +141,7 @@ kindOf (b ∷ bs) =
     elim (isLetter b) [
       | true ↦ elim (all isWord bs) [ true ↦ kindIn words kName (b ∷ bs) | false ↦ kEnd ]
       | false ↦ elim (isDigit b) [
-        | true ↦ elim (all isDigit bs) [ true ↦ kNumber | false ↦ kEnd ]
+        | true ↦ elim (grouped true bs) [ true ↦ kNumber | false ↦ kEnd ]
         | false ↦ kindIn marks kEnd (b ∷ bs)
       ]
     ]
@@ -145,9 +159,14 @@ unfoldable pub decimal : ℕ → List ℕ → ℕ
 decimal v [] = v
 decimal v (b ∷ bs) = decimal (10 * v + (b - 48)) bs
 
--- a token's value: of a number the number, of any other its size in bytes
+-- the digits of a number, its underscores dropped
+unfoldable pub digitsOf : List ℕ → List ℕ
+digitsOf [] = []
+digitsOf (b ∷ bs) = elim (isDigit b) [ true ↦ b ∷ digitsOf bs | false ↦ digitsOf bs ]
+
+-- a token's value: of a number the decimal value of its digits, of any other its size in bytes
 unfoldable pub valueOf : List ℕ → ℕ
-valueOf bytes = elim (eqb (kindOf bytes) kNumber) [ true ↦ decimal 0 bytes | false ↦ length bytes ]
+valueOf bytes = elim (eqb (kindOf bytes) kNumber) [ true ↦ decimal 0 (digitsOf bytes) | false ↦ length bytes ]
 
 -- a token: its kind, its place ("a token's place being its first byte") and its value
 pub record Token : Type 0 where
@@ -192,7 +211,7 @@ scan p zero (b ∷ bs) =
       | token k n v ↦ before (record { kind = k; place = p; value = v }) (scan (suc p) (n - 1) bs)
     ]
 
--- "3 a name over 16 bytes or a number above 2,147,483,647"
+-- "3 a name over 16 bytes or a number above 2,147,483,647"; slip 2: "The limit of number 3 concerns the value, at the number's first digit."
 abbrev pub isLarge : Token → Bool
 isLarge t = eqb (t .kind) kName && ltb 16 (t .value) || eqb (t .kind) kNumber && ltb 2147483647 (t .value)
 

@@ -5,9 +5,9 @@ use mathlib.Core.Path.{_≡_}
 use mathlib.Core.List.{List, [], _∷_, _++_, map}
 use lib.ListN.{length, getD}
 use lib.Seq.{sets}
-use lib.Dec.{eqb, leb, ltb}
+use lib.Dec.{eqb, ltb}
 use Rattle.syntax.specs.Token.{kNumber}
-use Rattle.lexer.specs.Lex.{isDigit, isLetter, isBlank, Token, isLarge, Front, blank, nothing, token, Scanned, found, stray, scan, Lexing, tokens, refused, lexed}
+use Rattle.lexer.specs.Lex.{isDigit, isLetter, isUnderscore, isBlank, Token, isLarge, Front, blank, nothing, token, Scanned, found, stray, scan, Lexing, tokens, refused, lexed}
 use Rattle.lexer.specs.declared.Piece.{Piece}
 use Rattle.lexer.specs.declared.Piece.the-variants as piece
 use Rattle.lexer.specs.declared.Lexed.{Lexed}
@@ -20,12 +20,9 @@ classOf b =
       | true ↦ 4
       | false ↦ elim (isLetter b) [
         | true ↦ 3
-        | false ↦ elim (eqb b 95) [ true ↦ 2 | false ↦ elim (isBlank b) [ true ↦ 1 | false ↦ 0 ] ]
+        | false ↦ elim (isUnderscore b) [ true ↦ 2 | false ↦ elim (isBlank b) [ true ↦ 1 | false ↦ 0 ] ]
       ]
     ]
-
-abbrev pub atLeast : ℕ → ℕ → Bool
-atLeast least b = leb least (classOf b)
 
 -- how many bytes at the front have p
 unfoldable pub span : (ℕ → Bool) → List ℕ → ℕ

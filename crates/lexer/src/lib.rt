@@ -5,8 +5,8 @@ ghost use mathlib.Core.List.{[], _∷_};
 ghost use Prim.Native.Nat.{min, _+_, _-_, _*_, _≤_, _<_};
 ghost use lib.ListN.{length, drop, getD};
 ghost use Rattle.syntax.specs.Token.{kEnd, kName};
-ghost use Rattle.lexer.specs.Lex.{isDigit, isLetter, all, same, words, marks, kindIn, decimal, front};
-ghost use Rattle.lexer.specs.Parts.{classOf, atLeast, span, limit, pieceOf, largeAs, firstLarge, Lexes};
+ghost use Rattle.lexer.specs.Lex.{isDigit, isLetter, isWord, same, words, marks, kindIn, longest, decimal, digitsOf, front};
+ghost use Rattle.lexer.specs.Parts.{classOf, span, limit, pieceOf, largeAs, firstLarge, Lexes};
 use syntax::token;
 
 // The first value that no number may have.
@@ -194,31 +194,60 @@ fn with_digit(value: u32, digit: u8) -> u32
     LIMIT
 }
 
-// The decimal value of digits, up to the limit.
-fn number_value(digits: &[u8]) -> u32
-    requires { ⌜ all isDigit (now digits) ≡ true ⌝ }
-    ensures { λ r. ⌜ r ≡ min (decimal 0 (now (digits .entry))) limit ⌝ }
+// A value with one more byte of a number, up to the limit: an underscore leaves it as it is.
+fn with_byte(value: u32, b: u8) -> u32
+    requires { ⌜ value ≤ limit ⌝ }
+    ensures { λ r. ⌜ r ≡ min (decimal value (digitsOf (b ∷ []))) limit ⌝ }
+{
+    if class(b) != 4 {
+        return value;
+    }
+    with_digit(value, b)
+}
+
+// The decimal value of a number's digits, its underscores dropped, up to the limit.
+fn number_value(number: &[u8]) -> u32
+    ensures { λ r. ⌜ r ≡ min (decimal 0 (digitsOf (now (number .entry)))) limit ⌝ }
 {
     let mut value: u32 = 0;
     let mut i = 0;
-    while i < digits.len() {
-        value = with_digit(value, digits[i]);
+    while i < number.len() {
+        value = with_byte(value, number[i]);
         i += 1;
     }
     value
 }
 
-// The end of the bytes from `at` on whose class is at least `least`.
-fn run_end(text: &[u8], at: usize, least: u8) -> usize
+// The end of the bytes from `at` on that a name may go on with.
+fn word_end(text: &[u8], at: usize) -> usize
     requires { ⌜ at ≤ length (now text) ⌝ }
-    ensures { λ r. ⌜ (r ≡ at + span (atLeast least) (drop at (now (text .entry)))) × (r ≤ length (now (text .entry))) ⌝ }
+    ensures { λ r. ⌜ (r ≡ at + span isWord (drop at (now (text .entry)))) × (r ≤ length (now (text .entry))) ⌝ }
 {
     let mut end = at;
     while end < text.len() {
-        if class(text[end]) < least {
+        if class(text[end]) < 2 {
             return end;
         }
         end += 1;
+    }
+    end
+}
+
+// The end of the number that begins at `at`: the place after its last digit. Underscores belong to it only if a digit follows.
+fn number_end(text: &[u8], at: usize) -> usize
+    requires { ⌜ (at < length (now text)) × (isDigit (getD (now text) at 0) ≡ true) ⌝ }
+    ensures { λ r. ⌜ (r ≡ at + longest (drop at (now (text .entry)))) × (r ≤ length (now (text .entry))) ⌝ }
+{
+    let mut end = at + 1;
+    let mut i = at + 1;
+    while i < text.len() {
+        let k = class(text[i]);
+        i += 1;
+        if k == 4 {
+            end = i;
+        } else if k != 2 {
+            return end;
+        }
     }
     end
 }
@@ -228,7 +257,7 @@ fn name_at(text: &[u8], at: usize) -> Piece
     requires { ⌜ (at < length (now text)) × (length (now text) ≤ 2048) × (isLetter (getD (now text) at 0) ≡ true) ⌝ }
     ensures { λ r. ⌜ r ≡ pieceOf (front (drop at (now (text .entry)))) ⌝ }
 {
-    let end = run_end(text, at + 1, 2);
+    let end = word_end(text, at + 1);
     let size = end - at;
     let kind = word_kind(&text[at..end]);
     Piece::Token {
@@ -243,7 +272,7 @@ fn number_at(text: &[u8], at: usize) -> Piece
     requires { ⌜ (at < length (now text)) × (isDigit (getD (now text) at 0) ≡ true) ⌝ }
     ensures { λ r. ⌜ r ≡ pieceOf (front (drop at (now (text .entry)))) ⌝ }
 {
-    let end = run_end(text, at + 1, 4);
+    let end = number_end(text, at);
     let size = end - at;
     let value = number_value(&text[at..end]);
     Piece::Token {

@@ -5,7 +5,7 @@ use mathlib.Core.Path.{_≡_, refl}
 use mathlib.Core.List.{List, [], _∷_, map}
 use lib.IntN.{ℤ, pos, negsuc}
 use lib.ListN.{length, replicate}
-use Rattle.lexer.specs.Lex.{bytes, lexed, noneLarge, scan, front, valueOf, decimal, longestWithin, kindOf, kindIn, same, all}
+use Rattle.lexer.specs.Lex.{bytes, lexed, noneLarge, scan, front, valueOf, decimal, digitsOf, longestWithin, kindOf, grouped, kindIn, same, all}
 use Rattle.syntax.specs.Abstract.{ast}
 use Rattle.grammar.specs.Parse.{readText, moreProg, readFun, readParams, moreParams, readStmt, readDecl, readBlock, readEnded, readFail, readGuard, readNamed, readIf, readWhile, moreBody, readCond, moreCond, readConj, moreConj, readAtom, readCmp, readSum, moreSum, readTerm, moreTerm, readOperand, readBracket, readCall, readArgs, moreArgs}
 use Rattle.events.specs.Event.{events, eventsAt, stops, count, first}
@@ -102,5 +102,5 @@ unfoldable pub expected : Case → Exit
 expected c = (c .answer, sheet (held (c .words)) (c .rows))
 
 pub starred-hold : map given starred ≡ map expected starred
-unfolding given expected list ground program checked lexed noneLarge scan front valueOf decimal longestWithin kindOf kindIn same all ast readText moreProg readFun readParams moreParams readStmt readDecl readBlock readEnded readFail readGuard readNamed readIf readWhile moreBody readCond moreCond readConj moreConj readAtom readCmp readSum moreSum readTerm moreTerm readOperand readBracket readCall readArgs moreArgs events eventsAt stops count first on R.scan least lesser deep parameters heads functionOf arityOf wrong miscounted mains withParameters badMain unended counted over declared outer entered inBlock sought misnamed uncalled repeated named meant parameterCount atEnd after unset part mainOf rulesOf firstBroken checkedTokens programOf S.listed answer search openly probedOnce moves paths probed tried settings meets narrowed clipped clip decided always range fitted span maxZ minZ all32 under work each numbers clamp counting within does enter stmt loop cond expr frame holds eqZ arith exact wrap low32
+unfolding given expected list ground program checked lexed noneLarge scan front valueOf decimal digitsOf longestWithin kindOf grouped kindIn same all ast readText moreProg readFun readParams moreParams readStmt readDecl readBlock readEnded readFail readGuard readNamed readIf readWhile moreBody readCond moreCond readConj moreConj readAtom readCmp readSum moreSum readTerm moreTerm readOperand readBracket readCall readArgs moreArgs events eventsAt stops count first on R.scan least lesser deep parameters heads functionOf arityOf wrong miscounted mains withParameters badMain unended counted over declared outer entered inBlock sought misnamed uncalled repeated named meant parameterCount atEnd after unset part mainOf rulesOf firstBroken checkedTokens programOf S.listed answer search openly probedOnce moves paths probed tried settings meets narrowed clipped clip decided always range fitted span maxZ minZ all32 under work each numbers clamp counting within does enter stmt loop cond expr frame holds eqZ arith exact wrap low32
 starred-hold = refl

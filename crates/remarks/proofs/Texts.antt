@@ -7,7 +7,7 @@ use mathlib.Core.Option.{Option, none, some}
 use native.Mathlib.Omega.{arith}
 use lib.ListN.{length}
 use Rattle.lexer.specs.Lex as L
-use Rattle.lexer.specs.Lex.{Token, bytes, lexed, noneLarge, front, valueOf, decimal, longestWithin, kindOf, kindIn, same, all}
+use Rattle.lexer.specs.Lex.{Token, bytes, lexed, noneLarge, front, valueOf, decimal, digitsOf, longestWithin, kindOf, grouped, kindIn, same, all}
 use Rattle.syntax.specs.Tree.{prog}
 use Rattle.syntax.specs.Abstract.{ast}
 use Rattle.grammar.specs.Parse.{Res, ok, bad, parsed, readText, moreProg, readFun, readParams, moreParams, readStmt, readDecl, readBlock, readEnded, readFail, readGuard, readNamed, readIf, readWhile, moreBody, readCond, moreCond, readConj, moreConj, readAtom, readCmp, readSum, moreSum, readTerm, moreTerm, readOperand, readBracket, readCall, readArgs, moreArgs}
@@ -57,7 +57,7 @@ abbrev pub known : Facts
 known = record { calls = call 1 2 ∷ call 2 1 ∷ call 3 0 ∷ []; functions = 4; main = 3; offsets = 4 ∷ 26 ∷ 50 ∷ [] }
 
 pub right : facts text ≡ some known
-unfolding text facts lexed noneLarge L.scan front valueOf decimal longestWithin kindOf kindIn same all ast readText moreProg readFun readParams moreParams readStmt readDecl readBlock readEnded readFail readGuard readNamed readIf readWhile moreBody readCond moreCond readConj moreConj readAtom readCmp readSum moreSum readTerm moreTerm readOperand readBracket readCall readArgs moreArgs events eventsAt stops count first R.scan parameters heads functionOf mainOf begun calledBy
+unfolding text facts lexed noneLarge L.scan front valueOf decimal digitsOf longestWithin kindOf grouped kindIn same all ast readText moreProg readFun readParams moreParams readStmt readDecl readBlock readEnded readFail readGuard readNamed readIf readWhile moreBody readCond moreCond readConj moreConj readAtom readCmp readSum moreSum readTerm moreTerm readOperand readBracket readCall readArgs moreArgs events eventsAt stops count first R.scan parameters heads functionOf mainOf begun calledBy
 right = refl
 
 -- g and h belong: f and main are marked, and no marked function calls one that is not

@@ -247,6 +247,7 @@ fn limits() -> Vec<(String, Vec<u8>, String)> {
         ("a capital", "Job 0 3 100", "refused 16 at 0"),
         ("another word", "jobs 0 3 100", "refused 16 at 0"),
         ("a plus", "job 0 +3 100", "refused 16 at 0"),
+        ("an underscore", "job 1_0 20 100", "refused 16 at 0"),
         ("a lone minus", "job - 3 100", "refused 16 at 0"),
         ("an empty line", "", "refused 16 at 0"),
     ] {

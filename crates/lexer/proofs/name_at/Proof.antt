@@ -4,11 +4,11 @@ use Rattle.lexer.proofs.Fronts.{name-piece}
 use Rattle.lexer.proofs.name_at.Statement.{statement}
 use Rattle.lexer.proofs.name_at.Tie as tie
 
-add-run-end : tie.Need-add-run-end
-add-run-end c = search needs
+add-word-end : tie.Need-add-word-end
+add-word-end c = search needs
 
-run-end-requires : tie.Need-run-end-requires
-run-end-requires c κs = search needs
+word-end-requires : tie.Need-word-end-requires
+word-end-requires c κs = search needs
 
 sub-size : tie.Need-sub-size
 sub-size c = search needs
@@ -32,14 +32,14 @@ returns : tie.Need-returns
 returns c =
     let l = c .before .before .before .before .args .text .now in
     let i = c .before .before .before .before .args .at in
-    name-piece l i (c .before .before .before .before .pre .0) (omega (arith, c .before .before .before .shared-slice-known .given i)) (c .before .before .run-end .result) (c .word-kind .result) (c .before .before .before .before .pre .2) (c .before .before .run-end .ensures .0) (c .word-kind .ensures)
+    name-piece l i (c .before .before .before .before .pre .0) (omega (arith, c .before .before .before .shared-slice-known .given i)) (c .before .before .word-end .result) (c .word-kind .result) (c .before .before .before .before .pre .2) (c .before .before .word-end .ensures .0) (c .word-kind .ensures)
 
 pub name-at-spec : {M : Type 1} → statement M
 name-at-spec =
     tie.close
     (tie.spec
-    add-run-end
-    run-end-requires
+    add-word-end
+    word-end-requires
     sub-size
     sub-word-kind
     part-word-kind-start
