@@ -297,7 +297,7 @@ rm -f repository/target/plans.mark
 for signal in INT TERM; do
     rm -f repository/target/ended
     set -m
-    SLOW=lexer "$plans" "$sample" 0 3 100 > out 2> err &
+    SLOW=lexer env --default-signal=INT "$plans" "$sample" 0 3 100 > out 2> err & # where these cases run in the background, INT is ignored
     job=$!
     set +m
     for ((i = 0; i < 400; i++)); do # until the first crate is proved
