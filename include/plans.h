@@ -2,8 +2,8 @@
  *
  * A slice passes as a pointer and a length in elements. Every pointer is to be
  * valid for its length and not null, also at length 0. Slices that are written
- * (answer, offsets, rows, scratch) must not overlap each other or the text. The
- * functions keep nothing between calls and allocate no memory, so they
+ * (answer, offsets, rows, scratch, out) must not overlap each other or what is
+ * read. The functions keep nothing between calls and allocate no memory, so they
  * may be called from several threads at once. They take every text, number and
  * length there is, and always return. 2 MiB of stack are enough, as measured.
  *
@@ -26,11 +26,14 @@ enum {
     PLANS_ROW_WORDS = 10,        /* result, count of values, eight values */
     PLANS_CHECK_WORDS = 2,       /* of the answers */
     PLANS_REMARKS_WORDS = 3,
-    PLANS_LIST_WORDS = 5
+    PLANS_LIST_WORDS = 5,
+    PLANS_PAGE_ROWS = 58,        /* of a page, at most */
+    PLANS_PAGE_BYTES = 4860      /* of a page: 60 lines of 80 characters and LF */
 };
 
-/* How a search ended: the third word of list's answer. */
-enum { PLANS_WHOLE = 0, PLANS_CUT = 1, PLANS_FULL = 2, PLANS_SPENT = 3 };
+/* How a search ended: the third word of list's answer. A page that is not the
+ * last one of its sheet says nothing of it. */
+enum { PLANS_WHOLE = 0, PLANS_CUT = 1, PLANS_FULL = 2, PLANS_SPENT = 3, PLANS_UNSAID = 4 };
 
 /* Is the text a rule?
  * answer[0] is 0 if it is accepted, else the number of the refusal; answer[1] is
@@ -79,6 +82,22 @@ void plans_list(const uint8_t *text, size_t text_length,
                 int32_t *rows, size_t rows_length,
                 uint32_t *scratch, size_t scratch_length,
                 uint32_t *answer, size_t answer_length);
+
+/* One page of a sheet for the wall.
+ * Line 1 has the words `plan list` and the page number in 5 columns (of one over
+ * 99,999 the last five digits). Lines 2 to 59 have the rows in the whole tens of
+ * words that rows has, the first 58 of them: the result in 12 columns, then the
+ * values in columns of 8, all right-aligned; a value of over 8 characters, a
+ * minus counted, is shown as ########. A count of values below 0 is taken as 0,
+ * one above 8 as 8. Line 60 has the word of the ending, 0 to 3; with any other
+ * number it is blank. Each line is filled with blanks to 80 characters and ended
+ * by LF.
+ *
+ * The page is the first 4,860 bytes of out; the bytes after it keep their
+ * content. With fewer bytes nothing is written. */
+void plans_page(const int32_t *rows, size_t rows_length,
+                uint32_t page, uint32_t ending,
+                uint8_t *out, size_t out_length);
 
 #ifdef __cplusplus
 }

@@ -1,8 +1,9 @@
 /* Lists a rule through the library: call RULE LOW HIGH STEPS. It prints what the program prints, but goes on where a
- * list is full, so that it has no limit of 1,000 rows. */
+ * list is full, so that it has no limit of 1,000 rows. With --sheet before RULE it prints the list on pages. */
 #include <errno.h>
 #include <stdio.h>
 #include <stdlib.h>
+#include <string.h>
 
 #include "plans.h"
 
@@ -20,14 +21,33 @@ static long long number(const char *name, const char *word, long long least, lon
     return value;
 }
 
+static void print_rows(const int32_t *rows, uint32_t count) {
+    for (uint32_t row = 0; row < count; row++) {
+        const int32_t *words = rows + row * PLANS_ROW_WORDS;
+        printf("%d :", (int)words[0]);
+        for (int32_t value = 0; value < words[1]; value++) printf(" %d", (int)words[2 + value]);
+        printf("\n");
+    }
+}
+
+/* A page that is full is not the last one, and has no word on its last line. */
+static void print_page(const int32_t *rows, uint32_t count, uint32_t page, uint32_t ending) {
+    uint8_t bytes[PLANS_PAGE_BYTES];
+    plans_page(rows, (size_t)count * PLANS_ROW_WORDS, page, ending == PLANS_FULL ? PLANS_UNSAID : ending, bytes,
+               sizeof bytes);
+    fwrite(bytes, 1, sizeof bytes, stdout);
+}
+
 int main(int count, char **arguments) {
     static uint8_t text[PLANS_MOST_BYTES + 1];
     static int32_t rows[ROWS * PLANS_ROW_WORDS];
     static uint32_t scratch[PLANS_SCRATCH_WORDS];
     static const char *const endings[] = {"whole", "cut", "full", "spent"};
-    uint32_t answer[PLANS_LIST_WORDS], listed = 0;
-    if (count != 5) {
-        fprintf(stderr, "usage: call RULE LOW HIGH STEPS\n");
+    uint32_t answer[PLANS_LIST_WORDS], listed = 0, page = 0;
+    int sheet = count > 1 && strcmp(arguments[1], "--sheet") == 0;
+    arguments += sheet;
+    if (count - sheet != 5) {
+        fprintf(stderr, "usage: call [--sheet] RULE LOW HIGH STEPS\n");
         return 2;
     }
     int32_t low = (int32_t)number("LOW", arguments[2], INT32_MIN, INT32_MAX);
@@ -42,21 +62,20 @@ int main(int count, char **arguments) {
     }
     fclose(rule);
     do {
-        plans_list(text, length, low, high, steps, listed, BUDGET, rows, ROWS * PLANS_ROW_WORDS, scratch,
-                   PLANS_SCRATCH_WORDS, answer, PLANS_LIST_WORDS);
+        plans_list(text, length, low, high, steps, listed, BUDGET, rows,
+                   (size_t)(sheet ? PLANS_PAGE_ROWS : ROWS) * PLANS_ROW_WORDS, scratch, PLANS_SCRATCH_WORDS, answer,
+                   PLANS_LIST_WORDS);
         if (answer[0] != 0) {
             printf("refused %u at %u\n", (unsigned)answer[0], (unsigned)answer[1]);
             return 1;
         }
-        for (uint32_t row = 0; row < answer[3]; row++) {
-            const int32_t *words = rows + row * PLANS_ROW_WORDS;
-            printf("%d :", (int)words[0]);
-            for (int32_t value = 0; value < words[1]; value++) printf(" %d", (int)words[2 + value]);
-            printf("\n");
-        }
+        if (sheet)
+            print_page(rows, answer[3], ++page, answer[2]);
+        else
+            print_rows(rows, answer[3]);
         listed += answer[3];
     } while (answer[2] == PLANS_FULL);
-    printf("%s %u rows %u moves\n", endings[answer[2]], (unsigned)listed, (unsigned)answer[4]);
+    if (!sheet) printf("%s %u rows %u moves\n", endings[answer[2]], (unsigned)listed, (unsigned)answer[4]);
     if (fflush(stdout) != 0 || ferror(stdout)) {
         fprintf(stderr, "call: can't write the list\n");
         return 2;

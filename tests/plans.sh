@@ -69,7 +69,7 @@ try 2 '' 'one argument too many: 0' --check "$sample" 0
 try 2 '' "can't read missing.muli: No such file" missing.muli 0 3 100
 try 2 '' "can't read .: Is a directory" . 0 3 100
 try 0 'Exit status: 0' '' --help
-for word in --check --against --version whole cut full spent; do ok "help has $word" says "$word" out; done
+for word in --sheet --check --against --version whole cut full spent; do ok "help has $word" says "$word" out; done
 try 0 'toolchain ' '' --version
 ok 'a version has two lines' test "$(wc -l < out)" -eq 2
 try 0 'whole 4 rows' '' -- "$sample" 0 3 100
@@ -95,7 +95,7 @@ ln -s link 'link to a link'
 plans="$work/link to a link" try 0 'whole 4 rows' '' "$sample" 0 3 100
 cp "$sample" 'a rule.muli'
 try 0 'whole 4 rows' '' 'a rule.muli' 0 3 100
-for arguments in "$sample 0 3 100" "--check $sample" "--against $list $sample 0 3 100" "--against $list $sample 0 3 10" --help --version; do
+for arguments in "$sample 0 3 100" "--sheet $sample 0 3 100" "--check $sample" "--against $list $sample 0 3 100" "--against $list $sample 0 3 10" --help --version; do
     # shellcheck disable=SC2086
     timeout 60 "$plans" $arguments > /dev/full 2> err
     status=$?
@@ -215,6 +215,27 @@ printf 'int lone() { return 1; }\nint main() { return twice(2); }\nint twice(int
 try 0 'accepted 4 96 120' 'rule.muli:1:5: nothing that `main` calls leads to `lone`' --check rule.muli
 ok 'each function of its own line' test "$(cut -d: -f1-3 err | tr '\n' ' ')" = 'rule.muli:1:5 rule.muli:4:5 rule.muli:5:5 '
 
+# --sheet: pages, with the statuses of a list
+try 0 'plan list      1' '' --sheet "$sample" 0 3 100
+ok 'one page' test "$(wc -l < out)" -eq 60
+ok 'lines of 80 characters' test -z "$(grep -Evn '^.{80}$' out)"
+ok 'the ending on line 60' test "$(tail -n 1 out | sed 's/ *$//')" = whole
+ok 'the rows of the list' test "$(sed -n '2,59p' out | sed 's/^ *//; s/ *$//; /^$/d; s/  */ /g')" = "$(head -n 4 "$list" | sed 's/ : / /')"
+printf 'int main() { int a free; return a; }' > rule.muli
+try 0 'plan list      2' '' --sheet rule.muli 1 59 100
+ok 'two pages' test "$(wc -l < out)" -eq 120
+ok 'blanks on line 60 of the first' test -z "$(sed -n 60p out | tr -d ' ')"
+ok 'row 59 on the second' test "$(sed -n 62p out | xargs)" = '59 59'
+try 3 'full ' "this sheet is not whole, so don't pin it up. There are more than 1,000 plans" --sheet rule.muli 0 1000 100
+ok 'eighteen pages' test "$(wc -l < out)" -eq 1080
+try 3 'cut ' 'Give more steps' --sheet "$sample" 0 3 10
+try 0 'plan list      1' '' --sheet none.muli 0 3 100
+ok 'no rows: one page' test "$(wc -l < out)" -eq 60
+try 1 'refused 12 at 0' 'LOW is above HIGH' --sheet "$sample" 3 0 100
+ok 'a refusal is one line' test "$(wc -l < out)" -eq 1
+try 1 'refused 2 at 13' ':1:14: ' --sheet <(printf 'int main() { /') 0 3 10
+try 2 '' 'LOW is missing' --sheet "$sample"
+
 # --against
 try 0 'is right: it has all 4 plans' '' --against "$list" "$sample" 0 3 100
 head -n 4 "$list" | sed 's/$/\r/' > pinned
@@ -260,11 +281,11 @@ for crate in syntax lexer grammar; do
     [ "${BAD:-}" != "$crate" ] || { echo "rt: $crate NOT PROVED (exit 1, 3 s)"; exit 1; }
     echo "rt: $crate proved (3 s)"
 done
-cp "$PROGRAMS/lister" "$PROGRAMS/rule_check" target/bin/
+cp "$PROGRAMS/lister" "$PROGRAMS/rule_check" "$PROGRAMS/sheet" target/bin/
 END
 chmod +x bin/rt
 cp -r "$home/plans" "$home/help" repository/
-printf 'syntax: # below all\nlexer: syntax\ngrammar: syntax\nspare: syntax\nlister: lexer grammar io\nrule_check: lexer\n' > repository/crates.txt
+printf 'syntax: # below all\nlexer: syntax\ngrammar: syntax\nspare: syntax\nlister: lexer grammar io\nrule_check: lexer\nsheet: lexer\n' > repository/crates.txt
 plans=$work/repository/plans
 mkdir tools
 for tool in bash env timeout dirname readlink head mktemp rm find grep; do ln -s "$(command -v "$tool")" tools/; done
@@ -272,16 +293,16 @@ PATH=$work/tools try 2 '' 'rt (the Rattle toolchain) is not on the path' "$sampl
 export PATH="$work/bin:$PATH" PROGRAMS="$home/target/bin"
 BAD=grammar try 2 '' 'rt: grammar NOT PROVED' "$sample" 0 3 100
 ok 'a failed build leaves no mark' test ! -e repository/target/plans.mark
-try 0 'whole 4 rows' '[2 of 5] lexer, about ' "$sample" 0 3 100
-ok 'a line for each crate' test "$(grep -c '^\[[123] of 5\] ' err)" -eq 3
+try 0 'whole 4 rows' '[2 of 6] lexer, about ' "$sample" 0 3 100
+ok 'a line for each crate' test "$(grep -c '^\[[123] of 6\] ' err)" -eq 3
 try 0 'whole 4 rows' '' "$sample" 0 3 100
 try 0 'toolchain a kit of the tests' '' --version
 touch -d '+1 minute' repository/crates/syntax
 if command -v script > /dev/null; then
     script -qec "'$plans' '$sample' 0 3 100" /dev/null < /dev/null > out 2> err
     status=$?
-    ok 'a terminal: one line, rewritten' says "$(printf '\r\033[K[1 of 5] syntax, about')" out
-    ok 'a terminal: no other lines' test "$(grep -c ' of 5' out)" -eq 1
+    ok 'a terminal: one line, rewritten' says "$(printf '\r\033[K[1 of 6] syntax, about')" out
+    ok 'a terminal: no other lines' test "$(grep -c ' of 6' out)" -eq 1
     rm repository/target/plans.mark
 fi
 touch repository/crates/syntax
@@ -313,7 +334,7 @@ for signal in INT TERM; do
     ok "$signal: after the first crate" test "$(cat repository/target/ended)" = syntax
     ok "$signal: rt has stopped too, and all that it has started" gone "$(cat repository/target/rt.group)"
 done
-try 0 'whole 4 rows' '[3 of 5] grammar' "$sample" 0 3 100
+try 0 'whole 4 rows' '[3 of 6] grammar' "$sample" 0 3 100
 
 printf '%d cases of ./plans answered, %d failed\n' "$passed" "$failed"
 [ "$failed" -eq 0 ]

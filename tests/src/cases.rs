@@ -5,7 +5,7 @@
 use crate::plans::{Plans, Row};
 use crate::random::Random;
 use crate::search::{Ending, Listing, ROW_WORDS};
-use crate::{linked, Job, Refusal};
+use crate::{linked, sheet, Job, Refusal};
 use std::collections::BTreeSet;
 use std::fmt::Debug;
 use std::ops::Range;
@@ -261,4 +261,34 @@ pub fn plans(random: &mut Random, text: &[u8], job: &Job, plans: &Plans) -> Resu
     } else {
         Err(show("the ending does not fit the plan list"))
     }
+}
+
+/// Compares a page with the reference's: the rows in the slice's whole tens of
+/// words, the first 58 of them. With under 4,860 bytes nothing is written.
+pub fn page(
+    random: &mut Random,
+    rows: &[i32],
+    number: u32,
+    ending: u32,
+    bytes: usize,
+) -> Result<(), String> {
+    let mut out = Lent::new("out", bytes, || random.bits() as u8);
+    let row = |words: &[i32]| words.try_into().expect("ten words");
+    let shown: Vec<Row> = rows.chunks_exact(ROW_WORDS).take(58).map(row).collect();
+    let word = match ending {
+        0 => Some(Ending::Whole),
+        1 => Some(Ending::Cut),
+        2 => Some(Ending::Full),
+        3 => Some(Ending::Spent),
+        _ => None,
+    };
+    let expected = sheet::page(number, &shown, word);
+    if bytes >= expected.len() {
+        out.expect(&expected);
+    }
+    linked::page(rows, number, ending, out.lend());
+    let words = rows.len();
+    out.compare().map_err(|what| {
+        format!("plans_page: {what}; {words} words of rows, page {number}, ending {ending}")
+    })
 }

@@ -7,7 +7,8 @@
 //! - `run`: one run with chosen values; `plans`: the plan list from runs alone.
 //! - `search`: the search with open values, windows, choices and moves; the
 //!   operation list.
-//! - `lister`: the program around list (job line and printing).
+//! - `lister`: the program around list (job line and printing); `sheet`: the
+//!   same answer on pages.
 //! - `random`, `generate`: random texts and jobs; `examples`: fixed ones.
 //! - `rule_files`: the rules of the folder `rules/`.
 //! - `linked`: the exported functions of the proved lister; `cases`: single
@@ -30,6 +31,7 @@ pub mod rule_files;
 pub mod rules;
 pub mod run;
 pub mod search;
+pub mod sheet;
 
 pub use rules::{check, remarks};
 pub use search::{list, Ending, Job, Listing};

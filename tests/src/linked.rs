@@ -34,6 +34,15 @@ mod exports {
             answer: *mut u32,
             answer_len: usize,
         );
+        #[cfg(feature = "list")]
+        pub fn plans_page(
+            rows: *const i32,
+            rows_len: usize,
+            page: u32,
+            ending: u32,
+            out: *mut u8,
+            out_len: usize,
+        );
     }
 }
 
@@ -89,6 +98,21 @@ pub fn list(
     }
 }
 
+#[cfg(all(linked, feature = "list"))]
+pub fn page(rows: &[i32], page: u32, ending: u32, out: &mut [u8]) {
+    // SAFETY: as above; the rows are only read.
+    unsafe {
+        exports::plans_page(
+            rows.as_ptr(),
+            rows.len(),
+            page,
+            ending,
+            out.as_mut_ptr(),
+            out.len(),
+        );
+    }
+}
+
 #[cfg(not(all(linked, feature = "list")))]
 fn missing() -> ! {
     eprintln!("There is nothing to compare with: build with PLANS_LIB, and with the feature list.");
@@ -107,5 +131,10 @@ pub fn remarks(_: &[u8], _: &mut [u16], _: &mut [u32]) {
 
 #[cfg(not(all(linked, feature = "list")))]
 pub fn list(_: &[u8], _: &crate::Job, _: &mut [i32], _: &mut [u32], _: &mut [u32]) {
+    missing()
+}
+
+#[cfg(not(all(linked, feature = "list")))]
+pub fn page(_: &[i32], _: u32, _: u32, _: &mut [u8]) {
     missing()
 }

@@ -2,12 +2,18 @@
 
 use crate::rules::{remarks, LEAST_OFFSETS};
 use crate::search::{list, Ending, Job, Listing, LEAST_SCRATCH, ROW_WORDS};
+use crate::sheet::posted;
 use crate::Refusal;
 use std::fmt::Write;
 
 /// What the program prints for this standard input.
 pub fn print(input: &[u8]) -> String {
     shown(&listed(input))
+}
+
+/// What the program `sheet` prints for this standard input.
+pub fn post(input: &[u8]) -> Vec<u8> {
+    posted(&listed(input))
 }
 
 fn listed(input: &[u8]) -> Result<Listing, Refusal> {

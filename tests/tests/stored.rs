@@ -23,6 +23,12 @@ fn the_sample() {
 }
 
 #[test]
+fn the_sheet() {
+    let sheet = with_room(|| lister::post(&stored("sheet", "stdin")));
+    assert_eq!(text(sheet), text(stored("sheet", "stdout")));
+}
+
+#[test]
 fn the_checked_rule() {
     let checked = with_room(|| lister::checked(&stored("rule_check", "stdin")));
     assert_eq!(checked, text(stored("rule_check", "stdout")));
@@ -38,7 +44,12 @@ fn inputs(program: &str) -> Vec<Vec<u8>> {
 
 #[test]
 fn the_program_cases() {
-    let outputs: String = inputs("program_cases").iter().map(|input| printed(input)).collect();
+    // A byte 2 stands before an input that is printed on pages.
+    let output = |input: &Vec<u8>| match &input[..] {
+        [2, input @ ..] => with_room(|| text(lister::post(input))),
+        input => printed(input),
+    };
+    let outputs: String = inputs("program_cases").iter().map(output).collect();
     assert_eq!(outputs, text(stored("program_cases", "stdout")));
 }
 

@@ -1,2 +1,3 @@
 -- What the exported functions write.
 pub mod Answers
+pub mod Page

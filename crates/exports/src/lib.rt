@@ -1,9 +1,10 @@
 // The operations of the lister, for Rust and C. A slice passes as a pointer and then a length.
 ghost use mathlib.Core.Path.{_≡_};
 ghost use Rattle.checker.specs.Check.{checked};
-ghost use Prim.Native.Nat.{_≤_};
+ghost use Prim.Native.Nat.{_/_, _≤_, min};
 ghost use lib.ListN.{length};
 ghost use Rattle.list.specs.Parts.{answerOf};
+ghost use Rattle.exports.specs.Page.{pageOut};
 ghost use Rattle.exports.specs.Answers.{checkWords, Remarks, Fits, fiveWords, listWords, out, listOut};
 use checker::Checked;
 use list::Listed;
@@ -99,4 +100,28 @@ pub extern "C" fn plans_list(
     }
     let listed = list::list(text, low, high, steps, skip, budget, rows, scratch);
     put_listed(answer, listed);
+}
+
+// How many rows of a slice of so many words stand on a page.
+fn rows_on_page(words: usize) -> usize
+    ensures { λ r. ⌜ r ≡ min (words / 10) 58 ⌝ }
+{
+    let rows = words / 10;
+    if rows < pages::ROWS {
+        rows
+    } else {
+        pages::ROWS
+    }
+}
+
+// One page of a sheet: the rows in the slice's whole tens of words, the first 58 of them, under this page number, and on line 60 the word of an ending (0 whole, 1 cut, 2 full, 3 spent) or, for any other number, none.
+// The page is written to the first 4,860 bytes of out, and the others keep their content; with fewer bytes nothing is written.
+#[no_mangle]
+pub extern "C" fn plans_page(rows: &[i32], page: u32, ending: u32, out: &mut [u8])
+    ensures { λ _. ⌜ now (out .exit) ≡ pageOut (now (rows .entry)) page ending (now (out .entry)) ⌝ }
+{
+    if out.len() < pages::PAGE {
+        return;
+    }
+    pages::put_page(out, 0, page, rows, 0, rows_on_page(rows.len()), ending);
 }

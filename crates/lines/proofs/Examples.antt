@@ -9,7 +9,8 @@ use Rattle.semantics.specs.Search.{whole, cuts}
 use Rattle.lines.specs.declared.JobLine.{JobLine}
 use Rattle.lines.specs.declared.JobLine.the-variants.{Bad, Good}
 use Rattle.lines.specs.JobLine.{plain, minus, numberOf, place, jobIn, lineJob}
-use Rattle.lines.specs.Print.{digits, natural, integer, refusal, spaced, rowLine, rowLines, ending, lastLine, printed}
+use Rattle.printing.specs.Decimal.{digits, natural, integer}
+use Rattle.lines.specs.Print.{refusal, spaced, rowLine, rowLines, ending, lastLine, printed}
 
 -- a line ended by LF, then a text
 abbrev line : List ℕ → JobLine

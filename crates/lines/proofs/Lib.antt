@@ -1,7 +1,5 @@
 -- Theorems that the proofs of several functions cite.
 pub mod Words
-pub mod Puts
-pub mod Decimal
 pub mod Lines
 pub mod Examples
 pub mod Kept

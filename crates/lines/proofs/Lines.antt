@@ -12,7 +12,8 @@ use mir.Val.{toZ, SFits}
 use mir.Facts.{toZ-ofZ}
 use Rattle.lexer.specs.Lex.{bytes}
 use Rattle.semantics.specs.Run.{clamp}
-use Rattle.lines.specs.Print.{integer, spaced, rowLine, rowLines, lineEnd, ending}
+use Rattle.printing.specs.Decimal.{integer}
+use Rattle.lines.specs.Print.{spaced, rowLine, rowLines, lineEnd, ending}
 use Rattle.lines.specs.Written.{countOf, endingAt, rowFrom, rowsFrom}
 
 -- ---- endings

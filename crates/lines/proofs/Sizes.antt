@@ -4,7 +4,7 @@ use native.Mathlib.Omega.{arith}
 use lib.ListN.{length, length-append}
 use Rattle.semantics.specs.Search.{Close, whole, cuts, full, spent}
 use Rattle.lines.specs.Print.{ending, lastLine, refusal}
-use Rattle.lines.proofs.Decimal.{word-length}
+use Rattle.printing.proofs.Numbers.{word-length}
 
 ending-length : (c : Close) → length (ending c) ≤ 5
 unfolding ending

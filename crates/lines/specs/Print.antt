@@ -1,27 +1,12 @@
 -- What the programs print: document 01, "The program", and the line for a text that is only checked.
-use Prim.Native.Nat.{ℕ, zero, suc, _+_, _/_, _%_}
-use mathlib.Core.Bool.{true, false}
+use Prim.Native.Nat.{ℕ}
 use mathlib.Core.List.{List, [], _∷_, _++_, map}
 use lib.ListN.{length}
-use lib.Dec.{ltb}
-use lib.IntN.{ℤ, pos, negsuc}
+use lib.IntN.{ℤ, pos}
 use Rattle.lexer.specs.Lex.{bytes}
+use Rattle.printing.specs.Decimal.{natural, integer}
 use Rattle.semantics.specs.Run.{Row}
 use Rattle.semantics.specs.Search.{Close, whole, cuts, full, spent, Answer}
-
--- ---- numbers in decimal: no zeros in front, a minus before a negative one
-
--- the digits of n; k is more than there can be
-unfoldable pub digits : ℕ → ℕ → List ℕ
-digits zero n = []
-digits (suc k) n = elim (ltb n 10) [ true ↦ (48 + n) ∷ [] | false ↦ digits k (n / 10) ++ (48 + n % 10) ∷ [] ]
-
-unfoldable pub natural : ℕ → List ℕ
-natural n = digits (suc n) n
-
-unfoldable pub integer : ℤ → List ℕ
-integer (pos n) = natural n
-integer (negsuc n) = bytes "-" ++ natural (suc n)
 
 -- "Each line ends with LF"
 abbrev pub lineEnd : List ℕ

@@ -1,17 +1,10 @@
--- What the functions for printing say, in the words of Print: bytes written into a lent slice, an ending's number, the rows that words stand for.
-use Prim.Native.Nat.{ℕ, zero, suc, _+_, min}
-use mathlib.Core.Path.{_≡_}
+-- What the functions for printing say, in the words of Print: an ending's number, the rows that words stand for.
+use Prim.Native.Nat.{ℕ, zero, suc, min}
 use mathlib.Core.List.{List, [], _∷_}
-use lib.ListN.{length, take, drop, getD}
-use lib.Seq.{sets}
+use lib.ListN.{take, drop, getD}
 use lib.IntN.{ℤ, pos}
 use Rattle.semantics.specs.Run.{Row, clamp}
 use Rattle.semantics.specs.Search.{Close, whole, cuts, full, spent}
-
--- bytes written: `after` is `before` with these bytes from `at` on, every other byte kept, and `next` is the place past them
-pub record Put (before : List ℕ) (at : ℕ) (written : List ℕ) (after : List ℕ) (next : ℕ) : Type 0 where
-  pub past : next ≡ at + length written
-  pub kept : after ≡ sets before at written
 
 -- an ending by its number
 abbrev pub endingAt : ℕ → Close

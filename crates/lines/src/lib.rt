@@ -9,8 +9,13 @@ ghost use Prim.Native.Nat.{_+_, _*_, _≤_, _<_};
 ghost use lib.ListN.{length, take, drop};
 ghost use Rattle.lines.specs.JobLine.{numberOf, place as placeOf, before, after, jobWith, jobIn, lineJob, lineSettled};
 ghost use Rattle.lines.specs.Parts.{read, valued, magnitudeOf};
-ghost use Rattle.lines.specs.Written.{Put, countOf, endingAt, rowFrom, rowsFrom};
-ghost use Rattle.lines.specs.Print.{natural, integer, spaced, rowLine, rowLines, ending, lastLine, refusal, acceptance};
+ghost use Rattle.printing.specs.Decimal.{integer};
+ghost use Rattle.printing.specs.Written.{Put};
+ghost use Rattle.lines.specs.Written.{countOf, endingAt, rowFrom, rowsFrom};
+ghost use Rattle.lines.specs.Print.{spaced, rowLine, rowLines, ending, lastLine, refusal, acceptance};
+use printing::put_bytes;
+use printing::put_integer;
+use printing::put_natural;
 
 // A job: the window, the step limit, and where the text begins.
 pub struct Job {
@@ -186,63 +191,8 @@ pub fn line_settled(input: &[u8]) -> bool
     place(input, b'\n') < input.len()
 }
 
-// Bytes written from `at` on; the answer is the place past them.
-fn put_bytes(out: &mut [u8], at: usize, word: &[u8]) -> usize
-    requires { ⌜ at + length (now word) ≤ length (now out) ⌝ }
-    ensures { λ r. ⌜ Put (now (out .entry)) at (now (word .entry)) (now (out .exit)) r ⌝ }
-{
-    let mut i = 0;
-    while i < word.len() {
-        out[at + i] = word[i];
-        i += 1;
-    }
-    at + i
-}
-
-fn digit(n: u32) -> u8
-    requires { ⌜ n < 10 ⌝ }
-    ensures { λ r. ⌜ r ≡ 48 + n ⌝ }
-{
-    48 + (n as u8)
-}
-
-// A number in decimal.
-fn put_natural(out: &mut [u8], at: usize, n: u32) -> usize
-    requires { ⌜ at + length (natural n) ≤ length (now out) ⌝ }
-    ensures { λ r. ⌜ Put (now (out .entry)) at (natural n) (now (out .exit)) r ⌝ }
-{
-    if n < 10 {
-        out[at] = digit(n);
-        return at + 1;
-    }
-    let p = put_natural(out, at, n / 10);
-    out[p] = digit(n % 10);
-    p + 1
-}
-
-// The number that 32 bits stand for, in decimal.
-fn put_word(out: &mut [u8], at: usize, w: u32) -> usize
-    requires { ⌜ at + 11 ≤ length (now out) ⌝ }
-    ensures { λ r. ⌜ Put (now (out .entry)) at (integer (toZ w32 w)) (now (out .exit)) r × (r ≤ at + 11) ⌝ }
-{
-    if w < 2147483648 {
-        return put_natural(out, at, w);
-    }
-    let p = put_bytes(out, at, b"-");
-    put_natural(out, p, (4294967296 - (w as u64)) as u32)
-}
-
-// A number in decimal.
-fn put_integer(out: &mut [u8], at: usize, z: i32) -> usize
-    requires { ⌜ at + 11 ≤ length (now out) ⌝ }
-    ensures { λ r. ⌜ Put (now (out .entry)) at (integer z) (now (out .exit)) r × (r ≤ at + 11) ⌝ }
-{
-    put_word(out, at, ints::word(z))
-}
-
 // A blank and a value.
 fn put_value(out: &mut [u8], at: usize, z: i32) -> usize
-    requires { ⌜ at + 12 ≤ length (now out) ⌝ }
     ensures { λ r. ⌜ Put (now (out .entry)) at (bytes " " ++ integer z) (now (out .exit)) r × (r ≤ at + 12) ⌝ }
 {
     let p = put_bytes(out, at, b" ");
@@ -251,7 +201,7 @@ fn put_value(out: &mut [u8], at: usize, z: i32) -> usize
 
 // The n values from `from` on, a blank before each.
 fn put_values(out: &mut [u8], at: usize, rows: &[i32], from: usize, n: usize) -> usize
-    requires { ⌜ (at + 12 * n ≤ length (now out)) × (from + n ≤ length (now rows)) ⌝ }
+    requires { ⌜ from + n ≤ length (now rows) ⌝ }
     ensures { λ r. ⌜ Put (now (out .entry)) at (spaced (take n (drop from (now (rows .entry))))) (now (out .exit)) r × (r ≤ at + 12 * n) ⌝ }
 {
     let mut p = at;
@@ -264,7 +214,7 @@ fn put_values(out: &mut [u8], at: usize, rows: &[i32], from: usize, n: usize) ->
 }
 
 // How many values a row has, from the bits of its second word.
-fn value_count(w: u32) -> usize
+pub fn value_count(w: u32) -> usize
     ensures { λ r. ⌜ r ≡ countOf (toZ w32 w) ⌝ }
 {
     if w >= 2147483648 {
@@ -277,8 +227,7 @@ fn value_count(w: u32) -> usize
 }
 
 // An ending, by its number.
-fn put_ending(out: &mut [u8], at: usize, number: u32) -> usize
-    requires { ⌜ at + 5 ≤ length (now out) ⌝ }
+pub fn put_ending(out: &mut [u8], at: usize, number: u32) -> usize
     ensures { λ r. ⌜ Put (now (out .entry)) at (ending (endingAt number)) (now (out .exit)) r × (r ≤ at + 5) ⌝ }
 {
     match number {
@@ -291,7 +240,6 @@ fn put_ending(out: &mut [u8], at: usize, number: u32) -> usize
 
 // The last line: an ending by its number, rows written, moves made.
 pub fn put_last_line(out: &mut [u8], at: usize, number: u32, rows: u32, moves: u32) -> usize
-    requires { ⌜ at + 39 ≤ length (now out) ⌝ }
     ensures { λ r. ⌜ Put (now (out .entry)) at (lastLine (endingAt number) rows moves) (now (out .exit)) r ⌝ }
 {
     let p = put_ending(out, at, number);
@@ -304,7 +252,6 @@ pub fn put_last_line(out: &mut [u8], at: usize, number: u32, rows: u32, moves: u
 
 // A refusal: its number and its place.
 pub fn put_refusal(out: &mut [u8], at: usize, number: u32, place: u32) -> usize
-    requires { ⌜ at + 33 ≤ length (now out) ⌝ }
     ensures { λ r. ⌜ Put (now (out .entry)) at (refusal number place) (now (out .exit)) r ⌝ }
 {
     let p = put_bytes(out, at, b"refused ");
@@ -316,7 +263,7 @@ pub fn put_refusal(out: &mut [u8], at: usize, number: u32, place: u32) -> usize
 
 // The row whose ten words begin at `base`.
 fn put_row(out: &mut [u8], at: usize, rows: &[i32], base: usize) -> usize
-    requires { ⌜ (at + 110 ≤ length (now out)) × (base + 10 ≤ length (now rows)) ⌝ }
+    requires { ⌜ base + 10 ≤ length (now rows) ⌝ }
     ensures { λ r. ⌜ Put (now (out .entry)) at (rowLine (rowFrom (drop base (now (rows .entry))))) (now (out .exit)) r × (r ≤ at + 110) ⌝ }
 {
     let p = put_integer(out, at, rows[base]);
@@ -328,7 +275,7 @@ fn put_row(out: &mut [u8], at: usize, rows: &[i32], base: usize) -> usize
 
 // The n rows from row `from` on.
 pub fn put_rows(out: &mut [u8], at: usize, rows: &[i32], from: usize, n: usize) -> usize
-    requires { ⌜ (at + 110 * n ≤ length (now out)) × (10 * (from + n) ≤ length (now rows)) ⌝ }
+    requires { ⌜ 10 * (from + n) ≤ length (now rows) ⌝ }
     ensures { λ r. ⌜ Put (now (out .entry)) at (rowLines (rowsFrom n (drop (10 * from) (now (rows .entry))))) (now (out .exit)) r × (r ≤ at + 110 * n) ⌝ }
 {
     let mut p = at;
@@ -348,7 +295,7 @@ fn integer_of(offset: u16) -> i32
 
 // The first n offsets, a blank before each.
 fn put_offsets(out: &mut [u8], at: usize, offsets: &[u16], n: usize) -> usize
-    requires { ⌜ (at + 12 * n ≤ length (now out)) × (n ≤ length (now offsets)) ⌝ }
+    requires { ⌜ n ≤ length (now offsets) ⌝ }
     ensures { λ r. ⌜ Put (now (out .entry)) at (spaced (map pos (take n (now (offsets .entry))))) (now (out .exit)) r × (r ≤ at + 12 * n) ⌝ }
 {
     let mut p = at;
@@ -362,7 +309,7 @@ fn put_offsets(out: &mut [u8], at: usize, offsets: &[u16], n: usize) -> usize
 
 // A text that is accepted, with the first n offsets.
 pub fn put_acceptance(out: &mut [u8], at: usize, offsets: &[u16], n: usize) -> usize
-    requires { ⌜ (at + 12 * n + 9 ≤ length (now out)) × (n ≤ length (now offsets)) ⌝ }
+    requires { ⌜ n ≤ length (now offsets) ⌝ }
     ensures { λ r. ⌜ Put (now (out .entry)) at (acceptance (take n (now (offsets .entry)))) (now (out .exit)) r × (r ≤ at + 12 * n + 9) ⌝ }
 {
     let p = put_bytes(out, at, b"accepted");

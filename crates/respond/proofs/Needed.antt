@@ -1,4 +1,4 @@
--- How much of the input the program needs: 2,089 bytes settle what it prints, so input that never ends is read no further.
+-- How much of the input the programs need: 2,089 bytes settle the answer, and so what either prints; input that never ends is read no further.
 use Prim.Native.Nat.{ℕ, _+_, _≤_, _<_}
 use native.Mathlib.Omega.{arith}
 use mathlib.Core.Path.{_≡_, refl, sym, ap, _∙_}
@@ -21,8 +21,8 @@ use Rattle.lines.specs.declared.JobLine.the-variants.{Bad, Good}
 use Rattle.lines.specs.JobLine.{place, lineJob, lineSettled}
 use Rattle.lines.proofs.Reach.{line-settled}
 use Rattle.lines.proofs.Good.{good-holds}
-use Rattle.respond.specs.Output.{textOf, rowWords, scratchWords, listing, linesOf, output, isSome, jobEnough, enoughInput}
-use Rattle.respond.proofs.Printed.{bad-line, good-line, ground-line}
+use Rattle.respond.specs.Output.{textOf, rowWords, scratchWords, listing, byList, answered, inLines, onPages, output, posted, isSome, jobEnough, enoughInput}
+use Rattle.respond.proofs.Printed.{bad-answer, good-answer, ground-answer}
 
 -- of a text that check refuses, list uses no more than that
 same-refusal : (rows : List ℤ) (scratch : List ℕ) (a b : Answer) (n p : ℕ) (g : Option ℕ) → answering rows scratch a g (C.refused n p) ≡ answering rows scratch b g (C.refused n p)
@@ -50,23 +50,28 @@ module _ (l r : List ℕ) where
       (long-text (textOf l j) (omega (arith, k, length-drop (j .text) l)))
 
   module _ (h : lineSettled l ≡ true) where
-    by-job : (j : Job) → lineJob l ≡ Good j → (g : Option ℕ) → ground 16384 (j .low) (j .high) (j .steps) ≡ g → (b : Bool) → ltb (j .text + 2048) (length l) ≡ b → isSome g || b ≡ true → output (l ++ r) ≡ output l
-    by-job j e (some n) q b p k = ground-line (l ++ r) j (line-settled l r h ∙ e) n q ∙ sym (ground-line l j e n q)
-    by-job j e none q true p k = good-line (l ++ r) j (line-settled l r h ∙ e) ∙ ap linesOf (same-listing j (ltb-true (j .text + 2048) (length l) p)) ∙ sym (good-line l j e)
+    by-job : (j : Job) → lineJob l ≡ Good j → (g : Option ℕ) → ground 16384 (j .low) (j .high) (j .steps) ≡ g → (b : Bool) → ltb (j .text + 2048) (length l) ≡ b → isSome g || b ≡ true → answered (l ++ r) ≡ answered l
+    by-job j e (some n) q b p k = ground-answer (l ++ r) j (line-settled l r h ∙ e) n q ∙ sym (ground-answer l j e n q)
+    by-job j e none q true p k = good-answer (l ++ r) j (line-settled l r h ∙ e) ∙ ap byList (same-listing j (ltb-true (j .text + 2048) (length l) p)) ∙ sym (good-answer l j e)
     by-job j e none q false p k = absurd (let z : _≡_ {A = ℕ} 0 1 = cc in omega arith)
 
-    by-line : (a : JobLine) → lineJob l ≡ a → jobEnough (length l) a ≡ true → output (l ++ r) ≡ output l
-    by-line Bad e k = bad-line (l ++ r) (line-settled l r h ∙ e) ∙ sym (bad-line l e)
+    by-line : (a : JobLine) → lineJob l ≡ a → jobEnough (length l) a ≡ true → answered (l ++ r) ≡ answered l
+    by-line Bad e k = bad-answer (l ++ r) (line-settled l r h ∙ e) ∙ sym (bad-answer l e)
     by-line (Good j) e k = by-job j e (ground 16384 (j .low) (j .high) (j .steps)) refl (ltb (j .text + 2048) (length l)) refl k
 
--- THEOREM. Where the program stops to read, nothing that follows changes what it prints.
-pub enough-input : (l r : List ℕ) → enoughInput l ≡ true → output (l ++ r) ≡ output l
+-- THEOREM. Where the programs stop to read, nothing that follows changes the answer,
+pub enough-input : (l r : List ℕ) → enoughInput l ≡ true → answered (l ++ r) ≡ answered l
 unfolding enoughInput
 enough-input l r e = go (lineSettled l) refl e
   where
-    go : (b : Bool) → lineSettled l ≡ b → b && jobEnough (length l) (lineJob l) ≡ true → output (l ++ r) ≡ output l
+    go : (b : Bool) → lineSettled l ≡ b → b && jobEnough (length l) (lineJob l) ≡ true → answered (l ++ r) ≡ answered l
     go true q e = by-line l r q (lineJob l) refl e
     go false q e = absurd (let z : _≡_ {A = ℕ} 0 1 = cc in omega arith)
+
+-- .. nor what either of them prints.
+pub enough-printed : (l r : List ℕ) → enoughInput l ≡ true → (output (l ++ r) ≡ output l) × (posted (l ++ r) ≡ posted l)
+unfolding output posted
+enough-printed l r e = (ap inLines (enough-input l r e), ap onPages (enough-input l r e))
 
 -- as the code finds it
 module _ (l : List ℕ) where
@@ -93,15 +98,19 @@ long-enough l h = sym (enough-line l (lineJob l) (ap (λ (b : Bool). b || ltb (p
         ap (λ (b : Bool). isSome (ground 16384 (j .low) (j .high) (j .steps)) || b) (lt-ltb (j .text + 2048) (length l) (omega (arith, h, good-holds l j e .near)))
         ∙ or-true (isSome (ground 16384 (j .low) (j .high) (j .steps)))
 
-beyond : (l r : List ℕ) → 2089 ≤ length l → output (l ++ r) ≡ output l
+beyond : (l r : List ℕ) → 2089 ≤ length l → answered (l ++ r) ≡ answered l
 beyond l r h = enough-input l r (long-enough l h)
 
--- so the program need not read more
-pub enough : (input : List ℕ) → output (take 2089 input) ≡ output input
-enough input = go (ltb 2089 (length input)) refl
+-- so the programs need not read more
+pub enough-bytes : (input : List ℕ) → answered (take 2089 input) ≡ answered input
+enough-bytes input = go (ltb 2089 (length input)) refl
   where
-    go : (b : Bool) → ltb 2089 (length input) ≡ b → output (take 2089 input) ≡ output input
-    go false e = ap output (take-all 2089 input (ltb-false 2089 (length input) e))
+    go : (b : Bool) → ltb 2089 (length input) ≡ b → answered (take 2089 input) ≡ answered input
+    go false e = ap answered (take-all 2089 input (ltb-false 2089 (length input) e))
     go true e =
         let k : 2089 ≤ length (take 2089 input) = omega (arith, length-take-le 2089 input (omega (arith, ltb-true 2089 (length input) e))) in
-        sym (beyond (take 2089 input) (drop 2089 input) k) ∙ ap output (take-append-drop 2089 input)
+        sym (beyond (take 2089 input) (drop 2089 input) k) ∙ ap answered (take-append-drop 2089 input)
+
+pub enough : (input : List ℕ) → (output (take 2089 input) ≡ output input) × (posted (take 2089 input) ≡ posted input)
+unfolding output posted
+enough input = (ap inLines (enough-bytes input), ap onPages (enough-bytes input))

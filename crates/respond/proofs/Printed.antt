@@ -2,6 +2,7 @@
 use Prim.Native.Nat.{ℕ, _*_, _/_, _≤_}
 use native.Mathlib.Omega.{arith}
 use mathlib.Core.Path.{_≡_, refl, sym, ap, ap₂, _∙_, subst}
+use mathlib.Core.Bool.{Bool, true, false}
 use mathlib.Core.List.{List, _++_}
 use mathlib.Core.Option.{Option, none, some}
 use lib.ListN.{length, drop, length-replicate}
@@ -15,7 +16,7 @@ use Rattle.semantics.specs.Search.{inUse}
 use Rattle.semantics.specs.Promise.{Promised}
 use Rattle.semantics.proofs.Answer.{few-rows}
 use Rattle.list.specs.List as S
-use Rattle.list.specs.List.{Answer, Left, ground, list, answering}
+use Rattle.list.specs.List.{Answer, Left, ground, list, refuses, answering}
 use Rattle.list.specs.Promise.{answerWith, Keeps}
 use Rattle.list.proofs.Promises.{keeps}
 use Rattle.lines.specs.declared.Job.{Job}
@@ -23,9 +24,13 @@ use Rattle.lines.specs.declared.JobLine.the-variants.{Bad, Good}
 use Rattle.lines.specs.JobLine.{lineJob}
 use Rattle.lines.specs.Print.{refusal, rowLines, lastLine}
 use Rattle.lines.proofs.Good.{good-holds}
-use Rattle.respond.specs.Output.{textOf, rowWords, scratchWords, listing, shown, linesOf, outputFor, output}
-use Rattle.respond.specs.Parts.{Small}
-use Rattle.respond.specs.Shows.{Shows}
+use Rattle.pages.specs.Pages.{wallSheet, sheetBytes}
+use Rattle.pages.proofs.Laid.{laid}
+use Rattle.settings.specs.Rows.{sheet}
+use Rattle.lines.specs.Written.{rowsFrom}
+use Rattle.respond.specs.Output.{textOf, rowWords, scratchWords, listing, badLine, byList, Answered, answeredFor, answered, inLines, onPages, shown, laidOut, output, posted}
+use Rattle.respond.specs.Parts.{Small, printedOf, printedFor}
+use Rattle.respond.specs.Shows.{Lists, Shows, Posts}
 use Rattle.respond.proofs.Rows.{few-written, rows-back}
 
 -- ---- list's answers are small
@@ -55,34 +60,43 @@ listing-small text low high steps = small text low high steps 0 1000000 rowWords
 abbrev found : List ℕ → ℤ → ℤ → ℕ → Z.Answer
 found text low high steps = Z.listed inUse (S.jobOf text low high steps) 0 (S.places rowWords) 1000000
 
--- ---- each refusal is one line
+-- ---- each refusal is one line, and no page
 
-pub bad-line : (input : List ℕ) → lineJob input ≡ Bad → output input ≡ refusal 16 0
-unfolding output
-bad-line input e = ap (outputFor input) e
+pub bad-answer : (input : List ℕ) → lineJob input ≡ Bad → answered input ≡ badLine
+unfolding answered
+bad-answer input e = ap (answeredFor input) e
 
-pub good-line : (input : List ℕ) (j : Job) → lineJob input ≡ Good j → output input ≡ linesOf (listing (textOf input j) (j .low) (j .high) (j .steps))
-unfolding output
-good-line input j e = ap (outputFor input) e
+pub good-answer : (input : List ℕ) (j : Job) → lineJob input ≡ Good j → answered input ≡ byList (listing (textOf input j) (j .low) (j .high) (j .steps))
+unfolding answered
+good-answer input j e = ap (answeredFor input) e
+
+pub bad-line : (input : List ℕ) → lineJob input ≡ Bad → (output input ≡ refusal 16 0) × (posted input ≡ refusal 16 0)
+unfolding output posted
+bad-line input e = (ap inLines (bad-answer input e), ap onPages (bad-answer input e))
+
+refused-lines : (input : List ℕ) (n p : ℕ) → answered input ≡ byList (refuses rowWords scratchWords n p) → (output input ≡ refusal n p) × (posted input ≡ refusal n p)
+unfolding output posted shown laidOut
+refused-lines input n p e = (ap inLines e, ap onPages e)
 
 module _ (input : List ℕ) (j : Job) (good : lineJob input ≡ Good j) where
-  answered : (g : Option ℕ) (v : Verdict) → ground 16384 (j .low) (j .high) (j .steps) ≡ g → checked (textOf input j) ≡ v
+  listing-is : (g : Option ℕ) (v : Verdict) → ground 16384 (j .low) (j .high) (j .steps) ≡ g → checked (textOf input j) ≡ v
       → listing (textOf input j) (j .low) (j .high) (j .steps) ≡ answering rowWords scratchWords (found (textOf input j) (j .low) (j .high) (j .steps)) g v
   unfolding listing list
-  answered g v e f =
+  listing-is g v e f =
       ap₂ (answering rowWords scratchWords (found (textOf input j) (j .low) (j .high) (j .steps)))
       (ap (λ (n : ℕ). ground n (j .low) (j .high) (j .steps)) words ∙ e) f
 
+  pub ground-answer : (n : ℕ) → ground 16384 (j .low) (j .high) (j .steps) ≡ some n → answered input ≡ byList (refuses rowWords scratchWords n 0)
+  ground-answer n e = good-answer input j good ∙ ap byList (listing-is (some n) (checked (textOf input j)) e refl)
+
   -- by one of list's own grounds, or as check
-  pub ground-line : (n : ℕ) → ground 16384 (j .low) (j .high) (j .steps) ≡ some n → output input ≡ refusal n 0
-  unfolding shown
-  ground-line n e = good-line input j good ∙ ap linesOf (answered (some n) (checked (textOf input j)) e refl)
+  pub ground-line : (n : ℕ) → ground 16384 (j .low) (j .high) (j .steps) ≡ some n → (output input ≡ refusal n 0) × (posted input ≡ refusal n 0)
+  ground-line n e = refused-lines input n 0 (ground-answer n e)
 
-  pub check-line : (n p : ℕ) → ground 16384 (j .low) (j .high) (j .steps) ≡ none → checked (textOf input j) ≡ C.refused n p → output input ≡ refusal n p
-  unfolding shown
-  check-line n p e f = good-line input j good ∙ ap linesOf (answered none (C.refused n p) e f)
+  pub check-line : (n p : ℕ) → ground 16384 (j .low) (j .high) (j .steps) ≡ none → checked (textOf input j) ≡ C.refused n p → (output input ≡ refusal n p) × (posted input ≡ refusal n p)
+  check-line n p e f = refused-lines input n p (good-answer input j good ∙ ap byList (listing-is none (C.refused n p) e f))
 
-  -- ---- else the rows of the plan list, or of its front part, and the last line
+  -- ---- else the rows of the plan list, or of its front part, with the last line or on a sheet
 
   module _ (allowed : ground 16384 (j .low) (j .high) (j .steps) ≡ none) (accepted : checked (textOf input j) ≡ C.accepted) where
     kept : Keeps (textOf input j) (j .low) (j .high) (j .steps) 0 1000000 rowWords scratchWords (listing (textOf input j) (j .low) (j .high) (j .steps))
@@ -91,24 +105,35 @@ module _ (input : List ℕ) (j : Job) (good : lineJob input ≡ Good j) where
         let h = good-holds input j good in
         keeps (textOf input j) (j .low) (j .high) (j .steps) 0 1000000 rowWords scratchWords (h .low) (h .high) (ap (λ (n : ℕ). ground n (j .low) (j .high) (j .steps)) words ∙ allowed) accepted
 
-    printed : output input ≡ rowLines (kept .written) ++ lastLine (kept .ending) (length (kept .written)) (kept .moves)
-    unfolding shown
-    printed =
-        good-line input j good
-        ∙ ap₂ shown (kept .answered) (kept .slice)
-        ∙ ap (λ (rs : List Row). rowLines rs ++ lastLine (kept .ending) (length (kept .written)) (kept .moves))
-        (rows-back (few-written (kept .fixed) (kept .closes)) (drop (10 * length (kept .written)) rowWords))
-
-    pub shows : Shows input j (output input)
-    shows = record {
+    lists : Lists input j
+    lists = record {
       plans = kept .plans;
       fixed = kept .fixed;
       alone = kept .alone;
       written = kept .written;
       moves = kept .moves;
       ending = kept .ending;
-      lines = printed;
       closes = subst (λ (n : ℕ). Promised inUse (S.jobOf (textOf input j) (j .low) (j .high) (j .steps)) (kept .plans) 0 n 1000000 (answerWith (kept .written) (kept .moves) (kept .ending))) tens (kept .closes);
+    }
+
+    read-rows : rowsFrom (length (kept .written)) (sheet rowWords (kept .written)) ≡ kept .written
+    read-rows = rows-back (few-written (kept .fixed) (kept .closes)) (drop (10 * length (kept .written)) rowWords)
+
+    -- THEOREM. The first program prints the plan list, or its front part, and the last line.
+    pub shows : Shows input j (output input)
+    unfolding output shown lists kept
+    shows = record {
+      listed = lists;
+      lines = ap inLines (good-answer input j good) ∙ ap₂ shown (kept .answered) (kept .slice) ∙ ap (λ (rs : List Row). rowLines rs ++ lastLine (kept .ending) (length (kept .written)) (kept .moves)) read-rows;
+    }
+
+    -- THEOREM. The second prints the sheet of the same rows, with the ending's word.
+    pub posts : Posts input j (posted input)
+    unfolding posted laidOut lists kept
+    posts = record {
+      listed = lists;
+      pages = ap onPages (good-answer input j good) ∙ ap₂ laidOut (kept .answered) (kept .slice) ∙ ap (λ (rs : List Row). sheetBytes (wallSheet rs (kept .ending))) read-rows;
+      laid = laid (kept .written) (kept .ending);
     }
 
 -- ---- what the code learns of list
@@ -122,12 +147,26 @@ module _ (text : List ℕ) (low low′ high high′ : ℤ) (steps : ℕ) (e : lo
     pub small-answer : Small a
     small-answer = subst (λ (l : Left). Small (l .answer)) (sym left-by) (listing-small text low high steps)
 
-    pub same-lines : shown a rows ≡ linesOf (listing text low high steps)
-    same-lines = ap linesOf left-by
+    pub same-lines : (b : Bool) → printedOf b a rows ≡ printedFor b (byList (listing text low high steps))
+    same-lines b = ap (λ (l : Left). printedFor b (byList l)) left-by
 
--- the lines of a good job are the output
-pub job-lines : (input : List ℕ) (j : Job) (text : List ℕ) (low high : ℤ) → lineJob input ≡ Good j → text ≡ textOf input j → low ≡ j .low → high ≡ j .high → linesOf (listing text low high (j .steps)) ≡ output input
-job-lines input j text low high good t e f =
-    ap (λ (l : List ℕ). linesOf (listing l low high (j .steps))) t
-    ∙ ap₂ (λ (x y : ℤ). linesOf (listing (textOf input j) x y (j .steps))) e f
-    ∙ sym (good-line input j good)
+-- what is printed of a good job is what is printed for the input
+pub job-lines : (b : Bool) (input : List ℕ) (j : Job) (text : List ℕ) (low high : ℤ) → lineJob input ≡ Good j → text ≡ textOf input j → low ≡ j .low → high ≡ j .high
+    → printedFor b (byList (listing text low high (j .steps))) ≡ printedFor b (answered input)
+job-lines b input j text low high good t e g =
+    ap (λ (l : List ℕ). printedFor b (byList (listing l low high (j .steps)))) t
+    ∙ ap₂ (λ (x y : ℤ). printedFor b (byList (listing (textOf input j) x y (j .steps)))) e g
+    ∙ sym (ap (printedFor b) (good-answer input j good))
+
+-- as the two programs' functions find it
+same-form : (a : Answered) → (printedFor false a ≡ inLines a) × (printedFor true a ≡ onPages a)
+same-form badLine = (refl, refl)
+same-form (byList l) = (refl, refl)
+
+pub as-output : (input : List ℕ) → printedFor false (answered input) ≡ output input
+unfolding output
+as-output input = same-form (answered input) .0
+
+pub as-posted : (input : List ℕ) → printedFor true (answered input) ≡ posted input
+unfolding posted
+as-posted input = same-form (answered input) .1

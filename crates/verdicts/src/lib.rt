@@ -1,6 +1,4 @@
 // What is said of a text that is only checked, as a line of bytes.
-ghost use Prim.Native.Nat.{_≤_};
-ghost use lib.ListN.{length};
 ghost use Rattle.verdicts.specs.Line.{Says};
 use remarks::Answer;
 
@@ -9,7 +7,7 @@ pub const LINE: usize = 201;
 
 // The line of a text, at the front of out; the answer is how many bytes it has.
 pub fn verdict(text: &[u8], out: &mut [u8; LINE]) -> usize
-    ensures { λ r. ⌜ Says (now (text .entry)) (now (out .entry)) (now (out .exit)) r × (r ≤ length (now (out .exit))) ⌝ }
+    ensures { λ r. ⌜ Says (now (text .entry)) (now (out .entry)) (now (out .exit)) r ⌝ }
 {
     let mut offsets = [0u16; 16];
     match remarks::remarks(text, &mut offsets) {

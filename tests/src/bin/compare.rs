@@ -41,7 +41,7 @@ fn main() {
 }
 
 fn compare(count: u64, seed: u64) -> bool {
-    if !compare_examples() || (linked::LISTS && !(compare_by_hand() && compare_grid())) {
+    if !compare_examples() || (linked::LISTS && !(compare_by_hand() && compare_grid() && compare_pages())) {
         return false;
     }
     let mut answers: BTreeMap<String, u64> = BTreeMap::new();
@@ -74,6 +74,9 @@ fn compare(count: u64, seed: u64) -> bool {
             if let Err(what) = cases::list(&mut random, &text, &job, &reference) {
                 return differs(case, &text, &what);
             }
+            if let Err(what) = random_page(&mut random) {
+                return differs(case, &text, &what);
+            }
             if random.chance(250) {
                 let text = generate::small(&mut random);
                 match compare_with_runs(&mut random, &text) {
@@ -86,7 +89,7 @@ fn compare(count: u64, seed: u64) -> bool {
     }
     let kinds: Vec<String> = answers.iter().map(|(kind, n)| format!("{kind}: {n}")).collect();
     println!("{}", kinds.join(", "));
-    let what = if linked::LISTS { "check, remarks and list" } else { "check and remarks" };
+    let what = if linked::LISTS { "check, remarks, list and a page" } else { "check and remarks" };
     println!("{count} cases of {what} agreed, seed {seed}");
     true
 }
@@ -142,6 +145,87 @@ fn compare_grid() -> bool {
     }
     println!("{} jobs of the grid agreed", grid.len() + 8 * endings.len());
     true
+}
+
+/// Values around the width of a column, with and without a minus, and around
+/// the ends of 32 bits.
+const WIDTHS: [i32; 14] = [
+    0,
+    -1,
+    9_999_999,
+    10_000_000,
+    99_999_999,
+    100_000_000,
+    123_456_789,
+    -999_999,
+    -1_000_000,
+    -9_999_999,
+    -10_000_000,
+    -99_999_999,
+    i32::MAX,
+    i32::MIN,
+];
+
+/// Page numbers around those that have five digits.
+const PAGES: [u32; 8] = [0, 1, 10, 99_999, 100_000, 100_007, 123_456, u32::MAX];
+
+/// Pages at the limits: counts of rows, words that make no row, widths, page
+/// numbers, endings, lengths of the lent slice.
+fn compare_pages() -> bool {
+    let mut random = Random::new(9);
+    let mut pages = 0;
+    for rows in [0, 1, 2, 57, 58, 59, 116, 117, 1_000] {
+        for more in [0, 1, 9] {
+            for number in PAGES {
+                let words = row_words(&mut random, 10 * rows + more);
+                for (ending, bytes) in [
+                    (0, 4_860),
+                    (1, 4_861),
+                    (2, 9_720),
+                    (3, 4_860),
+                    (4, 4_860),
+                    (u32::MAX, 4_900),
+                    (0, 4_859),
+                    (1, 4_850),
+                    (2, 81),
+                    (3, 1),
+                    (4, 0),
+                ] {
+                    pages += 1;
+                    if let Err(what) = cases::page(&mut random, &words, number, ending, bytes) {
+                        return differs(pages, &[], &what);
+                    }
+                }
+            }
+        }
+    }
+    println!("{pages} pages at the limits agreed");
+    true
+}
+
+/// Rows with any counts of values and values of any width.
+fn row_words(random: &mut Random, words: usize) -> Vec<i32> {
+    let mut word = |place: usize| match (place % 10, random.below(4)) {
+        (1, 0) => *random.pick(&[&-1, &9, &10, &i32::MIN, &i32::MAX]),
+        (1, _) => random.below(9) as i32,
+        (_, 0) => *random.pick(&WIDTHS.each_ref()),
+        (_, 1) => random.bits() as i32,
+        _ => random.between(-100, 1_000) as i32,
+    };
+    (0..words).map(&mut word).collect()
+}
+
+fn random_page(random: &mut Random) -> Result<(), String> {
+    let words = random.below(700);
+    let rows = row_words(random, words);
+    let number = match random.below(3) {
+        0 => *random.pick(&PAGES.each_ref()),
+        1 => random.bits() as u32,
+        _ => random.below(20) as u32,
+    };
+    let ending = if random.chance(50) { random.bits() as u32 } else { random.below(6) as u32 };
+    let bytes = if random.chance(100) { random.below(4_860) } else { 4_860 + random.below(100) };
+    cases::page(random, &rows, number, ending, bytes)
 }
 
 /// A small job with a random skip, budget and room, against the runs alone.

@@ -1,10 +1,11 @@
 //! Compares a program that reads a job line and a text, and prints the list,
-//! with the reference: `program PATH CASES SEED [CHECKER]`. First the rules of
+//! with the reference: `program PATH CASES SEED [CHECKER]`; one that prints it
+//! on pages: `program --sheet PATH CASES SEED`. First the rules of
 //! the folder `rules/`, whose lists stand there, and inputs at the limits; then
 //! random inputs. The same for the program CHECKER, which reads a text and
 //! prints what check and remarks answer.
 
-use reference::lister::{checked, print};
+use reference::lister::{checked, post, print};
 use reference::random::Random;
 use reference::{generate, rule_files, with_room};
 use std::io::{Read, Write};
@@ -14,37 +15,43 @@ use std::time::Duration;
 const A: &str = "int main() { int y free; if (y < 2) return y; else fail; }";
 
 fn main() {
-    let arguments: Vec<String> = std::env::args().skip(1).collect();
+    let mut arguments: Vec<String> = std::env::args().skip(1).collect();
+    let on_pages = arguments.first().is_some_and(|word| word == "--sheet");
+    if on_pages {
+        arguments.remove(0);
+    }
     let ([path, count, seed] | [path, count, seed, _]) = &arguments[..] else {
-        eprintln!("program PATH CASES SEED [CHECKER]");
+        eprintln!("program PATH CASES SEED [CHECKER], or program --sheet PATH CASES SEED");
         std::process::exit(2);
+    };
+    let expected_for = |input: &[u8]| -> Vec<u8> {
+        with_room(|| if on_pages { post(input) } else { print(input).into_bytes() })
     };
     let count: u64 = count.parse().expect("a number of cases");
     let seed: u64 = seed.parse().expect("a seed");
     let rules = rule_files::jobs();
     for job in &rules {
-        compare(path, &job.line, &job.input, &job.list, None);
+        assert_eq!(with_room(|| print(&job.input)).as_bytes(), job.list, "the reference");
+        compare(path, &job.line, &job.input, &expected_for(&job.input), None);
     }
     println!("{} lists of rules agreed", rules.len());
     let limits = limits();
     for (name, input, last) in &limits {
-        let expected = with_room(|| print(input));
-        assert_eq!(expected.lines().last(), Some(&last[..]), "the reference, {name}");
-        compare(path, name, input, expected.as_bytes(), None);
+        let printed = with_room(|| print(input));
+        assert_eq!(printed.lines().last(), Some(&last[..]), "the reference, {name}");
+        compare(path, name, input, &expected_for(input), None);
     }
     // Some of them in pieces, as a slow pipe would hand them over.
     for (name, input, _) in limits.iter().step_by(5) {
-        let expected = with_room(|| print(input));
-        compare(path, name, input, expected.as_bytes(), Some(input.len() / 6 + 1));
+        compare(path, name, input, &expected_for(input), Some(input.len() / 6 + 1));
     }
     println!("{} inputs at the limits agreed", limits.len());
     // Inputs that never end, as soon as they settle the answer.
     let open = unended();
     for (name, input) in &open {
-        let expected = with_room(|| print(input));
         assert_eq!(
             answered_while_open(path, input, 60_000),
-            Some(expected.into_bytes()),
+            Some(expected_for(input)),
             "{name}, left open"
         );
     }
@@ -57,8 +64,7 @@ fn main() {
     for case in 0..count {
         let mut random = Random::new(seed.wrapping_mul(1_000_003).wrapping_add(case));
         let input = input(&mut random);
-        let expected = with_room(|| print(&input));
-        compare(path, &format!("case {case}"), &input, expected.as_bytes(), None);
+        compare(path, &format!("case {case}"), &input, &expected_for(&input), None);
     }
     println!("{count} inputs of the program agreed, seed {seed}");
     if let Some(path) = arguments.get(3) {
@@ -218,6 +224,19 @@ fn limits() -> Vec<(String, Vec<u8>, String)> {
     for length in [2_047, 2_048, 2_049] {
         add("a line of forty bytes", line, &padded(length), "refused 14 at 0");
     }
+    // Rows that fill pages, and values around the width of a column.
+    for rows in [1, 57, 58, 59, 115, 116, 117, 174] {
+        let last = format!("whole {rows} rows {} moves", rows + 3);
+        add("full pages", &format!("job 1 {rows} 100"), all, &last);
+    }
+    add("no rows", "job 0 3 100", b"int main() { fail; }", "whole 0 rows 2 moves");
+    for low in [9_999_998, 99_999_998, -1_000_001, -10_000_001, -100_000_001] {
+        let line = format!("job {low} {} 100", low + 3);
+        add("wide values", &line, all, "whole 4 rows 7 moves");
+    }
+    let eight = "int main() { int a free; int b free; int c free; int d free; int e free; \
+                 int f free; int g free; int h free; return 0 - 2147483647 - 1; }";
+    add("eight values", "job 9999999 10000000 100", eight.as_bytes(), "whole 256 rows 268 moves");
     add("4,096 values", "job -2147483648 -2147479553 4", all, "full 1000 rows 1004 moves");
     for (name, line, last) in [
         ("1,000 rows", "job 0 999 100", "whole 1000 rows 1003 moves"),

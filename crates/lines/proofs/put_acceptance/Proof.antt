@@ -1,7 +1,7 @@
 use native.Mathlib.Omega.{arith}
 use borrow.Author.Needs.{needs}
+use Rattle.printing.proofs.Puts.{and-then}
 use Rattle.lines.specs.Print.{acceptance}
-use Rattle.lines.proofs.Puts.{and-then}
 use Rattle.lines.proofs.put_acceptance.Statement.{statement}
 use Rattle.lines.proofs.put_acceptance.Tie as tie
 
@@ -25,10 +25,7 @@ same-length c = search needs
 
 returns : tie.Need-returns
 unfolding acceptance
-returns c = (
-  and-then (and-then (c .before .before .before .before .before .before .before .before .before .before .before .put-bytes .ensures) (c .before .before .before .before .before .before .before .put-offsets .ensures .0)) (c .before .before .put-bytes2 .ensures),
-  omega (arith, c .before .before .before .before .before .before .before .before .before .before .before .put-bytes .ensures .past, c .before .before .before .before .before .before .before .put-offsets .ensures .1, c .before .before .put-bytes2 .ensures .past),
-)
+returns c = (and-then (and-then (c .before .before .before .before .before .before .before .before .before .before .before .put-bytes .ensures) (c .before .before .before .before .before .before .before .put-offsets .ensures .0)) (c .before .before .put-bytes2 .ensures), omega (arith, c .before .before .before .before .before .before .before .before .before .before .before .put-bytes .ensures .past, c .before .before .before .before .before .before .before .put-offsets .ensures .1, c .before .before .put-bytes2 .ensures .past))
 
 pub put-acceptance-spec : {M : Type 1} → statement M
 put-acceptance-spec =

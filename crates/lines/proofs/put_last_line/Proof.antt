@@ -1,12 +1,11 @@
-use native.Mathlib.Omega.{arith}
 use mathlib.Core.Path.{sym}
 use mathlib.Core.List.{_++_, append-assoc}
-use Rattle.lexer.specs.Lex.{bytes}
 use borrow.Author.Needs.{needs}
-use Rattle.lines.proofs.Puts.{and-then, put-as, put-length}
-use Rattle.lines.specs.Print.{lastLine, lineEnd, ending, natural}
+use Rattle.lexer.specs.Lex.{bytes}
+use Rattle.printing.specs.Decimal.{natural}
+use Rattle.printing.proofs.Puts.{and-then, put-as}
+use Rattle.lines.specs.Print.{ending, lineEnd, lastLine}
 use Rattle.lines.specs.Written.{endingAt}
-use Rattle.lines.proofs.Decimal.{word-length}
 use Rattle.lines.proofs.put_last_line.Statement.{statement}
 use Rattle.lines.proofs.put_last_line.Tie as tie
 
@@ -20,22 +19,22 @@ put-bytes-requires : tie.Need-put-bytes-requires
 put-bytes-requires c κs = search needs
 
 put-natural-requires : tie.Need-put-natural-requires
-put-natural-requires c κs = omega (arith, c .before .before .before .before .before .before .before .before .before .before .before .pre, c .before .before .before .before .before .before .before .before .put-ending .ensures .1, put-length (c .before .before .before .before .before .before .before .before .put-ending .ensures .0), c .before .before .before .put-bytes .ensures .past, put-length (c .before .before .before .put-bytes .ensures), word-length (c .before .before .before .before .before .before .before .before .before .before .before .args .rows) (c .before .before .before .before .before .before .before .before .before .before .before .fits .rows .fits))
+put-natural-requires c κs = search needs
 
 slice-aggregate-put-bytes-2 : tie.Need-slice-aggregate-put-bytes-2
 slice-aggregate-put-bytes-2 c = search needs
 
 put-bytes-requires-2 : tie.Need-put-bytes-requires-2
-put-bytes-requires-2 c κs = omega (arith, c .before .before .before .before .before .before .before .before .before .before .before .before .before .before .before .before .pre, c .before .before .before .before .before .before .before .before .before .before .before .before .before .put-ending .ensures .1, put-length (c .before .before .before .before .before .before .before .before .before .before .before .before .before .put-ending .ensures .0), c .before .before .before .before .before .before .before .before .put-bytes .ensures .past, put-length (c .before .before .before .before .before .before .before .before .put-bytes .ensures), word-length (c .before .before .before .before .before .before .before .before .before .before .before .before .before .before .before .before .args .rows) (c .before .before .before .before .before .before .before .before .before .before .before .before .before .before .before .before .fits .rows .fits), c .before .before .before .before .put-natural .ensures .past, put-length (c .before .before .before .before .put-natural .ensures))
+put-bytes-requires-2 c κs = search needs
 
 put-natural-requires-2 : tie.Need-put-natural-requires-2
-put-natural-requires-2 c κs = omega (arith, c .before .before .before .before .before .before .before .before .before .before .before .before .before .before .before .before .before .before .before .before .pre, c .before .before .before .before .before .before .before .before .before .before .before .before .before .before .before .before .before .put-ending .ensures .1, put-length (c .before .before .before .before .before .before .before .before .before .before .before .before .before .before .before .before .before .put-ending .ensures .0), c .before .before .before .before .before .before .before .before .before .before .before .before .put-bytes .ensures .past, put-length (c .before .before .before .before .before .before .before .before .before .before .before .before .put-bytes .ensures), word-length (c .before .before .before .before .before .before .before .before .before .before .before .before .before .before .before .before .before .before .before .before .args .rows) (c .before .before .before .before .before .before .before .before .before .before .before .before .before .before .before .before .before .before .before .before .fits .rows .fits), c .before .before .before .before .before .before .before .before .put-natural .ensures .past, put-length (c .before .before .before .before .before .before .before .before .put-natural .ensures), c .before .before .before .put-bytes2 .ensures .past, put-length (c .before .before .before .put-bytes2 .ensures), word-length (c .before .before .before .before .before .before .before .before .before .before .before .before .before .before .before .before .before .before .before .before .args .moves) (c .before .before .before .before .before .before .before .before .before .before .before .before .before .before .before .before .before .before .before .before .fits .moves .fits))
+put-natural-requires-2 c κs = search needs
 
 slice-aggregate-put-bytes-3 : tie.Need-slice-aggregate-put-bytes-3
 slice-aggregate-put-bytes-3 c = search needs
 
 put-bytes-requires-3 : tie.Need-put-bytes-requires-3
-put-bytes-requires-3 c κs = omega (arith, c .before .before .before .before .before .before .before .before .before .before .before .before .before .before .before .before .before .before .before .before .before .before .before .before .before .pre, c .before .before .before .before .before .before .before .before .before .before .before .before .before .before .before .before .before .before .before .before .before .before .put-ending .ensures .1, put-length (c .before .before .before .before .before .before .before .before .before .before .before .before .before .before .before .before .before .before .before .before .before .before .put-ending .ensures .0), c .before .before .before .before .before .before .before .before .before .before .before .before .before .before .before .before .before .put-bytes .ensures .past, put-length (c .before .before .before .before .before .before .before .before .before .before .before .before .before .before .before .before .before .put-bytes .ensures), word-length (c .before .before .before .before .before .before .before .before .before .before .before .before .before .before .before .before .before .before .before .before .before .before .before .before .before .args .rows) (c .before .before .before .before .before .before .before .before .before .before .before .before .before .before .before .before .before .before .before .before .before .before .before .before .before .fits .rows .fits), c .before .before .before .before .before .before .before .before .before .before .before .before .before .put-natural .ensures .past, put-length (c .before .before .before .before .before .before .before .before .before .before .before .before .before .put-natural .ensures), c .before .before .before .before .before .before .before .before .put-bytes2 .ensures .past, put-length (c .before .before .before .before .before .before .before .before .put-bytes2 .ensures), word-length (c .before .before .before .before .before .before .before .before .before .before .before .before .before .before .before .before .before .before .before .before .before .before .before .before .before .args .moves) (c .before .before .before .before .before .before .before .before .before .before .before .before .before .before .before .before .before .before .before .before .before .before .before .before .before .fits .moves .fits), c .before .before .before .before .put-natural2 .ensures .past, put-length (c .before .before .before .before .put-natural2 .ensures))
+put-bytes-requires-3 c κs = search needs
 
 same-length : tie.Need-same-length
 same-length c = search needs

@@ -7,8 +7,9 @@ use lib.IntN.{pos}
 use mir.Syntax.{w32}
 use mir.Val.{SFits}
 use mir.Facts.{toZ-ofZ}
+use Rattle.printing.proofs.Puts.{and-then, put-as}
+use Rattle.printing.proofs.Numbers.{integer-length}
 use Rattle.lines.specs.Written.{countOf}
-use Rattle.lines.proofs.Puts.{and-then, put-as}
 use Rattle.lines.proofs.Lines.{row-line}
 use Rattle.lines.proofs.put_row.Statement.{statement}
 use Rattle.lines.proofs.put_row.Tie as tie
@@ -65,9 +66,9 @@ returns c =
     let f : SFits w32 (getD rows base (pos 0)) = record { sfits = c .before .before .before .before .before .before .before .before .before .before .before .before .before .before .before .before .before .before .before .before .put-integer-arg2 .given } in
     let g : SFits w32 (getD rows (base + 1) (pos 0)) = record { sfits = c .before .before .before .before .before .before .before .before .before .before .before .word-arg .given } in
     let n : c .before .before .before .before .before .before .before .before .before .value-count .result ≡ countOf (getD rows (base + 1) (pos 0)) = c .before .before .before .before .before .before .before .before .before .value-count .ensures ∙ ap countOf (simp (c .before .before .before .before .before .before .before .before .before .before .word .ensures, toZ-ofZ g)) in
-    let w = rw (toZ-ofZ f) at (c .before .before .before .before .before .before .before .before .before .before .before .before .before .before .before .before .before .before .before .put-integer .ensures .0) in (
+    let w = rw (toZ-ofZ f) at (c .before .before .before .before .before .before .before .before .before .before .before .before .before .before .before .before .before .before .before .put-integer .ensures) in (
       put-as (row-line rows base (c .before .before .before .before .before .before .before .before .before .value-count .result) n) (and-then (and-then (and-then w (c .before .before .before .before .before .before .before .before .before .before .before .before .before .before .put-bytes .ensures)) (c .before .before .before .before .before .before .before .put-values .ensures .0)) (c .before .before .put-bytes2 .ensures)),
-      omega (arith, n, c .before .before .before .before .before .before .before .before .before .before .before .before .before .before .before .before .before .before .before .put-integer .ensures .1, c .before .before .before .before .before .before .before .before .before .before .before .before .before .before .put-bytes .ensures .past, c .before .before .before .before .before .before .before .put-values .ensures .1, c .before .before .put-bytes2 .ensures .past),
+      omega (arith, n, w .past, integer-length _ f, c .before .before .before .before .before .before .before .before .before .before .before .before .before .before .put-bytes .ensures .past, c .before .before .before .before .before .before .before .put-values .ensures .1, c .before .before .put-bytes2 .ensures .past),
     )
 
 pub put-row-spec : {M : Type 1} → statement M

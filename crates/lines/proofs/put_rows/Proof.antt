@@ -2,9 +2,11 @@ use Prim.Native.Nat.{ℕ, _+_, _-_, _*_, _≤_}
 use native.Mathlib.Omega.{arith}
 use mathlib.Core.Path.{_≡_, ap}
 use lib.ListN.{drop}
+use borrow.Author.Needs.{needs}
+use Rattle.printing.specs.Written.{Put}
+use Rattle.printing.proofs.Puts.{and-then, put-as, put-length, put-none}
 use Rattle.lines.specs.Print.{rowLines}
-use Rattle.lines.specs.Written.{Put, rowsFrom}
-use Rattle.lines.proofs.Puts.{and-then, put-as, put-length, put-none}
+use Rattle.lines.specs.Written.{rowsFrom}
 use Rattle.lines.proofs.Lines.{rows-more}
 use Rattle.lines.proofs.put_rows.Statement.{statement}
 use Rattle.lines.proofs.put_rows.Tie as tie
@@ -17,22 +19,22 @@ abbrev μ-loop : tie.MeasureT-loop
 
 loop-holds : tie.Need-loop-holds Inv-loop μ-loop
 unfolding rowLines rowsFrom
-loop-holds c = (omega arith, put-none (c .before .args .out .now) (c .before .args .at), omega arith)
+loop-holds c = (omega arith, put-none _ _ (omega arith) (omega arith), omega arith)
 
 add-put-row : tie.Need-add-put-row Inv-loop μ-loop
-add-put-row c = omega (arith, c .before .before .before .before .pre .1, c .before .loop-test .taken)
+add-put-row c = omega (arith, c .before .before .before .before .pre, c .before .loop-test .taken)
 
 mul-put-row : tie.Need-mul-put-row Inv-loop μ-loop
-mul-put-row c = omega (arith, c .before .before .before .before .pre .1, c .before .loop-test .taken)
+mul-put-row c = omega (arith, c .before .before .before .before .pre, c .before .loop-test .taken)
 
 put-row-requires : tie.Need-put-row-requires Inv-loop μ-loop
-put-row-requires c κs = (omega (arith, c .before .before .before .before .pre .0, c .before .loop-test .taken, c .before .before .loop .inv .2, put-length (c .before .before .loop .inv .1)), omega (arith, c .before .before .before .before .pre .1, c .before .loop-test .taken))
+put-row-requires c κs = omega (arith, c .before .before .before .before .pre, c .before .loop-test .taken)
 
 add-k : tie.Need-add-k Inv-loop μ-loop
-add-k c = omega arith
+add-k c = search needs
 
 loop-less : tie.Need-loop-less Inv-loop μ-loop
-loop-less c = omega arith
+loop-less c = search needs
 
 loop-again : tie.Need-loop-again Inv-loop μ-loop
 loop-again c = (omega arith, put-as (rows-more (c .before .before .before .before .before .before .before .args .rows .now) (c .before .before .before .before .before .before .before .args .from) (c .before .before .before .before .before .loop .k)) (and-then (c .before .before .before .before .before .loop .inv .1) (c .before .before .put-row .ensures .0)), omega (arith, c .before .before .before .before .before .loop .inv .2, c .before .before .put-row .ensures .1))

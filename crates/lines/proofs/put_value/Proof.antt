@@ -1,7 +1,8 @@
 use native.Mathlib.Omega.{arith}
 use borrow.Author.Needs.{needs}
-use Rattle.lines.proofs.Puts.{and-then}
 use mir.Facts.{toZ-ofZ}
+use Rattle.printing.proofs.Puts.{and-then}
+use Rattle.printing.proofs.Numbers.{integer-length}
 use Rattle.lines.proofs.put_value.Statement.{statement}
 use Rattle.lines.proofs.put_value.Tie as tie
 
@@ -18,7 +19,9 @@ same-length : tie.Need-same-length
 same-length c = search needs
 
 returns : tie.Need-returns
-returns c = (and-then (c .before .before .before .before .before .before .put-bytes .ensures) (rw (toZ-ofZ (c .before .before .before .before .before .before .before .before .before .before .fits .z)) at (c .before .before .put-integer .ensures .0)), omega (arith, c .before .before .before .before .before .before .put-bytes .ensures .past, c .before .before .put-integer .ensures .1))
+returns c =
+    let w = rw (toZ-ofZ (c .before .before .before .before .before .before .before .before .before .before .fits .z)) at (c .before .before .put-integer .ensures) in
+    (and-then (c .before .before .before .before .before .before .put-bytes .ensures) w, omega (arith, c .before .before .before .before .before .before .put-bytes .ensures .past, w .past, integer-length (c .before .before .before .before .before .before .before .before .before .before .args .z) (c .before .before .before .before .before .before .before .before .before .before .fits .z)))
 
 pub put-value-spec : {M : Type 1} → statement M
 put-value-spec =

@@ -1,14 +1,15 @@
 use Prim.Native.Nat.{ℕ, _+_, _-_, _*_, _≤_}
 use native.Mathlib.Omega.{arith}
 use mathlib.Core.Path.{_≡_, ap}
-use Rattle.lines.proofs.Puts.{and-then, put-as, put-length, put-none}
 use lib.ListN.{take, drop, getD}
 use lib.IntN.{pos}
 use mir.Syntax.{w32}
 use mir.Val.{SFits}
 use mir.Facts.{toZ-ofZ}
+use Rattle.printing.specs.Written.{Put}
+use Rattle.printing.proofs.Puts.{and-then, put-as, put-length, put-none}
+use borrow.Author.Needs.{needs}
 use Rattle.lines.specs.Print.{spaced}
-use Rattle.lines.specs.Written.{Put}
 use Rattle.lines.proofs.Lines.{spaced-more}
 use Rattle.lines.proofs.put_values.Statement.{statement}
 use Rattle.lines.proofs.put_values.Tie as tie
@@ -21,32 +22,32 @@ abbrev μ-loop : tie.MeasureT-loop
 
 loop-holds : tie.Need-loop-holds Inv-loop μ-loop
 unfolding spaced
-loop-holds c = (omega arith, put-none (c .before .args .out .now) (c .before .args .at), omega arith)
+loop-holds c = (omega arith, put-none _ _ (omega arith) (omega arith), omega arith)
 
 add-put-value : tie.Need-add-put-value Inv-loop μ-loop
-add-put-value c = omega (arith, c .before .before .before .before .pre .1, c .before .loop-test .taken)
+add-put-value c = omega (arith, c .before .before .before .before .pre, c .before .loop-test .taken)
 
 mul-put-value : tie.Need-mul-put-value Inv-loop μ-loop
-mul-put-value c = omega arith
+mul-put-value c = search needs
 
 shared-slice-copy-out-put-value : tie.Need-shared-slice-copy-out-put-value Inv-loop μ-loop
 shared-slice-copy-out-put-value c = omega arith
 
 put-value-requires : tie.Need-put-value-requires Inv-loop μ-loop
-put-value-requires c κs = omega (arith, c .before .before .before .before .before .pre .0, c .before .before .loop-test .taken, c .before .before .before .loop .inv .2, put-length (c .before .before .before .loop .inv .1))
+put-value-requires c κs = search needs
 
 add-k : tie.Need-add-k Inv-loop μ-loop
-add-k c = omega arith
+add-k c = search needs
 
 loop-less : tie.Need-loop-less Inv-loop μ-loop
-loop-less c = omega arith
+loop-less c = search needs
 
 loop-again : tie.Need-loop-again Inv-loop μ-loop
 loop-again c =
     let z = getD (c .before .before .before .before .before .before .before .before .args .rows .now) (c .before .before .before .before .before .before .before .before .args .from + c .before .before .before .before .before .before .loop .k) (pos 0) in
     let f : SFits w32 z = record { sfits = c .before .before .before .put-value-arg2 .given } in
     let w = rw (toZ-ofZ f) at (c .before .before .put-value .ensures .0) in
-    (omega arith, put-as (spaced-more (c .before .before .before .before .before .before .before .before .args .rows .now) (c .before .before .before .before .before .before .before .before .args .from) (c .before .before .before .before .before .before .loop .k) (omega (arith, c .before .before .before .before .before .before .before .before .pre .1, c .before .before .before .before .before .loop-test .taken))) (and-then (c .before .before .before .before .before .before .loop .inv .1) w), omega (arith, c .before .before .before .before .before .before .loop .inv .2, c .before .before .put-value .ensures .1))
+    (omega arith, put-as (spaced-more (c .before .before .before .before .before .before .before .before .args .rows .now) (c .before .before .before .before .before .before .before .before .args .from) (c .before .before .before .before .before .before .loop .k) (omega (arith, c .before .before .before .before .before .before .before .before .pre, c .before .before .before .before .before .loop-test .taken))) (and-then (c .before .before .before .before .before .before .loop .inv .1) w), omega (arith, c .before .before .before .before .before .before .loop .inv .2, c .before .before .put-value .ensures .1))
 
 same-length : tie.Need-same-length Inv-loop μ-loop
 same-length c = put-length (c .before .loop .inv .1)

@@ -27,17 +27,17 @@ place-requires c κs = search needs
 add-end : tie.Need-add-end Inv-loop μ-loop
 add-end c = search needs
 
-sub-print-output : tie.Need-sub-print-output Inv-loop μ-loop
-sub-print-output c = search needs
+sub-print-case : tie.Need-sub-print-case Inv-loop μ-loop
+sub-print-case c = search needs
 
-part-print-output-start : tie.Need-part-print-output-start Inv-loop μ-loop
-part-print-output-start c = search needs
+part-print-case-start : tie.Need-part-print-case-start Inv-loop μ-loop
+part-print-case-start c = search needs
 
-part-print-output-end : tie.Need-part-print-output-end Inv-loop μ-loop
-part-print-output-end c = search needs
+part-print-case-end : tie.Need-part-print-case-end Inv-loop μ-loop
+part-print-case-end c = search needs
 
-print-output-requires : tie.Need-print-output-requires Inv-loop μ-loop
-print-output-requires c κs = search needs
+print-case-requires : tie.Need-print-case-requires Inv-loop μ-loop
+print-case-requires c κs = search needs
 
 add-at : tie.Need-add-at Inv-loop μ-loop
 add-at c = search needs
@@ -63,10 +63,10 @@ print-all-spec =
     part-place-end
     place-requires
     add-end
-    sub-print-output
-    part-print-output-start
-    part-print-output-end
-    print-output-requires
+    sub-print-case
+    part-print-case-start
+    part-print-case-end
+    print-case-requires
     add-at
     loop-less
     loop-again

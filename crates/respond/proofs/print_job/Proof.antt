@@ -2,7 +2,7 @@ use native.Mathlib.Omega.{arith}
 use mir.Facts.{toZ-ofZ}
 use lib.ListN.{length-replicate}
 use lib.IntN.{pos}
-use Rattle.lines.proofs.Puts.{put-as}
+use Rattle.printing.proofs.Puts.{put-as}
 use Rattle.respond.proofs.Printed.{small-answer, same-lines}
 use borrow.Author.Needs.{needs}
 use Rattle.respond.proofs.print_job.Statement.{statement}
@@ -21,13 +21,13 @@ slice-aggregate-print-listed : tie.Need-slice-aggregate-print-listed
 slice-aggregate-print-listed c = search needs
 
 print-listed-requires : tie.Need-print-listed-requires
-print-listed-requires c κs = (small-answer _ _ _ _ _ _ (toZ-ofZ (c .before .before .before .before .before .before .before .before .before .fits .low)) (toZ-ofZ (c .before .before .before .before .before .before .before .before .before .fits .high)) (c .before .before .before .before .list .ensures), omega (arith, c .before .before .before .rows2 .given, length-replicate 10000 (pos 0)), search needs)
+print-listed-requires c κs = (small-answer _ _ _ _ _ _ (toZ-ofZ (c .before .before .before .before .before .before .before .before .before .fits .low)) (toZ-ofZ (c .before .before .before .before .before .before .before .before .before .fits .high)) (c .before .before .before .before .list .ensures), omega (arith, c .before .before .before .rows2 .given, length-replicate 10000 (pos 0)))
 
 same-length : tie.Need-same-length
 same-length c = search needs
 
 returns : tie.Need-returns
-returns c = (put-as (same-lines _ _ _ _ _ _ (toZ-ofZ (c .before .before .before .before .before .before .before .before .before .before .before .before .fits .low)) (toZ-ofZ (c .before .before .before .before .before .before .before .before .before .before .before .before .fits .high)) (c .before .before .before .before .before .before .before .list .ensures)) (c .before .before .print-listed .ensures .0), c .before .before .print-listed .ensures .1)
+returns c = (put-as (same-lines _ _ _ _ _ _ (toZ-ofZ (c .before .before .before .before .before .before .before .before .before .before .before .before .fits .low)) (toZ-ofZ (c .before .before .before .before .before .before .before .before .before .before .before .before .fits .high)) (c .before .before .before .before .before .before .before .list .ensures) (c .before .before .before .before .before .before .before .before .before .before .before .before .args .sheet)) (c .before .before .print-listed .ensures .0), c .before .before .print-listed .ensures .1)
 
 pub print-job-spec : {M : Type 1} → statement M
 print-job-spec =

@@ -1,5 +1,4 @@
 use native.Mathlib.Omega.{arith}
-use Rattle.respond.specs.Output.{shown}
 use Rattle.respond.proofs.Puts.{put-refused}
 use borrow.Author.Needs.{needs}
 use Rattle.respond.proofs.print_listed.Statement.{statement}
@@ -20,7 +19,7 @@ enum-known-listed-2 c = search needs
 print-rows-requires : tie.Need-print-rows-requires
 print-rows-requires c κs =
     let s = rw (c .before .before .listed2 .given .1) at (c .before .before .before .before .before .pre .0) in
-    (s .few, omega (arith, s .few, c .before .before .before .before .before .pre .1), c .before .before .before .before .before .pre .2)
+    (s .few, omega (arith, s .few, c .before .before .before .before .before .pre .1), omega arith)
 
 enum-known-listed-3 : tie.Need-enum-known-listed-3
 enum-known-listed-3 c = search needs
@@ -28,7 +27,7 @@ enum-known-listed-3 c = search needs
 print-rows-requires-2 : tie.Need-print-rows-requires-2
 print-rows-requires-2 c κs =
     let s = rw (c .before .before .listed3 .given .1) at (c .before .before .before .before .before .pre .0) in
-    (s .few, omega (arith, s .few, c .before .before .before .before .before .pre .1), c .before .before .before .before .before .pre .2)
+    (s .few, omega (arith, s .few, c .before .before .before .before .before .pre .1), omega arith)
 
 enum-known-listed-4 : tie.Need-enum-known-listed-4
 enum-known-listed-4 c = search needs
@@ -36,7 +35,7 @@ enum-known-listed-4 c = search needs
 print-rows-requires-3 : tie.Need-print-rows-requires-3
 print-rows-requires-3 c κs =
     let s = rw (c .before .before .listed4 .given .1) at (c .before .before .before .before .before .pre .0) in
-    (s .few, omega (arith, s .few, c .before .before .before .before .before .pre .1), c .before .before .before .before .before .pre .2)
+    (s .few, omega (arith, s .few, c .before .before .before .before .before .pre .1), omega arith)
 
 enum-known-listed-5 : tie.Need-enum-known-listed-5
 enum-known-listed-5 c = search needs
@@ -44,41 +43,36 @@ enum-known-listed-5 c = search needs
 print-rows-requires-4 : tie.Need-print-rows-requires-4
 print-rows-requires-4 c κs =
     let s = rw (c .before .before .listed5 .given .1) at (c .before .before .before .before .before .pre .0) in
-    (s .few, omega (arith, s .few, c .before .before .before .before .before .pre .1), c .before .before .before .before .before .pre .2)
+    (s .few, omega (arith, s .few, c .before .before .before .before .before .pre .1), omega arith)
 
 same-length : tie.Need-same-length
 same-length c = search needs
 
 returns : tie.Need-returns
-unfolding shown
-returns c = rw (c .before .before .before .before .before .listed .given .1) (put-refused _ _ (search needs) (omega (arith, (rw (c .before .before .before .before .before .listed .given .1) at (c .before .before .before .before .before .before .before .before .pre .0)) .near)) (c .before .before .put-refusal .ensures))
+returns c = rw (c .before .before .before .before .before .listed .given .1) (put-refused (c .before .before .before .before .before .before .before .before .args .sheet) _ _ (c .before .before .before .before .before .before .before .before .args .rows .now) (search needs) (omega (arith, (rw (c .before .before .before .before .before .listed .given .1) at (c .before .before .before .before .before .before .before .before .pre .0)) .near)) (c .before .before .put-refusal .ensures))
 
 same-length-2 : tie.Need-same-length-2
 same-length-2 c = search needs
 
 returns-2 : tie.Need-returns-2
-unfolding shown
 returns-2 c = rw (c .before .before .before .before .before .listed2 .given .1) (c .before .before .print-rows .ensures)
 
 same-length-3 : tie.Need-same-length-3
 same-length-3 c = search needs
 
 returns-3 : tie.Need-returns-3
-unfolding shown
 returns-3 c = rw (c .before .before .before .before .before .listed3 .given .1) (c .before .before .print-rows2 .ensures)
 
 same-length-4 : tie.Need-same-length-4
 same-length-4 c = search needs
 
 returns-4 : tie.Need-returns-4
-unfolding shown
 returns-4 c = rw (c .before .before .before .before .before .listed4 .given .1) (c .before .before .print-rows3 .ensures)
 
 same-length-5 : tie.Need-same-length-5
 same-length-5 c = search needs
 
 returns-5 : tie.Need-returns-5
-unfolding shown
 returns-5 c = rw (c .before .before .before .before .before .listed5 .given .1) (c .before .before .print-rows4 .ensures)
 
 pub print-listed-spec : {M : Type 1} → statement M

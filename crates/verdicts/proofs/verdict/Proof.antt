@@ -3,8 +3,7 @@ use native.Mathlib.Omega.{arith}
 use lib.ListN.{length}
 use borrow.Author.Needs.{needs}
 use Rattle.remarks.proofs.Answered.{low-remark, low-count}
-use Rattle.lines.proofs.Puts.{put-length}
-use Rattle.verdicts.proofs.Saying.{said-refused, said-accepted, refused-short}
+use Rattle.verdicts.proofs.Saying.{said-refused, said-accepted}
 use Rattle.verdicts.proofs.verdict.Statement.{statement}
 use Rattle.verdicts.proofs.verdict.Tie as tie
 
@@ -32,21 +31,19 @@ slice-aggregate-put-acceptance c = search needs
 put-acceptance-requires : tie.Need-put-acceptance-requires
 put-acceptance-requires c κs =
     let few = low-count (rw (c .before .before .before .count .given .1) at (c .before .before .before .before .before .before .remarks .ensures)) in
-    let room : 201 ≤ length (c .before .before .before .before .before .before .before .before .before .args .out .now) = search needs in
-    (omega (arith, few, room), omega (arith, few, c .before .before .before .before .before .offsets2 .given))
+    omega (arith, few, c .before .before .before .before .before .offsets2 .given)
 
 returns : tie.Need-returns
 returns c =
     let a = rw (c .before .before .before .number .given .1) at (c .before .before .before .before .before .before .remarks .ensures) in
     let room : 201 ≤ length (c .before .before .before .before .before .before .before .before .before .args .out .now) = search needs in
-    let short = refused-short (c .put-refusal .ensures) (search needs) (omega (arith, low-remark a)) in
-    (said-refused a (c .put-refusal .ensures), omega (arith, room, short, put-length (c .put-refusal .ensures)))
+    said-refused a (search needs) (omega (arith, low-remark a)) room (c .put-refusal .ensures)
 
 returns-2 : tie.Need-returns-2
 returns-2 c =
     let a = rw (c .before .before .before .before .count .given .1) at (c .before .before .before .before .before .before .before .remarks .ensures) in
     let room : 201 ≤ length (c .before .before .before .before .before .before .before .before .before .before .args .out .now) = search needs in
-    (said-accepted a (c .put-acceptance .ensures .0), omega (arith, room, low-count a, c .put-acceptance .ensures .1, put-length (c .put-acceptance .ensures .0)))
+    said-accepted a (omega (arith, low-count a)) room (c .put-acceptance .ensures .0) (omega (arith, c .put-acceptance .ensures .1))
 
 pub verdict-spec : {M : Type 1} → statement M
 verdict-spec =

@@ -1,0 +1,4 @@
+-- The sheet for the wall.
+pub mod Pages
+pub mod Laid
+pub mod Parts

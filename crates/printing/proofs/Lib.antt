@@ -1,0 +1,3 @@
+-- Theorems that the proofs of several functions cite.
+pub mod Puts
+pub mod Numbers

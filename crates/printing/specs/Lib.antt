@@ -1,0 +1,3 @@
+-- Numbers in decimal, and bytes written into a lent slice.
+pub mod Decimal
+pub mod Written

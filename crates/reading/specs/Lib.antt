@@ -1,0 +1,2 @@
+-- What the programs know of what they read.
+pub mod Input
