@@ -46,9 +46,9 @@ void plans_check(const uint8_t *text, size_t text_length,
  * answer[0] and answer[1] as for check; under 16 places for offsets are refused
  * with 15 before the text is looked at. answer[2] is the count of functions but
  * main that no chain of calls leads to from main, 0 after a refusal. The offsets
- * of their names, in any order, are the first places of offsets; other places
- * keep their content, after a refusal all. With an answer of fewer than three
- * words nothing is written anywhere. */
+ * of their names, in ascending order, are the first places of offsets; other
+ * places keep their content, after a refusal all. With an answer of fewer than
+ * three words nothing is written anywhere. */
 void plans_remarks(const uint8_t *text, size_t text_length,
                    uint16_t *offsets, size_t offsets_length,
                    uint32_t *answer, size_t answer_length);

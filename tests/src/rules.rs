@@ -7,7 +7,6 @@ use crate::parser::{
     parse, Condition, Expression, Function, Name, Operand, Statement, StatementKind, Term, Test,
 };
 use crate::Refusal;
-use std::collections::BTreeSet;
 
 pub const DEEPEST: usize = 24;
 pub const MOST_FUNCTIONS: usize = 16;
@@ -21,8 +20,9 @@ pub fn check(text: &[u8]) -> Result<(), Refusal> {
 }
 
 /// The operation remarks, with a slice of `places` places: the name offsets of
-/// the functions but main that no chain of calls leads to from main.
-pub fn remarks(text: &[u8], places: usize) -> Result<BTreeSet<u16>, Refusal> {
+/// the functions but main that no chain of calls leads to from main, in the
+/// order of the text.
+pub fn remarks(text: &[u8], places: usize) -> Result<Vec<u16>, Refusal> {
     if places < LEAST_OFFSETS {
         return Err((15, 0));
     }

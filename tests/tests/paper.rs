@@ -636,10 +636,7 @@ fn unreached_functions() {
                 int c() { return c() + d(1); } int d(int x) { return x; } int e() { return main(); }";
     let found = remarks(text.as_bytes(), 16).expect("accepted");
     let place = |part: &str| (text.find(part).expect("part") + 4) as u16;
-    assert_eq!(
-        found.into_iter().collect::<Vec<_>>(),
-        [place("int a("), place("int b("), place("int e(")]
-    );
+    assert_eq!(found, [place("int a("), place("int b("), place("int e(")]);
     assert_eq!(remarks(A.as_bytes(), 16).expect("accepted").len(), 0);
 }
 

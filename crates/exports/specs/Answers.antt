@@ -1,6 +1,5 @@
 -- The words of an answer.
 use Prim.Native.Nat.{ℕ, _≤_, _<_}
-use mathlib.Core.Path.{_≡_}
 use mathlib.Core.Bool.{cond}
 use mathlib.Core.List.{List}
 use lib.ListN.{length, set}
@@ -10,9 +9,8 @@ use Rattle.semantics.specs.Search.{Close, whole, cuts, full, spent}
 use Rattle.list.specs.List as S
 use Rattle.list.specs.List.{list}
 use Rattle.checker.specs.Check.{Verdict, accepted, refused}
-use Rattle.remarks.specs.Remarks.{Answers, verdict}
-use Rattle.remarks.specs.declared.Answer.{Answer}
-use Rattle.remarks.specs.declared.Answer.the-variants.{Refused, Count}
+use Rattle.remarks.specs.Remarks as R
+use Rattle.remarks.specs.Remarks.{Reply, remarksOf}
 
 -- 0 and 0 if accepted, else number and place, in the first two words
 abbrev pub verdictWords : Verdict → List ℕ → List ℕ
@@ -23,21 +21,27 @@ verdictWords (refused n p) l = set (set l 0 n) 1 p
 abbrev pub checkWords : Verdict → List ℕ → List ℕ
 checkWords v l = cond (ltb (length l) 2) l (verdictWords v l)
 
+-- ---- remarks
+
 -- number, place and count, in the first three words
-abbrev pub remarkWords : Answer → List ℕ → List ℕ
-remarkWords (Refused n p) l = set (set (set l 0 n) 1 p) 2 0
-remarkWords (Count k) l = set (set (set l 0 0) 1 0) 2 k
+abbrev pub remarkWords : Reply → List ℕ → List ℕ
+remarkWords (R.refused n p) l = set (set (set l 0 n) 1 p) 2 0
+remarkWords (R.counted k) l = set (set (set l 0 0) 1 0) 2 k
 
--- what remarks answers for the text and the lent offsets, in words
-pub record Told (text before after answer answer′ : List ℕ) : Type 0 where
-  pub said : Answer
-  pub answers : Answers text before after said (verdict text before)
-  pub words : answer′ ≡ remarkWords said answer
+-- the words of the two slices at exit
+pub record Both : Type 0 where
+  pub offsets : List ℕ
+  pub answer : List ℕ
 
--- with an answer of fewer than three words nothing is written; else what remarks answers
-pub record Remarks (text before after answer answer′ : List ℕ) : Type 0 where
-  pub short : length answer < 3 → (after ≡ before) × (answer′ ≡ answer)
-  pub long : 3 ≤ length answer → Told text before after answer answer′
+abbrev pub both : List ℕ → List ℕ → Both
+both offsets answer = record { offsets = offsets; answer = answer }
+
+abbrev pub bothWith : R.Left → List ℕ → Both
+bothWith l answer = both (l .words) (remarkWords (l .reply) answer)
+
+-- with an answer of fewer than three words nothing is written; else what remarks answers and leaves
+abbrev pub remarksOut : (text offsets answer : List ℕ) → Both
+remarksOut text offsets answer = cond (ltb (length answer) 3) (both offsets answer) (bothWith (remarksOf text offsets) answer)
 
 -- ---- list
 

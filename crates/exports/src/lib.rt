@@ -5,7 +5,7 @@ ghost use Prim.Native.Nat.{_/_, _≤_, min};
 ghost use lib.ListN.{length};
 ghost use Rattle.list.specs.Parts.{answerOf};
 ghost use Rattle.exports.specs.Page.{pageOut};
-ghost use Rattle.exports.specs.Answers.{checkWords, Remarks, Fits, fiveWords, listWords, out, listOut};
+ghost use Rattle.exports.specs.Answers.{checkWords, both, remarksOut, Fits, fiveWords, listWords, out, listOut};
 use checker::Checked;
 use list::Listed;
 
@@ -30,11 +30,11 @@ pub extern "C" fn plans_check(text: &[u8], answer: &mut [u32])
     }
 }
 
-// Remarks: answer[0] and answer[1] as for check, answer[2] the count of offsets, 0 if refused.
+// Remarks: answer[0] and answer[1] as for check, answer[2] the count of offsets, which ascend; 0 if refused.
 // With an answer of fewer than three words, nothing is written anywhere.
 #[no_mangle]
 pub extern "C" fn plans_remarks(text: &[u8], offsets: &mut [u16], answer: &mut [u32])
-    ensures { λ _. ⌜ Remarks (now (text .entry)) (now (offsets .entry)) (now (offsets .exit)) (now (answer .entry)) (now (answer .exit)) ⌝ }
+    ensures { λ _. ⌜ both (now (offsets .exit)) (now (answer .exit)) ≡ remarksOut (now (text .entry)) (now (offsets .entry)) (now (answer .entry)) ⌝ }
 {
     if answer.len() < 3 {
         return;

@@ -1,28 +1,36 @@
 -- What remarks answers fits a word: the place of a refusal, and the count.
 use Prim.Native.Nat.{ℕ, _≤_}
 use native.Mathlib.Omega.{arith}
+use mathlib.Core.Path.{_≡_, refl, sym, ap, subst}
 use mathlib.Core.Bool.{Bool, true, false, cond}
 use mathlib.Core.List.{List}
 use lib.ListN.{length}
 use lib.Dec.{ltb}
-use Rattle.checker.specs.Check.{Verdict, refused, checked}
+use Rattle.checker.specs.Check as C
+use Rattle.checker.specs.Check.{Verdict, accepted, checked}
 use Rattle.checker.proofs.Small.{Within, low, checked-low}
-use Rattle.remarks.specs.Remarks as R
-use Rattle.remarks.specs.Remarks.{Answers, verdict}
+use Rattle.remarks.specs.Remarks.{Reply, refused, counted, offsetsOf, Left, answering, remarksOf, leaves}
 use Rattle.remarks.specs.declared.Answer.the-variants.{Refused, Count}
+use Rattle.remarks.proofs.Exactly.{few-offsets}
 
-refused-at : {text before after : List ℕ} {c p : ℕ} {v : Verdict} → Answers text before after (Refused c p) v → Within 2048 v → p ≤ 2048
-refused-at (R.refuses e) (low h) = h
+abbrev Small : Reply → Type 0
+Small (refused n p) = p ≤ 2048
+Small (counted k) = k ≤ 16
 
-verdict-low : (text before : List ℕ) → Within 2048 (verdict text before)
-verdict-low text before = go (ltb (length before) 16)
+small : (text lent : List ℕ) → Small (remarksOf text lent .reply)
+unfolding remarksOf
+small text lent = go (ltb (length lent) 16)
   where
-    go : (b : Bool) → Within 2048 (cond b (refused 15 0) (checked text))
-    go true = low {p = 0} (omega arith)
-    go false = checked-low text
+    as-check : (v : Verdict) → checked text ≡ v → Within 2048 v → Small (answering (offsetsOf text) lent v .reply)
+    as-check (C.refused n p) e (low h) = h
+    as-check accepted e w = few-offsets text e
 
-pub low-remark : {text before after : List ℕ} {c p : ℕ} → Answers text before after (Refused c p) (verdict text before) → p ≤ 2048
-low-remark {text} {before} a = refused-at a (verdict-low text before)
+    go : (b : Bool) → Small (answering (offsetsOf text) lent (cond b (C.refused 15 0) (checked text)) .reply)
+    go true = omega arith
+    go false = as-check (checked text) refl (checked-low text)
 
-pub low-count : {text before after : List ℕ} {k : ℕ} {v : Verdict} → Answers text before after (Count k) v → k ≤ 16
-low-count (R.counts e p r) = r .few
+pub low-remark : (text before : List ℕ) {after : List ℕ} {c p : ℕ} → leaves (Refused c p) after ≡ remarksOf text before → p ≤ 2048
+low-remark text before e = subst (λ (l : Left). Small (l .reply)) (sym e) (small text before)
+
+pub low-count : (text before : List ℕ) {after : List ℕ} {k : ℕ} → leaves (Count k) after ≡ remarksOf text before → k ≤ 16
+low-count text before e = subst (λ (l : Left). Small (l .reply)) (sym e) (small text before)

@@ -1,8 +1,10 @@
 -- Theorems about remarks.
 pub mod Marking
+pub mod Chains
+pub mod Rising
 pub mod Writing
-pub mod Accepted
 pub mod Places
 pub mod Telling
-pub mod Texts
+pub mod Exactly
 pub mod Answered
+pub mod Texts

@@ -1,7 +1,7 @@
 -- Marked functions: the calls that are still to be followed, and what follows where none is left.
 use Prim.Native.Nat.{ℕ, zero, suc, _+_, _≤_, _<_}
 use mathlib.Core.Path.{_≡_, refl, sym, ap, subst, _∙_}
-use mathlib.Core.Bool.{Bool, true, false}
+use mathlib.Core.Bool.{Bool, true, false, cond}
 use mathlib.Core.List.{List, [], _∷_, _++_, List·Memᴰ, List·Memᴰ·head, List·Memᴰ·tail, List·Memᴰ·append-cases, List·Memᴰ·eq-of-singleton, List·Memᴰ·not-nil}
 use mathlib.Core.Logic.{_⊎_, inl, inr}
 use mathlib.Core.Option.{Option, none, some}
@@ -16,8 +16,9 @@ use Rattle.text_rules.specs.Scan.{scan}
 use Rattle.text_rules.specs.Rules.{Head, functionOf}
 use Rattle.text_rules.specs.Answers.{storedHeads}
 use Rattle.text_rules.proofs.Scans.{rest, rest-more, rest-none, rest-all}
-use Rattle.text_rules.proofs.Functions.{number-below}
-use Rattle.remarks.specs.Remarks.{Call, begun, callTo, calledBy, Leads, here, further}
+use Rattle.text_rules.proofs.Functions.{length-heads}
+use Rattle.remarks.specs.Remarks.{Call, begun, callTo, calledBy}
+use Rattle.remarks.specs.Words.{Leads, here, further}
 use Rattle.remarks.specs.Steps.{unmarked, fresh, callsIn, Marks}
 
 pub clash : {b : Bool} → b ≡ true → b ≡ false → ⊥
@@ -131,31 +132,46 @@ closed l (d ∷ cs) e c m h = go (unmarked l (d .caller)) refl (unmarked l (d .c
     go false p false q f e (List·Memᴰ·tail m) = f e c m h
 
 -- a callee is one of the functions
-module _ (same : ℕ → ℕ → Bool) (l : List ℕ) (h : ℕ) where
-  called-below : (f : ℕ) (e : Event) (c : Call) → List·Memᴰ c (calledBy same (storedHeads l h) f e) → c .callee < h
-  unfolding calledBy
-  called-below f (function i) c m = absurd (List·Memᴰ·not-nil m)
-  called-below f (parameter i) c m = absurd (List·Memᴰ·not-nil m)
-  called-below f (thing d i) c m = absurd (List·Memᴰ·not-nil m)
-  called-below f opens c m = absurd (List·Memᴰ·not-nil m)
-  called-below f closes c m = absurd (List·Memᴰ·not-nil m)
-  called-below f (declares i) c m = absurd (List·Memᴰ·not-nil m)
-  called-below f (uses i) c m = absurd (List·Memᴰ·not-nil m)
-  called-below f (calls i k) c m = go (functionOf same (storedHeads l h) i) refl m
+module _ (same : ℕ → ℕ → Bool) where
+  number-below : (hs : List Head) (i g : ℕ) → functionOf same hs i ≡ some g → g < length hs
+  unfolding functionOf
+  number-below [] i g e = absurd (let z : _≡_ {A = ℕ} 0 1 = cc in omega arith)
+  number-below (x ∷ hs) i g e = go (same (x .name) i) (functionOf same hs i) (number-below hs i) e
     where
-      go : (x : Option ℕ) → functionOf same (storedHeads l h) i ≡ x → List·Memᴰ c (callTo f x) → c .callee < h
-      go none e m = absurd (List·Memᴰ·not-nil m)
-      go (some g) e m = subst (λ (x : Call). x .callee < h) (sym (List·Memᴰ·eq-of-singleton m)) (number-below same i l h g (sym e))
-  called-below f (ends i b) c m = absurd (List·Memᴰ·not-nil m)
+      go : (b : Bool) (o : Option ℕ) → ((g : ℕ) → o ≡ some g → g < length hs) → _≡_ {A = Option ℕ} (cond b (some 0) (elim o [ none ↦ none | some n ↦ some (suc n) ])) (some g) → g < suc (length hs)
+      go true o f e = let z : 0 ≡ g = cc in omega arith
+      go false none f e = absurd (let z : _≡_ {A = ℕ} 0 1 = cc in omega arith)
+      go false (some n) f e = let z : suc n ≡ g = cc in omega (arith, f n refl)
 
-  pub callee-below : (f : ℕ) (es : List Event) (c : Call) → List·Memᴰ c (scan begun (calledBy same (storedHeads l h)) f es) → c .callee < h
-  unfolding scan
-  callee-below f [] c m = absurd (List·Memᴰ·not-nil m)
-  callee-below f (e ∷ es) c m = go (List·Memᴰ·append-cases (calledBy same (storedHeads l h) f e) m) (callee-below (begun f e) es c)
-    where
-      go : List·Memᴰ c (calledBy same (storedHeads l h) f e) ⊎ List·Memᴰ c (scan begun (calledBy same (storedHeads l h)) (begun f e) es) → (List·Memᴰ c (scan begun (calledBy same (storedHeads l h)) (begun f e) es) → c .callee < h) → c .callee < h
-      go (inl m) g = called-below f e c m
-      go (inr m) g = g m
+  module _ (hs : List Head) where
+    called-below : (f : ℕ) (e : Event) (c : Call) → List·Memᴰ c (calledBy same hs f e) → c .callee < length hs
+    unfolding calledBy
+    called-below f (function i) c m = absurd (List·Memᴰ·not-nil m)
+    called-below f (parameter i) c m = absurd (List·Memᴰ·not-nil m)
+    called-below f (thing d i) c m = absurd (List·Memᴰ·not-nil m)
+    called-below f opens c m = absurd (List·Memᴰ·not-nil m)
+    called-below f closes c m = absurd (List·Memᴰ·not-nil m)
+    called-below f (declares i) c m = absurd (List·Memᴰ·not-nil m)
+    called-below f (uses i) c m = absurd (List·Memᴰ·not-nil m)
+    called-below f (calls i k) c m = go (functionOf same hs i) refl m
+      where
+        go : (x : Option ℕ) → functionOf same hs i ≡ x → List·Memᴰ c (callTo f x) → c .callee < length hs
+        go none e m = absurd (List·Memᴰ·not-nil m)
+        go (some g) e m = subst (λ (x : Call). x .callee < length hs) (sym (List·Memᴰ·eq-of-singleton m)) (number-below hs i g e)
+    called-below f (ends i b) c m = absurd (List·Memᴰ·not-nil m)
+
+    pub callee-below : (f : ℕ) (es : List Event) (c : Call) → List·Memᴰ c (scan begun (calledBy same hs) f es) → c .callee < length hs
+    unfolding scan
+    callee-below f [] c m = absurd (List·Memᴰ·not-nil m)
+    callee-below f (e ∷ es) c m = go (List·Memᴰ·append-cases (calledBy same hs f e) m) (callee-below (begun f e) es c)
+      where
+        go : List·Memᴰ c (calledBy same hs f e) ⊎ List·Memᴰ c (scan begun (calledBy same hs) (begun f e) es) → (List·Memᴰ c (scan begun (calledBy same hs) (begun f e) es) → c .callee < length hs) → c .callee < length hs
+        go (inl m) g = called-below f e c m
+        go (inr m) g = g m
+
+-- of h functions that are stored
+pub stored-below : (same : ℕ → ℕ → Bool) (events : List ℕ) (n : ℕ) (heads : List ℕ) (h : ℕ) (c : Call) → List·Memᴰ c (callsIn same events n heads h) → c .callee < h
+stored-below same events n heads h c m = subst (λ (x : ℕ). c .callee < x) (length-heads heads 0 h) (callee-below same (storedHeads heads h) 0 (stored events n) c m)
 
 -- the one that is still to be followed: it is fresh, and a function
 pub record Follows (same : ℕ → ℕ → Bool) (l events : List ℕ) (n : ℕ) (heads : List ℕ) (h g : ℕ) : Type 0 where
@@ -165,7 +181,7 @@ pub record Follows (same : ℕ → ℕ → Bool) (l events : List ℕ) (n : ℕ)
 pub follows : (same : ℕ → ℕ → Bool) (l events : List ℕ) (n : ℕ) (heads : List ℕ) (h g : ℕ) → some g ≡ fresh l (callsIn same events n heads h) → Follows same l events n heads h g
 follows same l events n heads h g e =
     let f = is-fresh l (callsIn same events n heads h) g (sym e) in
-    record { is = f; below = subst (λ (x : ℕ). x < h) (f .to) (callee-below same heads h 0 (stored events n) (f .call) (f .among)) }
+    record { is = f; below = subst (λ (x : ℕ). x < h) (f .to) (stored-below same events n heads h (f .call) (f .among)) }
 
 -- ---- how many are not marked
 

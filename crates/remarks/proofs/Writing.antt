@@ -1,107 +1,180 @@
--- The places of the names of functions that are not marked, written one after another.
-use Prim.Native.Nat.{ℕ, _+_, _≤_, _<_}
+-- The offsets of a text, one after another: which they are, that they rise, and how they are written.
+use Prim.Native.Nat.{ℕ, zero, suc, _+_, _≤_, _<_}
 use mathlib.Core.Path.{_≡_, refl, sym, ap, subst, _∙_}
-use mathlib.Core.Bool.{Bool, true, false}
-use mathlib.Core.List.{List}
+use mathlib.Core.Bool.{Bool, true, false, not}
+use mathlib.Core.List.{List, [], _∷_, _++_, append-nil, append-assoc, List·Memᴰ·head as first, List·Memᴰ·tail as later, List·Memᴰ·not-nil as nowhere}
 use native.Mathlib.Omega.{arith}
-use native.Mathlib.Decide.{decLt}
-use lib.ListN.{length, getD, set, length-set}
-use lib.Seq.{getD-set-same, getD-set-other}
-use Rattle.remarks.specs.Remarks.{Call, Leads, here, Unreached, Remarked}
-use Rattle.remarks.specs.Steps.{unmarked, Unmarked, offsetIn, Apart, Marks}
+use native.Mathlib.Numerals.{add-one}
+use native.Mathlib.Nat.{add-zero, add-suc, suc-add}
+use lib.ListN.{length, getD, set, drop, length-set, length-append}
+use lib.Seq.{drop-cons, set-at}
+use Rattle.semantics.specs.Demand.{_∈_}
+use Rattle.text_rules.specs.Rules.{Head}
+use Rattle.text_rules.specs.Answers.{headAt, storedHeads}
+use Rattle.text_rules.proofs.Functions.{left-more, left-none, left-all}
+use Rattle.text_rules.proofs.Functions as F
+use Rattle.remarks.specs.Remarks.{Call, chained, offsetsFrom}
+use Rattle.remarks.specs.Steps.{unmarked, Marks, offsetIn, WroteOffsets}
 use Rattle.remarks.proofs.Marking.{clash}
+use Rattle.remarks.proofs.Chains.{unmarked-so}
+use Rattle.remarks.proofs.Rising.{Rises, none, more, names}
 
--- two names for what belongs
-pub same-belong : {B D : ℕ → Type 0} {off : ℕ → ℕ} {before after : List ℕ} {k : ℕ} → ((g : ℕ) → B g → D g) → ((g : ℕ) → D g → B g) → Remarked B off before after k → Remarked D off before after k
-same-belong {B} {D} {off} {before} {after} {k} f b r = record { all = λ g d. r .all g (b g d); only = λ j h. one j (r .only j h); once = r .once; kept = r .kept; size = r .size; within = r .within; few = r .few }
-  where
-    one : (j : ℕ) → (g : ℕ) × B g × (getD after j 0 ≡ off g) → (g : ℕ) × D g × (getD after j 0 ≡ off g)
-    one j w = (w .0, f (w .0) (w .1), w .2)
+-- one function
+module _ (told : ℕ → Bool) (ps : List ℕ) (g : ℕ) (h : Head) (hs : List Head) where
+  opened : {b : Bool} → told g ≡ b → offsetsFrom told ps g (h ∷ hs) ≡ elim b [ true ↦ getD ps (h .name) 0 ∷ offsetsFrom told ps (suc g) hs | false ↦ offsetsFrom told ps (suc g) hs ]
+  unfolding offsetsFrom
+  opened e = ap (λ (b : Bool). elim b [ true ↦ getD ps (h .name) 0 ∷ offsetsFrom told ps (suc g) hs | false ↦ offsetsFrom told ps (suc g) hs ]) e
 
--- the first g functions are gone through, and k of them written
+-- two tests that agree
+pub same-told : (told other : ℕ → Bool) (ps : List ℕ) → ((g : ℕ) → told g ≡ other g) → (g : ℕ) (hs : List Head) → offsetsFrom told ps g hs ≡ offsetsFrom other ps g hs
+unfolding offsetsFrom
+same-told told other ps e g [] = refl
+same-told told other ps e g (h ∷ hs) =
+    opened told ps g h hs (e g)
+    ∙ ap (λ (l : List ℕ). elim (other g) [ true ↦ getD ps (h .name) 0 ∷ l | false ↦ l ]) (same-told told other ps e (suc g) hs)
+
+-- ---- which they are
+
+-- o is the place of the name of function i of hs, and function g + i is to be told
+pub record ToldAt (told : ℕ → Bool) (ps : List ℕ) (g : ℕ) (hs : List Head) (o : ℕ) : Type 0 where
+  pub number : ℕ
+  pub inside : number < length hs
+  pub holds : told (g + number) ≡ true
+  pub stands : o ≡ getD ps (getD (names hs) number 0) 0
+
+module _ (told : ℕ → Bool) (ps : List ℕ) where
+  pub few : (g : ℕ) (hs : List Head) → length (offsetsFrom told ps g hs) ≤ length hs
+  unfolding offsetsFrom
+  few g [] = omega arith
+  few g (h ∷ hs) = go (told g) (few (suc g) hs)
+    where
+      go : (b : Bool) → length (offsetsFrom told ps (suc g) hs) ≤ length hs
+          → length {A = ℕ} (elim b [ true ↦ getD ps (h .name) 0 ∷ offsetsFrom told ps (suc g) hs | false ↦ offsetsFrom told ps (suc g) hs ]) ≤ suc (length hs)
+      go true p = omega (arith, p)
+      go false p = omega (arith, p)
+
+  next-told : (g : ℕ) (h : Head) (hs : List Head) (o : ℕ) → ToldAt told ps (suc g) hs o → ToldAt told ps g (h ∷ hs) o
+  next-told g h hs o t =
+      record {
+        number = suc (t .number);
+        inside = omega (arith, t .inside);
+        holds = subst (λ (n : ℕ). told n ≡ true) (suc-add g (t .number) ∙ sym (add-suc g (t .number))) (t .holds);
+        stands = t .stands;
+      }
+
+  pub only-told : (g : ℕ) (hs : List Head) (o : ℕ) → o ∈ offsetsFrom told ps g hs → ToldAt told ps g hs o
+  unfolding offsetsFrom
+  only-told g [] o m = absurd (nowhere m)
+  only-told g (h ∷ hs) o m = go (told g) refl (only-told (suc g) hs o) m
+    where
+      go : (b : Bool) → told g ≡ b → (o ∈ offsetsFrom told ps (suc g) hs → ToldAt told ps (suc g) hs o)
+          → o ∈ elim b [ true ↦ getD ps (h .name) 0 ∷ offsetsFrom told ps (suc g) hs | false ↦ offsetsFrom told ps (suc g) hs ] → ToldAt told ps g (h ∷ hs) o
+      go true p r (first e) = record { number = 0; inside = omega arith; holds = subst (λ (n : ℕ). told n ≡ true) (sym (add-zero g)) p; stands = e }
+      go true p r (later n) = next-told g h hs o (r n)
+      go false p r n = next-told g h hs o (r n)
+
+  pub all-told : (g : ℕ) (hs : List Head) (i : ℕ) → i < length hs → told (g + i) ≡ true → getD ps (getD (names hs) i 0) 0 ∈ offsetsFrom told ps g hs
+  unfolding offsetsFrom
+  all-told g [] i h e = absurd (omega (arith, h))
+  all-told g (x ∷ hs) zero h e = go (told g) (subst (λ (n : ℕ). told n ≡ true) (add-zero g) e)
+    where
+      go : (b : Bool) → b ≡ true → getD ps (x .name) 0 ∈ elim b [ true ↦ getD ps (x .name) 0 ∷ offsetsFrom told ps (suc g) hs | false ↦ offsetsFrom told ps (suc g) hs ]
+      go true p = first refl
+      go false p = absurd (clash p refl)
+  all-told g (x ∷ hs) (suc i) h e = go (told g) (all-told (suc g) hs i (omega (arith, h)) (subst (λ (n : ℕ). told n ≡ true) (add-suc g i ∙ sym (suc-add g i)) e))
+    where
+      go : (b : Bool) → getD ps (getD (names hs) i 0) 0 ∈ offsetsFrom told ps (suc g) hs
+          → getD ps (getD (names hs) i 0) 0 ∈ elim b [ true ↦ getD ps (x .name) 0 ∷ offsetsFrom told ps (suc g) hs | false ↦ offsetsFrom told ps (suc g) hs ]
+      go true m = later m
+      go false m = m
+
+  -- ---- they rise, where the names do, and the places of n tokens
+
+  module _ (n hi : ℕ) (rise : (i j : ℕ) → i < j → j < n → getD ps i 0 < getD ps j 0) (low : (i : ℕ) → i < n → getD ps i 0 < hi) where
+    pub offsets-rise : {from : ℕ} (lo g : ℕ) (hs : List Head) → Rises from (names hs) n → ((i : ℕ) → from ≤ i → i < n → lo ≤ getD ps i 0) → Rises lo (offsetsFrom told ps g hs) hi
+    unfolding offsetsFrom
+    offsets-rise lo g [] r f = none
+    offsets-rise lo g (h ∷ hs) (more a b r) f =
+        go (told g)
+        (offsets-rise (suc (getD ps (h .name) 0)) (suc g) hs r (λ i p q. omega (arith, rise (h .name) i (omega (arith, p)) q)))
+        (offsets-rise lo (suc g) hs r (λ i p q. f i (omega (arith, a, p)) q))
+      where
+        go : (c : Bool) → Rises (suc (getD ps (h .name) 0)) (offsetsFrom told ps (suc g) hs) hi → Rises lo (offsetsFrom told ps (suc g) hs) hi
+            → Rises lo (elim c [ true ↦ getD ps (h .name) 0 ∷ offsetsFrom told ps (suc g) hs | false ↦ offsetsFrom told ps (suc g) hs ]) hi
+        go true x y = more (f (h .name) a b) (low (h .name) b) x
+        go false x y = y
+
+-- ---- how they are written
+
+-- the first g of h functions are gone through: what was written for them, k offsets, and what is still to be written
 pub record Written (ps heads : List ℕ) (h : ℕ) (l before after : List ℕ) (k g : ℕ) : Type 0 where
   pub inside : g ≤ h
   pub few : k ≤ g
-  pub noted : Remarked (Unmarked l g) (offsetIn ps heads) before after k
+  pub size : length after ≡ length before
+  pub front : List ℕ
+  pub rest : front ++ offsetsFrom (unmarked l) ps g (F.left heads h g) ≡ offsetsFrom (unmarked l) ps 0 (storedHeads heads h)
+  pub wrote : WroteOffsets front before after k
 
-pub written-start : (ps heads : List ℕ) (h : ℕ) (l before : List ℕ) → Written ps heads h l before before 0 0
-written-start ps heads h l before = record {
-  inside = omega arith;
-  few = omega arith;
-  noted = record { all = λ g b. absurd (omega (arith, b .function)); only = λ j h. absurd (omega (arith, h)); once = λ i j h. absurd (omega (arith, h)); kept = λ j h. refl; size = refl; within = omega arith; few = omega arith };
-}
+module _ (ps heads : List ℕ) (h : ℕ) (l : List ℕ) where
+  pub written-start : (before : List ℕ) → Written ps heads h l before before 0 0
+  written-start before =
+      record { inside = omega arith; few = omega arith; size = refl; front = []; rest = ap (offsetsFrom (unmarked l) ps 0) (left-all heads h); wrote = record { counts = refl; words = refl } }
 
-below-or : {l : List ℕ} {g x : ℕ} → Unmarked l (g + 1) x → Dec (x < g) → (x ≡ g → Unmarked l g x) → Unmarked l g x
-below-or u (yes p) f = record { function = p; free = u .free }
-below-or u (no p) f = f (omega (arith, u .function, p))
+  passed-over : (g : ℕ) → g < h → unmarked l g ≡ false → offsetsFrom (unmarked l) ps g (F.left heads h g) ≡ offsetsFrom (unmarked l) ps (g + 1) (F.left heads h (g + 1))
+  passed-over g lt e =
+      ap (offsetsFrom (unmarked l) ps g) (left-more heads h g lt)
+      ∙ opened (unmarked l) ps g (headAt heads g) (F.left heads h (g + 1)) e
+      ∙ ap (λ (i : ℕ). offsetsFrom (unmarked l) ps i (F.left heads h (g + 1))) (sym (add-one g))
+
+  put-down : (g : ℕ) → g < h → unmarked l g ≡ true → offsetsFrom (unmarked l) ps g (F.left heads h g) ≡ offsetIn ps heads g ∷ offsetsFrom (unmarked l) ps (g + 1) (F.left heads h (g + 1))
+  put-down g lt e =
+      ap (offsetsFrom (unmarked l) ps g) (left-more heads h g lt)
+      ∙ opened (unmarked l) ps g (headAt heads g) (F.left heads h (g + 1)) e
+      ∙ ap (λ (i : ℕ). offsetIn ps heads g ∷ offsetsFrom (unmarked l) ps i (F.left heads h (g + 1))) (sym (add-one g))
 
 pub written-pass : {ps heads l before after : List ℕ} {h k g : ℕ} → Written ps heads h l before after k g → g < h → unmarked l g ≡ false → Written ps heads h l before after k (g + 1)
-written-pass {l = l} {g = g} w lt m = record {
-  inside = omega arith;
-  few = omega (arith, w .few);
-  noted = same-belong (λ x u. record { function = omega (arith, u .function); free = u .free }) (λ x u. below-or u (decLt x g) (λ e. absurd (clash (subst (λ (y : ℕ). unmarked l y ≡ true) e (u .free)) m))) (w .noted);
-}
+written-pass {ps} {heads} {l} {before} {after} {h} {k} {g} w lt e =
+    record { inside = omega arith; few = omega (arith, w .few); size = w .size; front = w .front; rest = ap (λ (xs : List ℕ). w .front ++ xs) (sym (passed-over ps heads h l g lt e)) ∙ w .rest; wrote = w .wrote }
 
-module _ {ps heads l before after : List ℕ} {h k g : ℕ} (w : Written ps heads h l before after k g) (lt : g < h) (m : unmarked l g ≡ true) (a : Apart ps heads h) (room : k < length after) where
-  next : List ℕ
-  next = set after k (offsetIn ps heads g)
+-- one word more
+one-more : {front before after : List ℕ} {k : ℕ} (o : ℕ) → WroteOffsets front before after k → k < length before → WroteOffsets (front ++ o ∷ []) before (set after k o) (k + 1)
+one-more {front} {before} {after} {k} o w room =
+    let n : length (front ++ o ∷ []) ≡ suc k = length-append front (o ∷ []) ∙ omega (arith, w .counts) in
+    let d : drop (length front) before ≡ getD before k 0 ∷ drop (suc k) before = ap (λ (i : ℕ). drop i before) (sym (w .counts)) ∙ drop-cons before k 0 room in
+    record {
+      counts = omega (arith, n);
+      words =
+          ap (λ (x : List ℕ). set x k o) (w .words ∙ ap (λ (x : List ℕ). front ++ x) d)
+          ∙ set-at front (getD before k 0) (drop (suc k) before) o k (sym (w .counts))
+          ∙ sym (append-assoc front (o ∷ []) (drop (suc k) before))
+          ∙ ap (λ (i : ℕ). (front ++ o ∷ []) ++ drop i before) (sym n);
+    }
 
-  there : (j : ℕ) → j < k → getD next j 0 ≡ getD after j 0
-  unfolding next
-  there j h = getD-set-other after k j (offsetIn ps heads g) 0 (λ e. omega (arith, h, e))
+pub written-add : {ps heads l before after after′ : List ℕ} {h k g : ℕ} → Written ps heads h l before after k g → g < h → unmarked l g ≡ true → k < length before
+    → after′ ≡ set after k (offsetIn ps heads g) → Written ps heads h l before after′ (k + 1) (g + 1)
+written-add {ps} {heads} {l} {before} {after} {after′} {h} {k} {g} w lt e room q =
+    let o = offsetIn ps heads g in
+    record {
+      inside = omega arith;
+      few = omega (arith, w .few);
+      size = ap length q ∙ length-set after k o ∙ w .size;
+      front = w .front ++ o ∷ [];
+      rest =
+          append-assoc (w .front) (o ∷ []) (offsetsFrom (unmarked l) ps (g + 1) (F.left heads h (g + 1)))
+          ∙ ap (λ (xs : List ℕ). w .front ++ xs) (sym (put-down ps heads h l g lt e))
+          ∙ w .rest;
+      wrote = subst (λ (x : List ℕ). WroteOffsets (w .front ++ o ∷ []) before x (k + 1)) (sym q) (one-more o (w .wrote) room);
+    }
 
-  last : getD next k 0 ≡ offsetIn ps heads g
-  unfolding next
-  last = getD-set-same after k (offsetIn ps heads g) 0 room
+pub written-end : {ps heads l before after : List ℕ} {h k g : ℕ} → Written ps heads h l before after k g → h ≤ g → WroteOffsets (offsetsFrom (unmarked l) ps 0 (storedHeads heads h)) before after k
+unfolding offsetsFrom
+written-end {ps} {heads} {l} {before} {after} {h} {k} {g} w le =
+    subst (λ (os : List ℕ). WroteOffsets os before after k)
+    (sym (append-nil (w .front)) ∙ ap (λ (xs : List ℕ). w .front ++ xs) (sym (ap (offsetsFrom (unmarked l) ps g) (left-none heads h g le))) ∙ w .rest)
+    (w .wrote)
 
-  all-next : (x : ℕ) → Unmarked l (g + 1) x → Dec (x < g) → (j : ℕ) × (j < k + 1) × (getD next j 0 ≡ offsetIn ps heads x)
-  all-next x u (yes p) = let r = w .noted .all x (record { function = p; free = u .free }) in (r .0, omega (arith, r .1), there (r .0) (r .1) ∙ r .2)
-  all-next x u (no p) = let e : g ≡ x = omega (arith, u .function, p) in (k, omega arith, last ∙ ap (offsetIn ps heads) e)
-
-  only-next : (j : ℕ) → j < k + 1 → Dec (j < k) → (x : ℕ) × Unmarked l (g + 1) x × (getD next j 0 ≡ offsetIn ps heads x)
-  only-next j q (yes p) = let r = w .noted .only j p in (r .0, record { function = omega (arith, r .1 .function); free = r .1 .free }, there j p ∙ r .2)
-  only-next j q (no p) = let e : j ≡ k = omega (arith, q, p) in (g, record { function = omega arith; free = m }, ap (λ (i : ℕ). getD next i 0) e ∙ last)
-
-  -- an earlier one is another one
-  earlier : (j : ℕ) → j < k → getD next j 0 ≡ offsetIn ps heads g → ⊥
-  earlier j p e =
-      let r = w .noted .only j p in
-      let z : r .0 ≡ g = a .differ (r .0) g (omega (arith, r .1 .function)) lt (sym (there j p ∙ r .2) ∙ e) in
-      omega (arith, r .1 .function, z)
-
-  once-next : (i j : ℕ) → i < k + 1 → j < k + 1 → getD next i 0 ≡ getD next j 0 → Dec (i < k) → Dec (j < k) → i ≡ j
-  once-next i j p q e (yes x) (yes y) = w .noted .once i j x y (sym (there i x) ∙ e ∙ there j y)
-  once-next i j p q e (yes x) (no y) = absurd (earlier i x (e ∙ ap (λ (v : ℕ). getD next v 0) (omega (arith, q, y)) ∙ last))
-  once-next i j p q e (no x) (yes y) = absurd (earlier j y (sym e ∙ ap (λ (v : ℕ). getD next v 0) (omega (arith, p, x)) ∙ last))
-  once-next i j p q e (no x) (no y) = omega (arith, p, q, x, y)
-
-  noted-next : Remarked (Unmarked l (g + 1)) (offsetIn ps heads) before next (k + 1)
-  unfolding next
-  noted-next = record {
-    all = λ x u. all-next x u (decLt x g);
-    only = λ j q. only-next j q (decLt j k);
-    once = λ i j p q e. once-next i j p q e (decLt i k) (decLt j k);
-    kept = λ j q. getD-set-other after k j (offsetIn ps heads g) 0 (λ e. omega (arith, q, e)) ∙ w .noted .kept j (omega (arith, q));
-    size = length-set after k (offsetIn ps heads g) ∙ w .noted .size;
-    within = omega (arith, room, length-set after k (offsetIn ps heads g));
-    few = omega (arith, w .few, lt, a .most);
-  }
-
-  pub written-add : {after′ : List ℕ} → after′ ≡ set after k (offsetIn ps heads g) → Written ps heads h l before after′ (k + 1) (g + 1)
-  unfolding next
-  written-add e = record { inside = omega arith; few = omega (arith, w .few); noted = rw e noted-next }
-
-pub written-end : {ps heads l before after : List ℕ} {h k g : ℕ} → Written ps heads h l before after k g → h ≤ g → Remarked (Unmarked l h) (offsetIn ps heads) before after k
-written-end {ps} {heads} {l} {before} {after} {h} {k} w le = subst (λ (x : ℕ). Remarked (Unmarked l x) (offsetIn ps heads) before after k) (omega (arith, w .inside)) (w .noted)
-
--- what is not marked is what no call leads to
-pub unreached : {cs : List Call} {main h : ℕ} {l : List ℕ} {off : ℕ → ℕ} {before after : List ℕ} {k : ℕ} → Marks cs main l → Remarked (Unmarked l h) off before after k → Remarked (Unreached cs h main) off before after k
-unreached {cs} {main} {h} {l} m r =
-    same-belong
-    (λ g u. record { function = u .function; other = λ e. clash (u .free) (m .every g (subst (λ (x : ℕ). Leads cs main x) (sym e) here)); never = λ p. clash (u .free) (m .every g p) })
-    (λ g u. record { function = u .function; free = go g (unmarked l g) refl (u .never) })
-    r
-  where
-    go : (g : ℕ) (b : Bool) → unmarked l g ≡ b → (Leads cs main g → ⊥) → b ≡ true
-    go g true e f = refl
-    go g false e f = absurd (f (m .led g e))
+-- what is not marked is what no chain of calls leads to
+pub unreached : {cs : List Call} {main k : ℕ} {l before after : List ℕ} (h : ℕ) (ps : List ℕ) (hs : List Head) → ((c : Call) → c ∈ cs → c .callee < h) → main < h → Marks cs main l
+    → WroteOffsets (offsetsFrom (unmarked l) ps 0 hs) before after k → WroteOffsets (offsetsFrom (λ g. not (chained cs h main g)) ps 0 hs) before after k
+unreached {cs} {main} {k} {l} {before} {after} h ps hs b m w r =
+    subst (λ (os : List ℕ). WroteOffsets os before after k) (same-told (unmarked l) (λ g. not (chained cs h main g)) ps (unmarked-so cs h main b m l w) 0 hs) r

@@ -1,3 +1,4 @@
 -- Remarks.
 pub mod Remarks
+pub mod Words
 pub mod Steps

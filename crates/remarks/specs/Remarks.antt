@@ -1,23 +1,26 @@
--- Remarks (document 01): the functions but main that no chain of calls in the text leads to from main. The order in which they are written is left open.
-use Prim.Native.Nat.{ℕ, suc, _-_, _<_, _≤_}
-use mathlib.Core.Path.{_≡_}
-use mathlib.Core.Bool.{Bool, cond}
-use mathlib.Core.List.{List, [], _∷_, map, List·Memᴰ}
+-- Remarks (document 01, with slip 4 of document 02): what it answers, and every word of the lent slice at exit, for every text and every slice. Words says the same without computing it, and proofs/Exactly that the two agree.
+use Prim.Native.Nat.{ℕ, zero, suc, _-_}
+use mathlib.Core.Bool.{Bool, true, false, cond, not, _&&_, _||_}
+use mathlib.Core.List.{List, [], _∷_, _++_, map}
 use mathlib.Core.Option.{Option, none, some}
-use lib.ListN.{length, getD}
-use lib.Dec.{ltb}
+use lib.ListN.{length, getD, drop}
+use lib.Dec.{eqb, ltb}
+use Rattle.lexer.specs.Lex as L
+use Rattle.lexer.specs.Lex.{lexed}
+use Rattle.syntax.specs.Ast as A
+use Rattle.syntax.specs.Ast.{Ast}
+use Rattle.syntax.specs.Abstract.{ast}
+use Rattle.grammar.specs.Parse.{parsed, ok, bad}
 use Rattle.events.specs.Event.{Event, events, function, parameter, thing, opens, closes, declares, uses, calls, ends}
 use Rattle.text_rules.specs.Scan.{scan}
 use Rattle.text_rules.specs.Rules.{Head, heads, functionOf}
 use Rattle.text_rules.specs.Resolve.{mainOf}
-use Rattle.text_rules.specs.Spelling.{sameName, isMain}
-use Rattle.syntax.specs.Tree.{Tree, prog}
-use Rattle.syntax.specs.Abstract.{ast}
-use Rattle.lexer.specs.Lex.{Token, lexed, tokens}
-use Rattle.grammar.specs.Parse.{parsed, ok}
-use Rattle.checker.specs.Check.{Verdict, accepted, refused, checked, kinds, places, values}
+use Rattle.checker.specs.Check as C
+use Rattle.checker.specs.Check.{Verdict, accepted, checked, kinds, Source, sourceOf, sameIn, mainIn}
 use Rattle.remarks.specs.declared.Answer.{Answer}
 use Rattle.remarks.specs.declared.Answer.the-variants.{Refused, Count}
+
+-- ---- the calls in a text
 
 -- a function's number and that of one that it calls
 pub record Call : Type 0 where
@@ -58,52 +61,68 @@ module _ (same : ℕ → ℕ → Bool) where
   abbrev pub callsOf : List Event → List Call
   callsOf es = scan begun (calledBy (heads es)) 0 es
 
--- a chain of calls leads from the function f to another
-pub data Leads (cs : List Call) (f : ℕ) : ℕ → Type 0 where
-  here : Leads cs f f
-  further : {c : Call} → Leads cs f (c .caller) → List·Memᴰ c cs → Leads cs f (c .callee)
+-- ---- chains of calls
 
--- the function g of n functions is but main, and no chain of calls leads to it from main
-pub record Unreached (cs : List Call) (n main g : ℕ) : Type 0 where
-  pub function : g < n
-  pub other : g ≡ main → ⊥
-  pub never : Leads cs main g → ⊥
+-- function f calls function g
+unfoldable pub isCall : List Call → ℕ → ℕ → Bool
+isCall [] f g = false
+isCall (c ∷ cs) f g = (eqb (c .caller) f && eqb (c .callee) g) || isCall cs f g
 
--- what stands in the first `count` places: the offset of each function that belongs, once, and no other. `offset g` is the place of the name of function g.
--- The order is left open.
-pub record Remarked (Remarkable : ℕ → Type 0) (offset : ℕ → ℕ) (before after : List ℕ) (count : ℕ) : Type 0 where
-  pub all : (g : ℕ) → Remarkable g → (k : ℕ) × (k < count) × (getD after k 0 ≡ offset g)
-  pub only : (k : ℕ) → k < count → (g : ℕ) × Remarkable g × (getD after k 0 ≡ offset g)
-  pub once : (j k : ℕ) → j < count → k < count → getD after j 0 ≡ getD after k 0 → j ≡ k
-  pub kept : (k : ℕ) → count ≤ k → getD after k 0 ≡ getD before k 0
-  pub size : length after ≡ length before
-  pub within : count ≤ length after
-  pub few : count ≤ 16
+-- a chain of calls leads from f to g, and each function between the two has a number below k: with k too, it leaves k out, or leads to k and from there on
+unfoldable pub chained : List Call → ℕ → ℕ → ℕ → Bool
+chained cs zero f g = eqb f g || isCall cs f g
+chained cs (suc k) f g = chained cs k f g || (chained cs k f k && chained cs k k g)
+
+-- ---- the offsets
+
+-- the places of the names of those of the functions hs, numbered from g on, that are to be told, in the order of the text; ps are the places of the tokens
+unfoldable pub offsetsFrom : (told : ℕ → Bool) → List ℕ → ℕ → List Head → List ℕ
+offsetsFrom told ps g [] = []
+offsetsFrom told ps g (h ∷ hs) = elim (told g) [ true ↦ getD ps (h .name) 0 ∷ offsetsFrom told ps (suc g) hs | false ↦ offsetsFrom told ps (suc g) hs ]
+
+-- of a text with the tree p: those that no chain of calls leads to from main
+unfoldable pub offsetsIn : Source → Ast A.prog → List ℕ
+offsetsIn s p =
+    let es = events p in
+    let hs = heads es in
+    offsetsFrom (λ g. not (chained (callsOf (sameIn s) es) (length hs) (mainOf (mainIn s) hs) g)) (s .places) 0 hs
+
+-- of a text; one without tokens or tree is refused by check, and is given none here
+unfoldable pub offsetsOf : List ℕ → List ℕ
+offsetsOf text = elim (lexed text) [ L.refused n p ↦ [] | L.tokens ts ↦ elim (parsed (kinds ts)) [ bad m ↦ [] | ok t m ↦ offsetsIn (sourceOf text ts) (ast t) ] ]
 
 -- ---- the operation
 
+-- a refusal, by number and place; or "the count"
+pub data Reply : Type 0 where
+  refused : (number place : ℕ) → Reply
+  counted : ℕ → Reply
+
+-- the answer, and the words of the lent slice at exit
+pub record Left : Type 0 where
+  pub reply : Reply
+  pub words : List ℕ
+
+abbrev pub left : Reply → List ℕ → Left
+left r words = record { reply = r; words = words }
+
 -- "Remarks refuses 15 if the lent u16 slice has under 16 places (place 0), then as check."
-abbrev pub verdict : (text offsets : List ℕ) → Verdict
-verdict text offsets = cond (ltb (length offsets) 16) (refused 15 0) (checked text)
+abbrev pub verdict : (text lent : List ℕ) → Verdict
+verdict text lent = cond (ltb (length lent) 16) (C.refused 15 0) (checked text)
 
--- the place of the name of function g; ps are the places of the tokens
-abbrev pub nameOffset : List ℕ → List Head → ℕ → ℕ
-nameOffset ps hs g = getD ps (getD (map (λ (h : Head). h .name) hs) g 0) 0
+-- a refusal writes nothing. Else the offsets os stand in "the first places", and "Other places keep their words."
+abbrev pub answering : (os lent : List ℕ) → Verdict → Left
+answering os lent (C.refused n p) = left (refused n p) lent
+answering os lent accepted = left (counted (length os)) (os ++ drop (length os) lent)
 
--- the function g of a text with the tokens ts and the tree t is but main, and no chain of calls in the text leads to it from main
-abbrev pub Remarkable : List ℕ → List Token → Tree prog → ℕ → Type 0
-Remarkable text ts t g =
-    Unreached
-    (callsOf (sameName text (places ts) (values ts)) (events (ast t)))
-    (length (heads (events (ast t))))
-    (mainOf (isMain text (places ts) (values ts)) (heads (events (ast t))))
-    g
+unfoldable pub remarksOf : (text lent : List ℕ) → Left
+remarksOf text lent = answering (offsetsOf text) lent (verdict text lent)
 
--- "Else it writes the name offset of each function but main that no chain of calls in the text leads to from main, each once, in any order, into the first places,
--- and answers the count. Other places keep their words."
--- A refusal writes nothing.
-pub data Answers (text before after : List ℕ) : Answer → Verdict → Type 0 where
-  refuses : {n p : ℕ} → after ≡ before → Answers text before after (Refused n p) (refused n p)
-  counts : {n m : ℕ} {ts : List Token} {t : Tree prog} → lexed text ≡ tokens ts → parsed (kinds ts) ≡ ok t m
-      → Remarked (Remarkable text ts t) (nameOffset (places ts) (heads (events (ast t)))) before after n
-      → Answers text before after (Count n) accepted
+-- the answer of the code, in document 01's words: number and place; or the count
+abbrev pub replyOf : Answer → Reply
+replyOf (Refused n p) = refused n p
+replyOf (Count n) = counted n
+
+-- the answer of the code, with the words of the slice at exit
+abbrev pub leaves : Answer → List ℕ → Left
+leaves r words = left (replyOf r) words

@@ -7,8 +7,9 @@ ghost use Rattle.events.specs.Read.{asEvent};
 ghost use Rattle.text_rules.specs.Answers.{found, storedHeads};
 ghost use Rattle.checker.specs.Check.{checked};
 ghost use Rattle.checker.specs.Analysis.{Slices};
-ghost use Rattle.remarks.specs.Remarks.{begun, callTo, calledBy, Remarked, Answers, verdict};
-ghost use Rattle.remarks.specs.Steps.{fresh, callsIn, Marks, Unmarked, offsetIn, Apart, Fair, Lists};
+ghost use Rattle.events.specs.Stored.{stored};
+ghost use Rattle.remarks.specs.Remarks.{begun, callTo, calledBy, offsetsFrom, offsetsOf, answering, remarksOf, leaves};
+ghost use Rattle.remarks.specs.Steps.{unmarked, fresh, callsIn, Marks, offsetIn, Fits, Fair, WroteOffsets, offsetsBy};
 use checker::Analysed;
 use checker::sizes;
 use events::event::Event;
@@ -147,16 +148,24 @@ fn put(offsets: &mut [u16], k: usize, place: usize)
     offsets[k] = place as u16;
 }
 
-// Writes the places of the names of those of h functions that are not reached, and answers how many they are.
+// The place of the name of function g of h.
+fn name_place(places: &[u32], heads: &[u32], h: usize, g: usize) -> usize
+    requires { ⌜ (2 * h ≤ length (now heads)) × Fits (now places) (now heads) h × (g < h) ⌝ }
+    ensures { λ r. ⌜ (r ≡ offsetIn (now (places .entry)) (now (heads .entry)) g) × (r < 65536) ⌝ }
+{
+    word(places, word(heads, 2 * g))
+}
+
+// Writes the places of the names of those of h functions that are not reached, in the order of the text, and answers how many they are.
 fn write(places: &[u32], heads: &[u32], h: usize, reached: &[u32], offsets: &mut [u16]) -> usize
-    requires { ⌜ (2 * h ≤ length (now heads)) × (h ≤ length (now offsets)) × Apart (now places) (now heads) h ⌝ }
-    ensures { λ r. ⌜ Remarked (Unmarked (now (reached .entry)) h) (offsetIn (now (places .entry)) (now (heads .entry))) (now (offsets .entry)) (now (offsets .exit)) r ⌝ }
+    requires { ⌜ (2 * h ≤ length (now heads)) × (h ≤ length (now offsets)) × Fits (now places) (now heads) h ⌝ }
+    ensures { λ r. ⌜ WroteOffsets (offsetsFrom (unmarked (now (reached .entry))) (now (places .entry)) 0 (storedHeads (now (heads .entry)) h)) (now (offsets .entry)) (now (offsets .exit)) r ⌝ }
 {
     let mut count = 0;
     let mut g = 0;
     while g < h {
         if word(reached, g) == 0 {
-            put(offsets, count, word(places, word(heads, 2 * g)));
+            put(offsets, count, name_place(places, heads, h, g));
             count += 1;
         }
         g += 1;
@@ -176,7 +185,8 @@ fn list(
     offsets: &mut [u16],
 ) -> usize
     requires { ⌜ Fair (now text) (now places) (now values) (now events) n (now heads) h × (16 ≤ length (now offsets)) ⌝ }
-    ensures { λ r. ⌜ Lists (now (text .entry)) (now (places .entry)) (now (values .entry)) (now (events .entry)) n (now (heads .entry)) h (now (offsets .entry)) (now (offsets .exit)) r ⌝ }
+    ensures { λ r. ⌜ WroteOffsets (offsetsBy (now (text .entry)) (now (places .entry)) (now (values .entry)) (stored (now (events .entry)) n) (storedHeads (now (heads .entry)) h) h)
+        (now (offsets .entry)) (now (offsets .exit)) r ⌝ }
 {
     let mut reached = [0u32; 16];
     let main = main_number(text, places, values, heads, h);
@@ -208,7 +218,7 @@ fn remark(
     offsets: &mut [u16],
 ) -> Answer
     requires { ⌜ Slices (now kinds) (now places) (now values) (now nodes) (now events) (now heads) (now scope) (now slots) × (16 ≤ length (now offsets)) ⌝ }
-    ensures { λ r. ⌜ Answers (now (text .entry)) (now (offsets .entry)) (now (offsets .exit)) r (checked (now (text .entry))) ⌝ }
+    ensures { λ r. ⌜ leaves r (now (offsets .exit)) ≡ answering (offsetsOf (now (text .entry))) (now (offsets .entry)) (checked (now (text .entry))) ⌝ }
 {
     let analysed = checker::analyse(
         text,
@@ -244,9 +254,9 @@ fn remark(
     }
 }
 
-// Writes the offset of the name of each function but main that no chain of calls leads to from main, and answers how many there are; or refuses.
+// Writes the offset of the name of each function but main that no chain of calls leads to from main, in ascending order, and answers how many there are; or refuses.
 pub fn remarks(text: &[u8], offsets: &mut [u16]) -> Answer
-    ensures { λ r. ⌜ Answers (now (text .entry)) (now (offsets .entry)) (now (offsets .exit)) r (verdict (now (text .entry)) (now (offsets .entry))) ⌝ }
+    ensures { λ r. ⌜ leaves r (now (offsets .exit)) ≡ remarksOf (now (text .entry)) (now (offsets .entry)) ⌝ }
 {
     if offsets.len() < 16 {
         return Answer::Refused(15, 0);

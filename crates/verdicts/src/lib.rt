@@ -1,5 +1,6 @@
 // What is said of a text that is only checked, as a line of bytes.
-ghost use Rattle.verdicts.specs.Line.{Says};
+ghost use Rattle.printing.specs.Written.{Wrote};
+ghost use Rattle.verdicts.specs.Line.{lineOf};
 use remarks::Answer;
 
 // `accepted`, sixteen offsets of at most 12 bytes with their blanks, and LF. A refusal is shorter.
@@ -7,7 +8,7 @@ pub const LINE: usize = 201;
 
 // The line of a text, at the front of out; the answer is how many bytes it has.
 pub fn verdict(text: &[u8], out: &mut [u8; LINE]) -> usize
-    ensures { λ r. ⌜ Says (now (text .entry)) (now (out .entry)) (now (out .exit)) r ⌝ }
+    ensures { λ r. ⌜ Wrote (now (out .entry)) (lineOf (now (text .entry))) (now (out .exit)) r ⌝ }
 {
     let mut offsets = [0u16; 16];
     match remarks::remarks(text, &mut offsets) {

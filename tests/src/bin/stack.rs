@@ -28,11 +28,12 @@ fn main() {
         with_stack(STACK, || linked::check(text, &mut answer));
         assert_eq!(answer, expected, "check, {name}");
 
-        let count = with_room(|| remarks(text, 16)).map_or(0, |found| found.len() as u32);
+        let found = with_room(|| remarks(text, 16)).unwrap_or_default();
         let mut answer = [u32::MAX; 3];
         let mut offsets = [0; 16];
         with_stack(STACK, || linked::remarks(text, &mut offsets, &mut answer));
-        assert_eq!(answer, [expected[0], expected[1], count], "remarks, {name}");
+        assert_eq!(answer, [expected[0], expected[1], found.len() as u32], "remarks, {name}");
+        assert_eq!(offsets[..found.len()], found, "remarks, {name}");
 
         if linked::LISTS {
             lists(name, text);

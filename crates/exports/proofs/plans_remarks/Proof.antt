@@ -1,8 +1,9 @@
 use native.Mathlib.Omega.{arith}
+use denote.Ref.{now}
 use lib.ListN.{length-set}
-use mathlib.Core.Path.{refl}
 use Rattle.remarks.proofs.Answered.{low-remark, low-count}
 use Rattle.remarks.specs.declared.Answer.the-variants as A
+use Rattle.exports.proofs.Remarks.{remarks-short, remarks-out}
 use borrow.Author.Needs.{needs}
 use Rattle.exports.proofs.plans_remarks.Statement.{statement}
 use Rattle.exports.proofs.plans_remarks.Tie as tie
@@ -11,7 +12,7 @@ use Rattle.exports.proofs.plans_remarks.Lts as lts
 use Rattle.remarks.proofs.remarks.Reads as remarks-reads
 
 returns : tie.Need-returns
-returns c = record { short = λ h. (refl, refl); long = λ h. absurd (omega (arith, h, c .if1 .taken)) }
+returns c = remarks-short _ _ _ (c .if1 .taken)
 
 remarks-requires : tie.Need-remarks-requires
 remarks-requires c κs = search needs
@@ -23,7 +24,7 @@ slice-write-answer : tie.Need-slice-write-answer
 slice-write-answer c = search needs
 
 cast-answer : tie.Need-cast-answer
-cast-answer c = omega (arith, low-remark (rw (c .before .number .given .1) at (c .before .before .before .before .before .remarks .ensures)))
+cast-answer c = omega (arith, low-remark _ _ (rw (c .before .number .given .1) at (c .before .before .before .before .before .remarks .ensures)))
 
 slice-write-answer-2 : tie.Need-slice-write-answer-2
 slice-write-answer-2 c = simp length-set (omega arith)
@@ -41,10 +42,10 @@ slice-write-answer-5 : tie.Need-slice-write-answer-5
 slice-write-answer-5 c = simp length-set (omega arith)
 
 cast-answer-2 : tie.Need-cast-answer-2
-cast-answer-2 c = omega (arith, low-count (rw (c .before .count .given .1) at (c .before .before .before .before .before .remarks .ensures)))
+cast-answer-2 c = omega (arith, low-count _ _ (rw (c .before .count .given .1) at (c .before .before .before .before .before .remarks .ensures)))
 
 slice-write-answer-6 : tie.Need-slice-write-answer-6
-slice-write-answer-6 c = search needs
+slice-write-answer-6 c = simp length-set (omega arith)
 
 same-length : tie.Need-same-length
 same-length c = search needs
@@ -53,7 +54,7 @@ same-length-2 : tie.Need-same-length-2
 same-length-2 c = search needs
 
 returns-2 : tie.Need-returns-2
-returns-2 c = record { short = λ h. absurd (omega (arith, h, c .before .before .before .before .before .before .before .if1 .left)); long = λ h. record { said = _; answers = rw (c .before .number .given .1) at (c .before .before .before .before .before .remarks .ensures); words = refl } }
+returns-2 c = remarks-out _ _ (now (c .before .before .before .before .before .before .before .before .before .before .before .args .answer)) (A.Refused _ _) _ (rw (c .before .number .given .1) at (c .before .before .before .before .before .remarks .ensures)) (c .before .before .before .before .before .before .before .if1 .left)
 
 same-length-3 : tie.Need-same-length-3
 same-length-3 c = search needs
@@ -62,7 +63,7 @@ same-length-4 : tie.Need-same-length-4
 same-length-4 c = search needs
 
 returns-3 : tie.Need-returns-3
-returns-3 c = record { short = λ h. absurd (omega (arith, h, c .before .before .before .before .before .before .before .if1 .left)); long = λ h. record { said = _; answers = rw (c .before .count .given .1) at (c .before .before .before .before .before .remarks .ensures); words = refl } }
+returns-3 c = remarks-out _ _ (now (c .before .before .before .before .before .before .before .before .before .before .before .args .answer)) (A.Count _) _ (rw (c .before .count .given .1) at (c .before .before .before .before .before .remarks .ensures)) (c .before .before .before .before .before .before .before .if1 .left)
 
 pub plans-remarks-spec : {M : Type 1} → statement M
 plans-remarks-spec =

@@ -5,6 +5,7 @@ use native.Mathlib.Omega.{arith}
 use native.Mathlib.Decide.{decLt}
 use lib.ListN.{getD, replicate, getD-replicate, List·getD-eq-default}
 use borrow.Author.Needs.{needs}
+use Rattle.remarks.proofs.Marking.{stored-below}
 use Rattle.remarks.proofs.Writing.{unreached}
 use Rattle.remarks.proofs.list.Statement.{statement}
 use Rattle.remarks.proofs.list.Tie as tie
@@ -29,13 +30,13 @@ slice-aggregate-write : tie.Need-slice-aggregate-write
 slice-aggregate-write c = search needs
 
 write-requires : tie.Need-write-requires
-write-requires c κs = (c .before .before .before .before .before .before .before .before .before .before .before .before .pre .0 .stored, omega (arith, c .before .before .before .before .before .before .before .before .before .before .before .before .pre .0 .few, c .before .before .before .before .before .before .before .before .before .before .before .before .pre .1), c .before .before .before .before .before .before .before .before .before .before .before .before .pre .0 .names)
+write-requires c κs = (c .before .before .before .before .before .before .before .before .before .before .before .before .pre .0 .stored, omega (arith, c .before .before .before .before .before .before .before .before .before .before .before .before .pre .0 .few, c .before .before .before .before .before .before .before .before .before .before .before .before .pre .1), c .before .before .before .before .before .before .before .before .before .before .before .before .pre .0 .fits)
 
 same-length : tie.Need-same-length
 same-length c = search needs
 
 returns : tie.Need-returns
-returns c = unreached (rw (c .before .before .before .before .before .before .before .before .main-number .ensures) at (c .before .before .before .before .before .before .reach .ensures)) (c .before .before .write .ensures)
+returns c = unreached _ _ _ (stored-below _ _ _ _ _) (c .before .before .before .before .before .before .before .before .before .before .before .before .before .before .before .pre .0 .main) (rw (c .before .before .before .before .before .before .before .before .main-number .ensures) at (c .before .before .before .before .before .before .reach .ensures)) (c .before .before .write .ensures)
 
 pub list-spec : {M : Type 1} → statement M
 list-spec =

@@ -1,13 +1,13 @@
 -- 15, or as check.
 use native.Mathlib.Omega.{arith}
-use mathlib.Core.Path.{refl}
+use mathlib.Core.Path.{refl, _∙_}
 use borrow.Author.Needs.{needs}
-use Rattle.remarks.proofs.Telling.{too-short, as-check}
+use Rattle.remarks.proofs.Telling.{fifteen, enough}
 use Rattle.remarks.proofs.remarks.Statement.{statement}
 use Rattle.remarks.proofs.remarks.Tie as tie
 
 returns : tie.Need-returns
-returns c = too-short _ _ (omega (arith, c .if1 .taken))
+returns c = fifteen _ _ (omega (arith, c .if1 .taken))
 
 slice-aggregate-remark : tie.Need-slice-aggregate-remark
 slice-aggregate-remark c = search needs
@@ -52,7 +52,7 @@ same-length : tie.Need-same-length
 same-length c = search needs
 
 returns-2 : tie.Need-returns-2
-returns-2 c = as-check (omega (arith, c .before .before .before .before .before .before .before .before .before .before .before .before .before .before .before .before .before .before .before .before .if1 .left)) (c .before .before .before .before .before .before .before .before .before .before .remark .ensures)
+returns-2 c = c .before .before .before .before .before .before .before .before .before .before .remark .ensures ∙ enough _ _ (omega (arith, c .before .before .before .before .before .before .before .before .before .before .before .before .before .before .before .before .before .before .before .before .if1 .left))
 
 pub remarks-spec : {M : Type 1} → statement M
 remarks-spec =

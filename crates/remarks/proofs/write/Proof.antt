@@ -3,7 +3,7 @@ use Prim.Native.Nat.{ℕ, _-_}
 use mathlib.Core.Path.{sym, ap, _∙_}
 use mathlib.Core.Logic.{⊎-elim}
 use native.Mathlib.Omega.{arith}
-use lib.ListN.{getD, set}
+use lib.ListN.{set}
 use lib.Dec.{eqb}
 use borrow.Author.Needs.{needs}
 use borrow.Author.Tests.{eq-eqb, ne-eqb}
@@ -23,17 +23,11 @@ loop-holds c = written-start _ _ _ _ _
 word-requires : tie.Need-word-requires Inv-loop μ-loop
 word-requires c κs = search needs
 
-mul-word : tie.Need-mul-word Inv-loop μ-loop
-mul-word c = search needs
-
-word-requires-2 : tie.Need-word-requires-2 Inv-loop μ-loop
-word-requires-2 c κs = search needs
-
-word-requires-3 : tie.Need-word-requires-3 Inv-loop μ-loop
-word-requires-3 c κs = search needs
+name-place-requires : tie.Need-name-place-requires Inv-loop μ-loop
+name-place-requires c κs = (c .before .before .before .before .before .before .before .before .before .pre .0, c .before .before .before .before .before .before .before .before .before .pre .2, omega (arith, c .before .before .before .loop-test .taken))
 
 put-requires : tie.Need-put-requires Inv-loop μ-loop
-put-requires c κs = (omega (arith, c .before .before .before .before .before .before .loop .inv .few, c .before .before .before .before .before .before .loop .inv .noted .size, c .before .before .before .before .before .before .before .before .before .before .before .pre .1, c .before .before .before .before .before .loop-test .taken), omega (arith, c .before .before .before .before .before .before .before .before .before .before .before .pre .2 .fits (c .before .before .before .before .before .before .loop .g) (c .before .before .before .before .before .loop-test .taken), c .word3 .ensures, ap (λ (i : ℕ). getD (c .before .before .before .before .before .before .before .before .before .before .before .args .places .now) i 0) (c .before .word2 .ensures)))
+put-requires c κs = (omega (arith, c .before .before .before .before .before .loop .inv .few, c .before .before .before .before .before .loop .inv .size, c .before .before .before .before .before .before .before .before .before .before .pre .1, c .before .before .before .before .loop-test .taken), c .name-place .ensures .1)
 
 add-count : tie.Need-add-count Inv-loop μ-loop
 add-count c = search needs
@@ -48,18 +42,18 @@ loop-again : tie.Need-loop-again Inv-loop μ-loop
 loop-again c =
     ⊎-elim
     (λ w.
-    rw (w .8)
-    (written-add (c .before .before .before .loop .inv) (c .before .before .loop-test .taken) (ap (λ (x : ℕ). eqb x 0) (sym (c .before .word .ensures)) ∙ eq-eqb _ _ (w .0 .taken)) (c .before .before .before .before .before .before .before .before .pre .2)
-    (omega (arith, c .before .before .before .loop .inv .few, c .before .before .before .loop .inv .noted .size, c .before .before .before .before .before .before .before .before .pre .1, c .before .before .loop-test .taken))
-    (w .7 ∙ w .4 .ensures ∙ ap (λ (x : ℕ). set (c .before .before .before .loop .offsets) (c .before .before .before .loop .count) x) (w .3 .ensures ∙ ap (λ (i : ℕ). getD (c .before .before .before .before .before .before .before .before .args .places .now) i 0) (w .2 .ensures)))))
-    (λ w. rw (w .1, w .2) (written-pass (c .before .before .before .loop .inv) (c .before .before .loop-test .taken) (ap (λ (x : ℕ). eqb x 0) (sym (c .before .word .ensures)) ∙ ne-eqb _ _ (w .0 .left))))
+    rw (w .7)
+    (written-add (c .before .before .before .loop .inv) (omega (arith, c .before .before .loop-test .taken)) (ap (λ (x : ℕ). eqb x 0) (sym (c .before .word .ensures)) ∙ eq-eqb _ _ (w .0 .taken))
+    (omega (arith, c .before .before .before .loop .inv .few, c .before .before .before .before .before .before .before .before .pre .1, c .before .before .loop-test .taken))
+    (w .6 ∙ w .3 .ensures ∙ ap (λ (x : ℕ). set (c .before .before .before .loop .offsets) (c .before .before .before .loop .count) x) (w .2 .ensures .0))))
+    (λ w. rw (w .1, w .2) (written-pass (c .before .before .before .loop .inv) (omega (arith, c .before .before .loop-test .taken)) (ap (λ (x : ℕ). eqb x 0) (sym (c .before .word .ensures)) ∙ ne-eqb _ _ (w .0 .left))))
     (c .if1 .came)
 
 same-length : tie.Need-same-length Inv-loop μ-loop
-same-length c = c .before .loop .inv .noted .size
+same-length c = c .before .loop .inv .size
 
 returns : tie.Need-returns Inv-loop μ-loop
-returns c = written-end (c .before .loop .inv) (c .loop-test .left)
+returns c = written-end (c .before .loop .inv) (omega (arith, c .loop-test .left))
 
 pub write-spec : {M : Type 1} → statement M
 write-spec =
@@ -69,9 +63,7 @@ write-spec =
     μ-loop
     loop-holds
     word-requires
-    mul-word
-    word-requires-2
-    word-requires-3
+    name-place-requires
     put-requires
     add-count
     add-g

@@ -8,10 +8,10 @@ verdict-requires : tie.Need-verdict-requires
 verdict-requires c κs = search needs
 
 array-share-prefix-out : tie.Need-array-share-prefix-out
-array-share-prefix-out c = c .verdict .ensures .put .inside
+array-share-prefix-out c = c .verdict .ensures .inside
 
 slice-aggregate-write-all : tie.Need-slice-aggregate-write-all
-slice-aggregate-write-all c = sym (length-take-le _ _ (c .before .verdict .ensures .put .inside))
+slice-aggregate-write-all c = sym (length-take-le _ _ (c .before .verdict .ensures .inside))
 
 write-all-requires : tie.Need-write-all-requires
 write-all-requires c κs = search needs
