@@ -41,6 +41,9 @@ pub const STORE: u32 = 22;
 
 pub const RETURN: u32 = 23;
 
+// A free declaration with its own pair, the numbers at the two entries before it.
+pub const OWN: u32 = 24;
+
 // A call is done with the function's number, and so many times the count of its arguments.
 pub const FUNCTIONS: usize = 16;
 

@@ -1,6 +1,7 @@
 -- What stands in slices for the values and meanings of tokens need only agree with them below the count of tokens: then the tree is as sound, and its program is the same.
 use Prim.Native.Nat.{ℕ, suc, _+_, _<_}
 use mathlib.Core.Path.{_≡_, refl, ap, ap₂, _∙_}
+use mathlib.Core.Option.{Option}
 use mathlib.Core.List.{List, _∷_}
 use native.Mathlib.Omega.{arith}
 use lib.IntN.{pos, _-ℤ_}
@@ -88,7 +89,7 @@ module _ (m : ℕ) (value means value′ means′ : ℕ → ℕ) (v : Agree m va
   part-same (A.either a b) w = ap₂ (λ (x y : Cond). P.or x y) (part-same a (w .0)) (part-same b (w .1))
   part-same (A.empty i) w = refl
   part-same (A.declare i) w = ap (λ (k : ℕ). P.declare (slot k)) (n .at (i + 1) w)
-  part-same (A.declareFree i) w = ap (λ (k : ℕ). P.unknown (slot k)) (n .at (i + 1) w)
+  part-same (A.declareFree i) w = ap (λ (k : ℕ). P.unknown (slot k) Option.none) (n .at (i + 1) w)
   part-same (A.assign i e) w = ap₂ (λ (k : ℕ) (x : Expr). P.assign (slot k) x) (n .at i (w .0)) (part-same e (w .1))
   part-same (A.eval e) w = ap (λ (x : Expr). P.eval x) (part-same e w)
   part-same (A.block i b) w = ap (λ (x : Stmts). P.block x) (part-same b (w .1))

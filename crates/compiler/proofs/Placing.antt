@@ -90,7 +90,7 @@ module _ (m : ℕ) (value means : ℕ → ℕ) where
   fits (A.either a b) h = (fits a (h .0), fits b (h .1))
   fits (A.empty i) h = tt
   fits (A.declare i) h = tt
-  fits (A.declareFree i) h = h .1
+  fits (A.declareFree i) h = (h .1, tt)
   fits (A.assign i e) h = (h .1, fits e (h .2))
   fits (A.eval e) h = fits e h
   fits (A.block i b) h = fits b h

@@ -9,7 +9,7 @@ use lib.Dec.{T, not-T}
 use mir.Syntax.{w32}
 use mir.Val.{SFits}
 use Rattle.semantics.specs.Int.{lt, le, gt, ge, eq, ne, eqZ}
-use Rattle.semantics.specs.Run.{Window}
+use Rattle.semantics.specs.Program.{Window}
 use Rattle.semantics.specs.Search.{to, minZ, maxZ, decided, clip}
 use Rattle.semantics.proofs.Order.{_≼_, _≺_, cond-cases, leZ→, →leZ, ltZ→, nltZ→, nleZ→, antisym, eqZ→, eqZ-refl, of-suc, of-pred}
 use Rattle.ints.proofs.Fits.{within, fits}

@@ -9,7 +9,7 @@ use lib.IntN.{ℤ}
 use lib.Signed.{ltZ, leZ}
 use lib.Dec.{T, not-T}
 use Rattle.semantics.specs.Int.{Cmp, lt, le, gt, ge, eq, ne}
-use Rattle.semantics.specs.Run.{Window}
+use Rattle.semantics.specs.Program.{Window}
 use Rattle.semantics.specs.Search.{to, always, decided, negated, mirrored}
 use Rattle.semantics.proofs.Order.{_≼_, _≺_, leZ→, ltZ→, →ltZ, nltZ→, nleZ→}
 

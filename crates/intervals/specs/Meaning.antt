@@ -5,7 +5,7 @@ use mathlib.Core.List.{List, map}
 use lib.ListN.{getD}
 use lib.IntN.{ℤ, pos}
 use lib.Signed.{leZ}
-use Rattle.semantics.specs.Run.{Window}
+use Rattle.semantics.specs.Program.{Window}
 use Rattle.semantics.specs.Search.{to}
 use Rattle.intervals.specs.declared.Window as code
 

@@ -18,15 +18,15 @@ use Rattle.semantics.specs.Search as S
 use Rattle.semantics.specs.Search.{known, work, to, inUse}
 use Rattle.semantics.specs.Demand.{In32}
 use Rattle.semantics.specs.Promise.{Promised}
-use Rattle.semantics.proofs.Theorems.{plan-list, plan-list-unique, promise, promise-unique, inUse-sound}
+use Rattle.semantics.proofs.Theorems.{Job32, plan-list, plan-list-unique, promise, promise-unique, inUse-sound}
 use Rattle.simulation.specs.Code.{codeOf}
-use Rattle.simulation.proofs.Placed.{placed}
+use Rattle.simulation.proofs.Placed.{Upward, placed}
 use Rattle.simulation.proofs.Drive.{most-turns}
 use Rattle.simulation.proofs.Listing.{placed-lists}
 use Rattle.simulation.proofs.First.{taken-back}
 use Rattle.list.specs.List.{program, jobOf, places, Answer, refused, listed, Left, ground, refuses, lists, answering, list}
 use Rattle.list.specs.Promise.{answerWith, Keeps}
-use Rattle.list.proofs.Sure.{never-stuck}
+use Rattle.list.proofs.Sure.{never-stuck, program-pairs}
 
 -- ---- a window of 32 bits
 
@@ -69,23 +69,26 @@ module _ (text : List ℕ) (low high : ℤ) (steps skip budget : ℕ) (rows : Li
 
   -- the third demand, for every job that is not refused; low and high are of 32 bits, as list takes them
   module _ (f : SFits w32 low) (h : SFits w32 high) (g : ground (length scratch) low high steps ≡ none) (v : checked text ≡ C.accepted) where
+    small : Job32 (jobOf text low high steps)
+    small = record { window = in-32 low high f h; pairs = program-pairs text v In32 }
+
     pub keeps : Keeps text low high steps skip budget rows scratch (list text low high steps skip budget rows scratch)
     keeps =
         let e = unfolds none C.accepted g v in
         let j = jobOf text low high steps in
         record {
           plans = plans j;
-          fixed = plan-list j;
-          alone = plan-list-unique j;
+          fixed = plan-list j small;
+          alone = plan-list-unique j small;
           written = found .rows;
           moves = found .moves;
           ending = found .close;
           answered = ap (λ (l : Left). l .answer) e;
           slice = ap (λ (l : Left). l .rows) e;
           cleared = ap (λ (l : Left). l .scratch) e;
-          closes = promise inUse inUse-sound j (in-32 low high f h) skip (places rows) budget;
+          closes = promise inUse inUse-sound j small skip (places rows) budget;
           code = codeOf (program text);
-          coded = placed (program text);
+          coded = placed (program text) (program-pairs text v Upward);
           searches = λ c p. record {
             enough = most-turns c steps;
             gives = λ k n l m. placed-lists inUse j c p (never-stuck text v known work steps) skip (places rows) budget k n l m;
@@ -98,7 +101,7 @@ module _ (text : List ℕ) (low high : ℤ) (steps skip budget : ℕ) (rows : Li
     keeps-only left k =
         let j = jobOf text low high steps in
         let a : answerWith (k .written) (k .moves) (k .ending) ≡ found =
-        promise-unique inUse inUse-sound j (in-32 low high f h) skip (places rows) budget _ (subst (λ (l : List Row). Promised inUse j l skip (places rows) budget (answerWith (k .written) (k .moves) (k .ending))) (plan-list-unique j (k .plans) (k .fixed)) (k .closes)) in
+        promise-unique inUse inUse-sound j small skip (places rows) budget _ (subst (λ (l : List Row). Promised inUse j l skip (places rows) budget (answerWith (k .written) (k .moves) (k .ending))) (plan-list-unique j small (k .plans) (k .fixed)) (k .closes)) in
         left-path (k .answered) (k .slice) (k .cleared) ∙ ap (lists rows scratch) a ∙ sym (unfolds none C.accepted g v)
 
   -- a refusal leaves both slices as they were

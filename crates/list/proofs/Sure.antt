@@ -1,4 +1,4 @@
--- No run of an accepted text, whatever values are chosen and however its tests go, reads a variable that holds nothing; so every choice of values has a run.
+-- No run of an accepted text, whatever values are chosen and however its tests go, reads a variable that holds nothing; so every choice of values has a run. What holds of each own pair that a text gives holds of its program's.
 use Prim.Native.Nat.{ℕ, _≤_}
 use mathlib.Core.Path.{_≡_}
 use mathlib.Core.List.{List}
@@ -9,9 +9,12 @@ use Rattle.checker.specs.Check.{kinds, checked, programOf}
 use Rattle.checker.proofs.Exactly.{read-so, exactly}
 use Rattle.checker.proofs.Sure.{accepted-sure}
 use Rattle.semantics.specs.Int.{Op, arith}
+use Rattle.semantics.specs.Program.{Window}
 use Rattle.semantics.specs.Does.{does, Sure}
 use Rattle.semantics.specs.Run.{meaning}
+use Rattle.semantics.proofs.Own.{Pairs}
 use Rattle.semantics.proofs.Sure.{Reaches, every-choice}
+use Rattle.text_rules.proofs.Pairs.{resolved-pairs}
 use Rattle.list.specs.List.{program, jobOf}
 
 module _ (text : List ℕ) (e : checked text ≡ C.accepted) where
@@ -28,3 +31,7 @@ module _ (text : List ℕ) (e : checked text ≡ C.accepted) where
   -- with any eight values, the first ones of them, as many as it reaches, have a run, which "returns, fails or is cut"
   pub always-runs : (low high : ℤ) (steps : ℕ) (vs : List ℤ) → 8 ≤ length vs → Reaches (meaning (jobOf text low high steps)) vs
   always-runs low high steps vs h = every-choice (jobOf text low high steps) (never-stuck (λ z. z) arith steps) vs h
+
+  pub program-pairs : (P : Window → Type 0) → Pairs P (program text)
+  unfolding programOf
+  program-pairs P = rw program-so (resolved-pairs P _ _ _)

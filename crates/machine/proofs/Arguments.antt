@@ -72,7 +72,7 @@ module _ (ws : List ℕ) (size e : ℕ) where
   extent-kind (suc (suc zero)) w h = refl
   extent-kind (suc (suc (suc zero))) w h = absurd (h refl)
   extent-kind (suc (suc (suc (suc k)))) w h = nones-at (drop 4 (kinds w)) k
-      (refl, (refl, (refl, (refl, (refl, (refl, (refl, (refl, (refl, (refl, (refl, (refl, (refl, (refl, (refl, (refl, (refl, (refl, (refl, (refl, tt))))))))))))))))))))
+      (refl, (refl, (refl, (refl, (refl, (refl, (refl, (refl, (refl, (refl, (refl, (refl, (refl, (refl, (refl, (refl, (refl, (refl, (refl, (refl, (refl, tt)))))))))))))))))))))
 
   pub extent-other : e < size → (getD ws (2 * e) 0 ≡ 3 → ⊥) → 0 ≡ extent (getD (codeIn ws size .entries) e (act Act.fail))
   extent-other h q = sym (extent-entry h ∙ extent-kind (getD ws (2 * e) 0) (getD ws (2 * e + 1) 0) q)

@@ -1,4 +1,4 @@
--- What stands beside the machine stays when an entry is worked: windows, setting, ranges, numbers, tests and outcomes.
+-- What stands beside the machine stays when an entry is worked: windows, the pairs that they started as, ranges, numbers, tests and outcomes.
 use mathlib.Core.Path.{_≡_, refl, ap, ap₂}
 use mathlib.Core.List.{List, [], _∷_}
 use Prim.Native.Nat.{ℕ, zero, suc, _+_, _*_, _≤_}
@@ -8,8 +8,8 @@ use mir.Syntax.{w32}
 use mir.Val.{toZ}
 use Rattle.intervals.specs.Meaning.{ofPairs}
 use Rattle.window_memory.specs.Memory.{pairsAt}
-use Rattle.machine.specs.Layout.{windowsPlace, tablesPlace, rangeLow, rangeHigh, testPlace, testLeft, testRight, outcomePlace}
-use Rattle.machine.specs.Memory.{windowsIn, rangesIn, testsIn, outcomeAs, outcomesIn}
+use Rattle.machine.specs.Layout.{windowsPlace, startsPlace, tablesPlace, rangeLow, rangeHigh, testPlace, testLeft, testRight, outcomePlace}
+use Rattle.machine.specs.Memory.{windowsIn, startsIn, rangesIn, testsIn, outcomeAs, outcomesIn}
 use Rattle.machine.specs.Contracts.{Kept}
 
 module _ {m m′ : List ℕ} {n : ℕ} (s : Kept m m′ n) where
@@ -21,6 +21,9 @@ module _ {m m′ : List ℕ} {n : ℕ} (s : Kept m m′ n) where
 
   pub windows-kept : (i : ℕ) → windowsIn m′ i ≡ windowsIn m i
   windows-kept i = ap (λ l. take i (ofPairs l)) (pairs-kept windowsPlace 8 (omega arith) (omega arith))
+
+  pub starts-kept : (i : ℕ) → startsIn m′ i ≡ startsIn m i
+  starts-kept i = ap (λ l. take i (ofPairs l)) (pairs-kept startsPlace 8 (omega arith) (omega arith))
 
   pub ranges-kept : (i : ℕ) → rangesIn m′ i ≡ rangesIn m i
   unfolding rangesIn

@@ -1,21 +1,23 @@
 -- One entry worked, by its kind.
 use mathlib.Core.Path.{_≡_, refl, sym, ap, ap₂, _∙_, subst}
 use mathlib.Core.Bool.{Bool, true, false, Bool·beq}
+use mathlib.Core.Option.{none, some}
 use mathlib.Core.List.{List, []}
 use mathlib.Core.Logic.{⊎-elim}
 use Prim.Native.Nat.{ℕ, zero, suc, _+_, _-_, _*_, _/_, _%_, _≤_, _<_}
 use native.Mathlib.Nat.{eq-or-lt-of-le}
 use native.Mathlib.Omega.{arith}
 use lib.ListN.{getD, List·getD-eq-default}
-use Rattle.semantics.specs.Program.{slot}
+use Rattle.semantics.specs.Program.{Window, slot}
 use Rattle.semantics.specs.Search as search
 use Rattle.semantics.specs.Search.{known}
 use Rattle.simulation.specs.Code.{Entry, act, Act}
-use Rattle.simulation.specs.Machine.{Caller, Machine, machine, Doing, gather, entering, leaving, landing, working, advance}
+use Rattle.simulation.specs.Machine.{Caller, Machine, machine, Doing, ownPair, gather, entering, leaving, landing, working, advance}
 use Rattle.simulation.specs.Nodes.{meaning}
 use Rattle.simulation.specs.Words.{kinds, entriesIn, entryOf, codeIn}
 use Rattle.simulation.proofs.Words.{entry-in, length-entries}
 use Rattle.ints.specs.Numbers.{comparison, operation}
+use Rattle.intervals.specs.Meaning.{Filled}
 use Rattle.machine.specs.Memory.{Sym, nodesIn, temps, frameAt, callers, machineAt}
 use Rattle.machine.specs.Contracts.{cellOf, Ready, Taking, Paired, topped, Goes, acts, storing, Asked, Freed, moved, flagged, Tested, Gave}
 use Rattle.machine.specs.declared.Value.{Value}
@@ -41,17 +43,17 @@ kind-cmp : (w k : ℕ) → 7 ≤ k → k < 13 → entryOf k w ≡ act (Act.compa
 unfolding entryOf
 kind-cmp w k a b = all-from (λ k. entryOf k w ≡ act (Act.compare (comparison (k - 7)) w)) 6 7 k a b (refl, (refl, (refl, (refl, (refl, (refl, tt))))))
 
-kind-none : (w k : ℕ) → 23 < k → entryOf k w ≡ act Act.fail
+kind-none : (w k : ℕ) → 24 < k → entryOf k w ≡ act Act.fail
 unfolding entryOf
 kind-none w k h = List·getD-eq-default (kinds w) (act Act.fail) {n = k} h
 
 up : {lo k : ℕ} → lo ≤ k → (k ≡ lo → ⊥) → suc lo ≤ k
 up {lo} {k} a b = omega arith
 
--- a kind from 13 on that is none of the eleven
+-- a kind from 13 on that is none of the twelve
 pub past-all : (k : ℕ) → 13 ≤ k → (k ≡ 13 → ⊥) → (k ≡ 14 → ⊥) → (k ≡ 15 → ⊥) → (k ≡ 16 → ⊥) → (k ≡ 17 → ⊥) → (k ≡ 18 → ⊥) → (k ≡ 19 → ⊥) → (k ≡ 20 → ⊥) → (k ≡ 21 → ⊥) → (k ≡ 22 → ⊥)
-    → (k ≡ 23 → ⊥) → 23 < k
-past-all k b c d e f g h i j l m n = up (up (up (up (up (up (up (up (up (up (up b c) d) e) f) g) h) i) j) l) m) n
+    → (k ≡ 23 → ⊥) → (k ≡ 24 → ⊥) → 24 < k
+past-all k b c d e f g h i j l m n o = up (up (up (up (up (up (up (up (up (up (up (up b c) d) e) f) g) h) i) j) l) m) n) o
 
 -- a jump made or not
 pub land-over : (o b : Bool) (w i : ℕ) → Bool·beq b o ≡ true → landing o b w (suc i) ≡ i + 1 + w
@@ -116,7 +118,7 @@ module _ (ws : List ℕ) (size : ℕ) (m : List ℕ) (r : Run) where
     unfolding entryOf
     adv-fail h = adv-at 0 (omega arith)
 
-    pub adv-big : 23 < K → goes ≡ Doing.failed
+    pub adv-big : 24 < K → goes ≡ Doing.failed
     adv-big h = adv _ (kind-none W K h)
 
     next-pc : suc (r .pc) ≡ r .pc + 1
@@ -203,9 +205,14 @@ module _ (ws : List ℕ) (size : ℕ) (m : List ℕ) (r : Run) where
     unfolding entryOf
     adv-begin e h = goes-on Doing.step 1 _ (r .pc + 1) (r .flag) h next-pc (adv-at 20 e)
 
-    pub adv-ask : K ≡ 21 → (m₂ : List ℕ) (k : ℕ) (r₂ : Run) → Asked (storing m r (W % 16)) m (r .nodes) m₂ k r₂ → Freed goes m (r .nodes) m₂ k r₂
+    pub adv-ask : K ≡ 21 → (job : Window) → Filled job → (m₂ : List ℕ) (k : ℕ) (r₂ : Run) → Asked (storing m r (W % 16)) m (r .nodes) m₂ k r₂ → Freed goes job job m (r .nodes) m₂ k r₂
     unfolding entryOf
-    adv-ask e m₂ k r₂ p = record { next = storing m r (W % 16); is = adv-at 21 e; asked = p }
+    adv-ask e job f m₂ k r₂ p = record { own = none; next = storing m r (W % 16); is = adv-at 21 e; pair = refl; filled = f; asked = p }
+
+    pub adv-own : K ≡ 24 → (job w : Window) → w ≡ ownPair (codeIn ws size) (r .pc) → Filled w → (m₂ : List ℕ) (k : ℕ) (r₂ : Run) → Asked (storing m r (W % 16)) m (r .nodes) m₂ k r₂
+        → Freed goes job w m (r .nodes) m₂ k r₂
+    unfolding entryOf
+    adv-own e job w q f m₂ k r₂ p = record { own = some (ownPair (codeIn ws size) (r .pc)); next = storing m r (W % 16); is = adv-at 24 e; pair = q; filled = f; asked = p }
 
     pub adv-store : K ≡ 22 → acts (codeIn ws size) m r (Act.store (slot (W % 16))) ≡ goes
     unfolding entryOf

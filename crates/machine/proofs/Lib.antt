@@ -1,6 +1,7 @@
 -- Theorems of the machine in memory.
 pub mod Tables
 pub mod Operands
+pub mod Own
 pub mod Stays
 pub mod Moves
 pub mod Arguments

@@ -145,7 +145,7 @@ module _ (ws : List ℕ) (size : ℕ) where
   reading-other f ts (suc zero) w a b = absurd (a refl)
   reading-other f ts (suc (suc zero)) w a b = absurd (b refl)
   reading-other f ts (suc (suc (suc k))) w a b = pops-at f ts (drop 3 (kinds w)) k
-      (refl, (refl, (refl, (refl, (refl, (refl, (refl, (refl, (refl, (refl, (refl, (refl, (refl, (refl, (refl, (refl, (refl, (refl, (refl, (refl, (refl, tt)))))))))))))))))))))
+      (refl, (refl, (refl, (refl, (refl, (refl, (refl, (refl, (refl, (refl, (refl, (refl, (refl, (refl, (refl, (refl, (refl, (refl, (refl, (refl, (refl, (refl, tt))))))))))))))))))))))
 
   module _ (m : List ℕ) (r : Run) (j : ℕ) where
     -- a temporary

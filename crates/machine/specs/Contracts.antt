@@ -1,6 +1,7 @@
 -- What the functions of the machine promise: which words they may change, and what the memory stands for afterwards.
 use mathlib.Core.Path.{_≡_}
 use mathlib.Core.Bool.{Bool}
+use mathlib.Core.Option.{Option}
 use mathlib.Core.List.{List, [], _++_, map}
 use Prim.Native.Nat.{ℕ, zero, suc, _+_, _-_, _*_, _<_, _≤_}
 use lib.ListN.{getD, length, replicate}
@@ -8,8 +9,9 @@ use lib.IntN.{ℤ, pos}
 use mir.Syntax.{w32}
 use mir.Val.{SFits}
 use Rattle.semantics.specs.Int.{Op}
-use Rattle.semantics.specs.Program.{slot}
+use Rattle.semantics.specs.Program.{Window, slot}
 use Rattle.semantics.specs.Does.{frame, store}
+use Rattle.semantics.specs.Run.{pairOf}
 use Rattle.semantics.specs.Search as search
 use Rattle.semantics.specs.Search.{known}
 use Rattle.simulation.specs.Code.{Code, Act}
@@ -18,6 +20,7 @@ use Rattle.simulation.specs.Nodes as nodes
 use Rattle.simulation.specs.Nodes.{Node, unknown, operation, meaning, Within, working}
 use Rattle.simulation.specs.Words.{codeIn}
 use Rattle.ints.specs.Numbers.{comparison}
+use Rattle.intervals.specs.Meaning.{ofWindow, Filled}
 use Rattle.machine.specs.Layout.{frameCells, frameWords, framePlace, variablePlace, cellPlace, callerBase, windowsPlace, tablesPlace, tempPlace, nodePlace, nodeEnd, rangeLow, indexEnd, wordsFor}
 use Rattle.machine.specs.Memory.{Sym, cellAt, nodeAt, nodesIn, cells, temps, frameAt, callers, machineAt}
 use Rattle.machine.specs.declared.Value.{Value}
@@ -194,9 +197,13 @@ pub record Asked (next : Sym → Machine Sym) (m : List ℕ) (n : ℕ) (m′ : L
   pub one : r .nodes ≡ n + 1
   pub node : nodeAt m′ n ≡ unknown k
 
-pub record Freed (d : Doing Sym) (m : List ℕ) (n : ℕ) (m′ : List ℕ) (k : ℕ) (r : Run) : Type 0 where
+-- by a declaration whose window starts as w, which is its own pair if it has one, else the job's
+pub record Freed (d : Doing Sym) (job w : Window) (m : List ℕ) (n : ℕ) (m′ : List ℕ) (k : ℕ) (r : Run) : Type 0 where
+  pub own : Option Window
   pub next : Sym → Machine Sym
-  pub is : d ≡ Doing.free next
+  pub is : d ≡ Doing.free own next
+  pub pair : w ≡ pairOf job own
+  pub filled : Filled w
   pub asked : Asked next m n m′ k r
 
 abbrev pub moved : Run → ℕ → Run
@@ -224,15 +231,15 @@ pub record Gave (d : Doing Sym) (m : List ℕ) (n : ℕ) (m′ : List ℕ) (v : 
   pub sized : Sized v
   pub within : Within n (cellOf v)
 
--- what the entry did that is `d` of the definitions; the next unknown is k
-abbrev pub Done : Doing Sym → List ℕ → ℕ → List ℕ → ℕ → Did → Type 0
-Done d m n m′ k (Silent r) = Goes Doing.silent 0 d m n m′ r
-Done d m n m′ k (Step r) = Goes Doing.step 1 d m n m′ r
-Done d m n m′ k (Free r) = Freed d m n m′ k r
-Done d m n m′ k (Test o x y r) = Tested d m n m′ o x y r
-Done d m n m′ k (Returned v) = Gave d m n m′ v
-Done d m n m′ k Failed = (d ≡ Doing.failed) × (m′ ≡ m)
-Done d m n m′ k Cut = (d ≡ Doing.cut) × (m′ ≡ m)
+-- what the entry did that is `d` of the definitions, with the job's pair; the next unknown is k
+abbrev pub Done : Doing Sym → Window → List ℕ → ℕ → List ℕ → ℕ → Did → Type 0
+Done d job m n m′ k (Silent r) = Goes Doing.silent 0 d m n m′ r
+Done d job m n m′ k (Step r) = Goes Doing.step 1 d m n m′ r
+Done d job m n m′ k (Free r w) = Freed d job (ofWindow w) m n m′ k r
+Done d job m n m′ k (Test o x y r) = Tested d m n m′ o x y r
+Done d job m n m′ k (Returned v) = Gave d m n m′ v
+Done d job m n m′ k Failed = (d ≡ Doing.failed) × (m′ ≡ m)
+Done d job m n m′ k Cut = (d ≡ Doing.cut) × (m′ ≡ m)
 
 -- where a path starts: only the first frame was written
 pub record Started (m m′ : List ℕ) (r : Run) : Type 0 where

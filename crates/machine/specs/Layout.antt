@@ -5,6 +5,7 @@
 --   1056   1119   the callers, two words each: where one goes on, and where its temporaries begin
 --   1120   1135   the eight windows, low and high
 --   1136   1143   the eight numbers of the present setting
+--   1144   1159   the eight pairs that the windows started as, low and high
 --   1200   ..     tables that grow, twelve words for each index k, from 1200 + 12 * k on:
 --
 --                 0   1  | 2   3   4  | 5   6  | 7       | 8   9  10  | 11
@@ -36,7 +37,7 @@ variablePlace d a = framePlace d + cellWords * a
 abbrev pub cellPlace : ℕ → ℕ
 cellPlace i = cellWords * i
 
--- ---- callers, windows, setting
+-- ---- callers, windows, setting, starting pairs
 
 -- where caller d goes on, and where its temporaries begin
 abbrev pub callersPlace : ℕ
@@ -70,6 +71,13 @@ valuePlace i = settingPlace + i
 
 abbrev pub settingEnd : ℕ
 settingEnd = settingPlace + 8
+
+-- the pairs that the windows started as
+abbrev pub startsPlace : ℕ
+startsPlace = 1144
+
+abbrev pub startsEnd : ℕ
+startsEnd = startsPlace + 16
 
 -- ---- tables
 

@@ -6,7 +6,7 @@ use lib.ListN.{getD, take}
 use lib.IntN.{ℤ}
 use mir.Syntax.{w32}
 use mir.Val.{toZ}
-use Rattle.semantics.specs.Run.{Window}
+use Rattle.semantics.specs.Program.{Window}
 use Rattle.semantics.specs.Search as search
 use Rattle.semantics.specs.Search.{to}
 use Rattle.simulation.specs.Machine.{Caller, Machine, machine}
@@ -15,7 +15,7 @@ use Rattle.ints.specs.Numbers as numbers
 use Rattle.intervals.specs.Meaning.{ofPairs}
 use Rattle.window_memory.specs.Memory.{pairsAt}
 use Rattle.machine.specs.Kinds.{nodeOp, leftOpen, rightOpen, testCompare, testLeftOpen, testRightOpen}
-use Rattle.machine.specs.Layout.{frameCells, framePlace, callerPlace, callerBase, windowsPlace, valuePlace, tempPlace, nodePlace, nodeLeft, nodeRight, rangeLow, rangeHigh, numberPlace, testPlace, testLeft, testRight, outcomePlace}
+use Rattle.machine.specs.Layout.{frameCells, framePlace, callerPlace, callerBase, windowsPlace, startsPlace, valuePlace, tempPlace, nodePlace, nodeLeft, nodeRight, rangeLow, rangeHigh, numberPlace, testPlace, testLeft, testRight, outcomePlace}
 use Rattle.machine.specs.declared.Run.{Run}
 
 -- a value of the program, as the search knows it
@@ -82,10 +82,15 @@ machineAt m r = machineIn (meaning (nodesIn m (r .nodes))) m r
 
 -- ---- what stands beside the machine
 
--- the first n windows, and the first n numbers of the setting
+-- the first n windows
 abbrev pub windowsIn : List ℕ → ℕ → List Window
 windowsIn m n = take n (ofPairs (pairsAt m windowsPlace 8))
 
+-- the pairs that the first n windows started as
+abbrev pub startsIn : List ℕ → ℕ → List Window
+startsIn m n = take n (ofPairs (pairsAt m startsPlace 8))
+
+-- the first n numbers of the setting
 unfoldable pub settingIn : List ℕ → ℕ → List ℤ
 settingIn m zero = []
 settingIn m (suc n) = settingIn m n ++ toZ w32 (getD m (valuePlace n) 0) ∷ []

@@ -31,6 +31,9 @@ pub const WINDOW_HIGHS: usize = WINDOWS + 1;
 // The numbers of the present setting.
 pub const SETTING: usize = WINDOWS + WINDOW * UNKNOWNS;
 
+// The pairs that the windows started as, two words each, low and high.
+pub const STARTS: usize = SETTING + UNKNOWNS;
+
 // The tables that grow, so many words for each index.
 pub const TABLES: usize = 1200;
 

@@ -4,15 +4,17 @@ ghost use Prim.Native.Nat.{suc, _+_, _-_, _*_, _<_, _≤_};
 ghost use lib.ListN.{length, getD};
 ghost use Rattle.semantics.specs.Program.{slot};
 ghost use Rattle.semantics.specs.Search.{known, work as workS};
-ghost use Rattle.simulation.specs.Machine.{Doing, extent as extentS, landing as landingS, advance as advanceS};
+ghost use Rattle.simulation.specs.Machine.{Doing, leafNumber, ownPair, extent as extentS, landing as landingS, advance as advanceS};
 ghost use Rattle.simulation.specs.Code.{operate as operateS, store as storeS, return as returnS, fail as failS, call as callS, act};
 ghost use Rattle.simulation.specs.Words.{codeIn};
 ghost use Rattle.ints.specs.Numbers.{operation};
+ghost use Rattle.intervals.specs.Meaning.{ofWindow, Filled};
 ghost use Rattle.machine.specs.Layout.{frameCells, frameWords, variablePlace, tablesPlace};
 ghost use Rattle.machine.specs.Memory.{nodeAs, machineAt};
 ghost use Rattle.machine.specs.Contracts.{cellOf, Sized, Room, Ready, Holds, Put, Noded, Worked, Popped, Taking, Paired, Blank, Gathering, Goes, acts, storing, Asked, moved as movedS, flagged as flaggedS, Done, Started};
 use code::Address;
 use code::entry;
+use intervals::Window;
 
 pub mod kinds;
 pub mod layout;
@@ -38,11 +40,11 @@ pub struct Run {
     pub nodes: usize,
 }
 
-// What working one entry did: the machine goes on, without a step or after one; it has reached a free declaration, or a comparison, by its number, of two values; or the run has ended.
+// What working one entry did: the machine goes on, without a step or after one; it has reached a free declaration, whose window starts as this pair, or a comparison, by its number, of two values; or the run has ended. `Silent`, `Step` and `Free` have the run first: in one place, it stays in registers.
 pub enum Did {
     Silent(Run),
     Step(Run),
-    Free(Run),
+    Free(Run, Window),
     Test(u32, Value, Value, Run),
     Returned(Value),
     Failed,
@@ -302,6 +304,39 @@ fn ask(mem: &mut [u32], run: Run, a: Address, k: u32) -> Run
     }
 }
 
+// The number that stands at an entry; 0 where none does.
+fn number_at(code: &[u32], size: usize, e: usize) -> i32
+    requires { ⌜ 2 * size ≤ length (now code) ⌝ }
+    ensures { λ r. ⌜ r ≡ leafNumber (getD (codeIn (now (code .entry)) size .entries) e (act failS)) ⌝ }
+{
+    if e < size {
+        if code[2 * e] == entry::NUMBER {
+            return ints::signed(code[2 * e + 1]);
+        }
+    }
+    0
+}
+
+// The pair of the declaration at an entry that has its own; one the wrong way round has its low end alone.
+fn own_pair(code: &[u32], size: usize, e: usize) -> Window
+    requires { ⌜ 2 * size ≤ length (now code) ⌝ }
+    ensures { λ r. ⌜ (ofWindow r ≡ ownPair (codeIn (now (code .entry)) size) e) × Filled (ofWindow r) ⌝ }
+{
+    let low = number_at(code, size, ints::monus(e, 2));
+    let high = number_at(code, size, ints::monus(e, 1));
+    if low <= high {
+        Window {
+            low: low,
+            high: high,
+        }
+    } else {
+        Window {
+            low: low,
+            high: low,
+        }
+    }
+}
+
 // A return to a caller.
 fn leave(code: &[u32], size: usize, mem: &mut [u32], run: Run) -> Run
     requires { ⌜ (2 * size ≤ length (now code)) × Ready (now mem) run × (1 ≤ run .depth) × Room (now mem) (run .base + 1) ⌝ }
@@ -466,10 +501,10 @@ pub fn start(mem: &mut [u32]) -> Run
     }
 }
 
-// Works one entry; the next unknown is k.
-pub fn advance(code: &[u32], size: usize, mem: &mut [u32], run: Run, k: u32) -> Did
-    requires { ⌜ (2 * size + 16 ≤ length (now code)) × (size < 65536) × Ready (now mem) run × Room (now mem) (run .top + 1) × Room (now mem) (run .nodes + 1) ⌝ }
-    ensures { λ r. ⌜ Done (advanceS known workS (codeIn (now (code .entry)) size) (machineAt (now (mem .entry)) run)) (now (mem .entry)) (run .nodes) (now (mem .exit)) k r ⌝ }
+// Works one entry. The next unknown is k; its window starts as its declaration's own pair, or else as the job's.
+pub fn advance(code: &[u32], size: usize, mem: &mut [u32], job: Window, run: Run, k: u32) -> Did
+    requires { ⌜ (2 * size + 16 ≤ length (now code)) × (size < 65536) × Ready (now mem) run × Room (now mem) (run .top + 1) × Room (now mem) (run .nodes + 1) × Filled (ofWindow job) ⌝ }
+    ensures { λ r. ⌜ Done (advanceS known workS (codeIn (now (code .entry)) size) (machineAt (now (mem .entry)) run)) (ofWindow job) (now (mem .entry)) (run .nodes) (now (mem .exit)) k r ⌝ }
 {
     if size <= run.pc {
         return Did::Failed;
@@ -513,7 +548,7 @@ pub fn advance(code: &[u32], size: usize, mem: &mut [u32], run: Run, k: u32) -> 
         entry::SKIP => Did::Silent(moved(run, run.pc + 1 + w)),
         entry::AGAIN => Did::Step(moved(run, ints::monus(run.pc, w))),
         entry::BEGIN => Did::Step(moved(run, run.pc + 1)),
-        entry::ASK => Did::Free(ask(mem, run, Address(w % layout::CELLS), k)),
+        entry::ASK => Did::Free(ask(mem, run, Address(w % layout::CELLS), k), job),
         entry::STORE => Did::Silent(store(code, size, mem, run, Address(w % layout::CELLS))),
         entry::RETURN => {
             if run.depth == 0 {
@@ -522,6 +557,10 @@ pub fn advance(code: &[u32], size: usize, mem: &mut [u32], run: Run, k: u32) -> 
                 return Did::Returned(v);
             }
             Did::Silent(leave(code, size, mem, run))
+        }
+        entry::OWN => {
+            let own = own_pair(code, size, run.pc);
+            Did::Free(ask(mem, run, Address(w % layout::CELLS), k), own)
         }
         _ => Did::Failed,
     }

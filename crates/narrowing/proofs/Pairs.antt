@@ -6,7 +6,7 @@ use native.Mathlib.Omega.{arith}
 use lib.ListN.{getD, set, take, length, length-map}
 use lib.Seq.{take-suc-set}
 use lib.IntN.{ℤ}
-use Rattle.semantics.specs.Run.{Window}
+use Rattle.semantics.specs.Program.{Window}
 use Rattle.semantics.specs.Search.{all32}
 use Rattle.intervals.specs.Meaning.{ofPair, ofPairs}
 

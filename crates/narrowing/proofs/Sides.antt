@@ -10,7 +10,7 @@ use lib.Seq.{take-set-lt, getD-take}
 use lib.IntN.{ℤ}
 use lib.Dec.{not-T}
 use Rattle.semantics.specs.Int.{Cmp, eqZ}
-use Rattle.semantics.specs.Run.{Window}
+use Rattle.semantics.specs.Program.{Window}
 use Rattle.semantics.specs.Search.{Value, known, unknown, open′, to, all32, range, mirrored, decided, clip, clipped, narrowed}
 use Rattle.semantics.proofs.Order.{_≺_, eqZ→}
 use Rattle.intervals.specs.declared.Window as code

@@ -5,7 +5,7 @@ use mathlib.Core.List.{List}
 use lib.ListN.{getD, length}
 use lib.IntN.{ℤ, pos}
 use Rattle.semantics.specs.Int.{Op, Cmp}
-use Rattle.semantics.specs.Run.{Window}
+use Rattle.semantics.specs.Program.{Window}
 use Rattle.semantics.specs.Search.{all32, range, mirrored, clipped, Value, known, unknown, open′}
 use Rattle.intervals.specs.Meaning.{ofWindow}
 use Rattle.intervals.specs.declared.Window as code

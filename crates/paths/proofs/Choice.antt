@@ -14,7 +14,7 @@ use lib.IntN.{ℤ}
 use mir.Syntax.{w32}
 use mir.Val.{ofZ, SFits}
 use Rattle.semantics.specs.Int.{Cmp}
-use Rattle.semantics.specs.Run.{Window}
+use Rattle.semantics.specs.Program.{Window}
 use Rattle.semantics.specs.Search as search
 use Rattle.semantics.specs.Search.{known, open′, to, range, clipped}
 use Rattle.simulation.specs.Nodes.{Known, Open, Node, unknown, operation, node, values, meaning, rangeIn, Within}

@@ -15,7 +15,7 @@ use Rattle.simulation.specs.Path.{state, later, holding}
 use Rattle.simulation.specs.Nodes.{Node, Noted, meaning, ranges, rangeIn, testOf}
 use Rattle.intervals.proofs.Undecided.{undecided-negated}
 use Rattle.machine.specs.Layout.{windowsPlace, windowsEnd, rangeLow, rangeHigh, rangeEnd, testPlace, testLeft, testRight, testEnd, outcomePlace, indexEnd}
-use Rattle.machine.specs.Memory.{nodeAt, nodesIn, windowsIn, rangesIn, testsIn, outcomeAs, outcomesIn, testAt}
+use Rattle.machine.specs.Memory.{nodeAt, nodesIn, windowsIn, startsIn, rangesIn, testsIn, outcomeAs, outcomesIn, testAt}
 use Rattle.machine.specs.Contracts.{cellOf, meant, Other}
 use Rattle.machine.specs.declared.Value as code
 use Rattle.machine.proofs.Tables.{room-same}
@@ -23,7 +23,7 @@ use Rattle.paths.specs.declared.Point.{Point}
 use Rattle.paths.specs.Table.{Windows}
 use Rattle.paths.specs.Choice.{Named, Tables, testBy, Noting, Taken, Undecided, Narrowed}
 use Rattle.paths.specs.Point.{Tested, Standing, Chose}
-use Rattle.paths.proofs.Table.{windows-same, node-same, nodes-same, ranges-same}
+use Rattle.paths.proofs.Table.{windows-same, starts-same, node-same, nodes-same, ranges-same}
 use Rattle.paths.proofs.Choice.{outcomes-same}
 
 -- ---- tests and outcomes
@@ -127,6 +127,9 @@ module _ (m m₁ m₂ m₃ : List ℕ) (p : Point) (c d : Cmp) (v w : code.Value
   windows-are : windowsIn m₃ (p .windows) ≡ narrowed (holding o c) (meant m n v) (meant m n w) (windowsIn m (p .windows))
   windows-are = s .windows ∙ (λ i. narrowed (e i) (meaning (noted-nodes t both n i) (cellOf v)) (meaning (noted-nodes t both n i) (cellOf w)) (noted-windows t both (p .windows) i))
 
+  starts-are : startsIn m₃ (p .windows) ≡ startsIn m (p .windows)
+  starts-are = starts-same m m₃ (p .windows) (λ i x y. away i (λ f g. omega arith) (λ f g. omega arith) (λ k l f g. omega arith))
+
   pub chose-so : Chose m m₃ p c v w o
   chose-so = record {
     machinery = record {
@@ -134,7 +137,7 @@ module _ (m m₁ m₂ m₃ : List ℕ) (p : Point) (c d : Cmp) (v w : code.Value
       tables = λ k j x y. away k (λ f g. omega arith) (λ f g. omega arith) (λ q l f g. omega arith);
     };
     next = a .next;
-    is = λ i. state (p .steps) (8 - p .windows) (windows-are i) ((ap₂ (λ (ns : List Node) (ts : List Noted). map (testOf ns) ts) nodes-are tests-are
+    is = λ i. state (p .steps) (8 - p .windows) (windows-are i) (starts-are i) ((ap₂ (λ (ns : List Node) (ts : List Noted). map (testOf ns) ts) nodes-are tests-are
         ∙ ap (λ (x : Cmp). asTest x (meant m n v) (meant m n w) ∷ map (testOf (nodesIn m n)) (testsIn m t)) e) i) (forced-are i) (chosen-are i);
     standing = record {
       tables = s .tables;

@@ -7,23 +7,23 @@ use native.Mathlib.Nat.{eq-or-lt-of-le}
 use native.Mathlib.Numerals.{add-one}
 use native.Mathlib.Omega.{arith}
 use lib.ListN.{length, getD}
-use Rattle.semantics.specs.Run.{Window}
+use Rattle.semantics.specs.Program.{Window}
 use Rattle.semantics.specs.Search.{Test, to, all32, span, fitted}
 use Rattle.semantics.proofs.Order.{up, down}
 use Rattle.simulation.specs.Nodes.{Node, unknown, operation, node, Noted, testOf, ranges}
 use Rattle.simulation.proofs.Nodes.{Each, ranges-last, ranges-window}
 use Rattle.intervals.specs.Meaning.{Filled}
 use Rattle.ranges.proofs.Ranges.{filled}
-use Rattle.machine.specs.Layout.{windowsPlace, windowsEnd, rangeLow, rangeHigh, rangeEnd, outcomePlace}
-use Rattle.machine.specs.Memory.{nodeAt, nodesIn, windowsIn, rangesIn, testsIn, outcomesIn, testAt}
+use Rattle.machine.specs.Layout.{rangeLow, rangeHigh, rangeEnd, outcomePlace}
+use Rattle.machine.specs.Memory.{nodeAt, nodesIn, windowsIn, startsIn, rangesIn, testsIn, outcomesIn, testAt}
 use Rattle.machine.specs.Contracts.{Room, Other, Formed}
 use Rattle.machine.proofs.Tables.{room-same, within-more, meaning-kept}
 use Rattle.machine.proofs.Stays.{kept-none}
 use Rattle.paths.specs.Table.{Ranging, Ranged, Windows}
-use Rattle.paths.specs.Choice.{Named, Tables, Reached}
+use Rattle.paths.specs.Choice.{Named, Tables, PairsOnly, Reached}
 use Rattle.paths.specs.Point.{Tested, Machinery}
 use Rattle.paths.specs.Turn.{Growing, Grown}
-use Rattle.paths.proofs.Table.{windows-same, node-same, nodes-same, ranges-same, ranging}
+use Rattle.paths.proofs.Table.{windows-same, starts-same, node-same, nodes-same, ranges-same, ranging}
 use Rattle.paths.proofs.Choice.{outcomes-same, windows-length}
 use Rattle.paths.proofs.Choosing.{test-same, tests-same}
 
@@ -35,6 +35,9 @@ module _ {m m′ : List ℕ} (n : ℕ) (o : Other m m′ (rangeLow n) (rangeEnd 
 
   pub range-windows : (k : ℕ) → windowsIn m′ k ≡ windowsIn m k
   range-windows k = windows-same m m′ k (λ i a b. o .outside i (λ u v. omega arith))
+
+  pub range-starts : (k : ℕ) → startsIn m′ k ≡ startsIn m k
+  range-starts k = starts-same m m′ k (λ i a b. o .outside i (λ u v. omega arith))
 
   pub range-node : (j : ℕ) → nodeAt m′ j ≡ nodeAt m j
   range-node j = node-same m m′ j (λ i a b. o .outside i (λ u v. omega arith))
@@ -51,29 +54,29 @@ module _ {m m′ : List ℕ} (n : ℕ) (o : Other m m′ (rangeLow n) (rangeEnd 
   pub range-outcomes : (i f : ℕ) → outcomesIn m′ i f ≡ outcomesIn m i f
   range-outcomes i f = outcomes-same m m′ i f (λ j a b. o .outside (outcomePlace j) (λ u v. omega arith))
 
--- ---- what stays where windows are written
+-- ---- what stays where windows are written, and the pairs that they start as
 
-module _ {m m′ : List ℕ} (o : Other m m′ windowsPlace windowsEnd) where
+module _ {m m′ : List ℕ} (o : PairsOnly m m′) where
   pub window-machinery : Machinery m m′
-  window-machinery = record { low = λ k l. o .outside k (λ u v. omega arith); tables = λ k j x y. o .outside k (λ u v. omega arith) }
+  window-machinery = record { low = λ k l. o .outside k (λ u v. omega arith) (λ u v. omega arith); tables = λ k j x y. o .outside k (λ u v. omega arith) (λ u v. omega arith) }
 
   pub window-node : (j : ℕ) → nodeAt m′ j ≡ nodeAt m j
-  window-node j = node-same m m′ j (λ i a b. o .outside i (λ u v. omega arith))
+  window-node j = node-same m m′ j (λ i a b. o .outside i (λ u v. omega arith) (λ u v. omega arith))
 
   pub window-nodes : (i : ℕ) → nodesIn m′ i ≡ nodesIn m i
   window-nodes i = nodes-same m m′ i (λ j l. window-node j)
 
   pub window-ranges : (n : ℕ) → rangesIn m′ n ≡ rangesIn m n
-  window-ranges n = ranges-same m m′ n (λ j l. rw (o .outside (rangeLow j) (λ u v. omega arith), o .outside (rangeHigh j) (λ u v. omega arith)) refl)
+  window-ranges n = ranges-same m m′ n (λ j l. rw (o .outside (rangeLow j) (λ u v. omega arith) (λ u v. omega arith), o .outside (rangeHigh j) (λ u v. omega arith) (λ u v. omega arith)) refl)
 
   pub window-test : (j : ℕ) → testAt m′ j ≡ testAt m j
-  window-test j = test-same m m′ j (λ i a b. o .outside i (λ u v. omega arith))
+  window-test j = test-same m m′ j (λ i a b. o .outside i (λ u v. omega arith) (λ u v. omega arith))
 
   pub window-tests : (t : ℕ) → testsIn m′ t ≡ testsIn m t
   window-tests t = tests-same m m′ t (λ j l. window-test j)
 
   pub window-outcomes : (i f : ℕ) → outcomesIn m′ i f ≡ outcomesIn m i f
-  window-outcomes i f = outcomes-same m m′ i f (λ j a b. o .outside (outcomePlace j) (λ u v. omega arith))
+  window-outcomes i f = outcomes-same m m′ i f (λ j a b. o .outside (outcomePlace j) (λ u v. omega arith) (λ u v. omega arith))
 
 -- ---- tests with more nodes
 

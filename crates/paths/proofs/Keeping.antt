@@ -5,7 +5,7 @@ use mathlib.Core.List.{List, map}
 use Prim.Native.Nat.{ℕ, zero, suc, _+_, _-_, _≤_, _<_}
 use native.Mathlib.Omega.{arith}
 use lib.ListN.{length}
-use Rattle.semantics.specs.Run.{Window}
+use Rattle.semantics.specs.Program.{Window}
 use Rattle.semantics.specs.Search.{Value, known, work, inUse}
 use Rattle.simulation.specs.Code.{Code}
 use Rattle.simulation.specs.Machine.{Machine, Doing, advance}
@@ -15,7 +15,7 @@ use Rattle.simulation.proofs.Bounds.{Framed, Sound}
 use Rattle.simulation.proofs.Drive as drive
 use Rattle.simulation.proofs.Drive.{turns-left, Nears, Nearer, turn-nears}
 use Rattle.machine.specs.Layout.{frameCells, framePlace}
-use Rattle.machine.specs.Memory.{nodesIn, cells, callers, machineAt, windowsIn, testsIn, outcomesIn, testAt}
+use Rattle.machine.specs.Memory.{nodesIn, cells, callers, machineAt, windowsIn, startsIn, testsIn, outcomesIn, testAt}
 use Rattle.ints.specs.Numbers.{comparison}
 use Rattle.machine.specs.Contracts.{meant, Room, Kept, Ready, Goes, Gave, Tested, flagged, Done}
 use Rattle.machine.specs.declared.Did.{Did}
@@ -24,7 +24,7 @@ use Rattle.machine.specs.declared.Run.{Run}
 use Rattle.machine.specs.declared.Value as code
 use Rattle.machine.proofs.Tables.{nodes-kept, room-same, room-less}
 use Rattle.machine.proofs.Capacity.{held-is, tops-le}
-use Rattle.machine.proofs.Beside.{windows-kept, ranges-kept, tests-kept, outcomes-kept}
+use Rattle.machine.proofs.Beside.{windows-kept, starts-kept, ranges-kept, tests-kept, outcomes-kept}
 use Rattle.paths.specs.declared.Point.{Point}
 use Rattle.paths.specs.declared.Turned.{Turned}
 use Rattle.paths.specs.declared.Turned.the-variants.{On, Returned, Failed, Cut}
@@ -40,7 +40,7 @@ use Rattle.paths.proofs.Choosing.{test-same}
 
 module _ {m m′ : List ℕ} (p : Point) (s : Kept m m′ (p .run .nodes)) where
   pub state-kept : stateAt m′ p ≡ stateAt m p
-  state-kept = λ i. state (p .steps) (8 - p .windows) (windows-kept s (p .windows) i) (map (testOf (nodes-kept s (p .run .nodes) (omega arith) i)) (tests-kept s (p .choices) i))
+  state-kept = λ i. state (p .steps) (8 - p .windows) (windows-kept s (p .windows) i) (starts-kept s (p .windows) i) (map (testOf (nodes-kept s (p .run .nodes) (omega arith) i)) (tests-kept s (p .choices) i))
       (outcomes-kept s (p .choices) (p .forced) i) (outcomes-kept s 0 (p .choices) i)
 
   pub standing-kept : length m′ ≡ length m → Standing m p → Standing m′ p
@@ -95,7 +95,7 @@ module _ (m : List ℕ) (p : Point) (job : Window) (c : Code) (h : Standing m p)
       subst (Onward here m′ p false) (sym e) (record {
         is = sym (turn-is job c (machineAt m (p .run)) (stateAt m p) (Doing.silent (machineAt m′ r)) (stateAt m′ p) (g .is) (state-kept p (g .kept)))
             ∙ silent-is job (machineAt m′ r) (stateAt m′ p)
-            ∙ (λ i. still (on (machineAt m′ r) (state (p .steps) (8 - p .windows) (windowsIn m′ (p .windows)) (map (testOf (nodesIn m′ (n i))) (testsIn m′ (p .choices)))
+            ∙ (λ i. still (on (machineAt m′ r) (state (p .steps) (8 - p .windows) (windowsIn m′ (p .windows)) (startsIn m′ (p .windows)) (map (testOf (nodesIn m′ (n i))) (testsIn m′ (p .choices)))
             (outcomesIn m′ (p .choices) (p .forced)) (outcomesIn m′ 0 (p .choices)))));
         ready = g .ready;
         standing = record { tables = subst (Tables m′ (p .windows)) n (k .tables); tested = λ j l. subst (λ (x : ℕ). point.Tested x (testAt m′ j)) n (k .tested j l) };
@@ -177,8 +177,8 @@ onwards job c m m′ p Cut g len h = tt
 
 -- ---- the whole turn
 
-pub done-as : (d : Doing Value) (m : List ℕ) (n : ℕ) (m′ : List ℕ) (k : ℕ) (x y : Did) → x ≡ y → Done d m n m′ k x → Done d m n m′ k y
-done-as d m n m′ k x y e h = subst (λ (z : Did). Done d m n m′ k z) e h
+pub done-as : (d : Doing Value) (job : Window) (m : List ℕ) (n : ℕ) (m′ : List ℕ) (k : ℕ) (x y : Did) → x ≡ y → Done d job m n m′ k x → Done d job m n m′ k y
+done-as d job m n m′ k x y e h = subst (λ (z : Did). Done d job m n m′ k z) e h
 
 module _ (m : List ℕ) (p : Point) (job : Window) (c : Code) (g : Going m p) where
   pub turned : (m₁ m₂ : List ℕ) (r : Turned) (d : Doing Value) → Kept m m₁ (p .run .nodes) → length m₂ ≡ length m → advance known work c (machineAt m (p .run)) ≡ d

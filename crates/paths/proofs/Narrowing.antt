@@ -14,7 +14,7 @@ use denote.Shadow.{shadow}
 use denote.Array.{Array, each}
 use denote.Builtin.{i32}
 use Rattle.semantics.specs.Int.{Cmp}
-use Rattle.semantics.specs.Run.{Window}
+use Rattle.semantics.specs.Program.{Window}
 use Rattle.semantics.specs.Search as search
 use Rattle.semantics.specs.Search.{all32, range, mirrored, decided, clipped, narrowed}
 use Rattle.semantics.proofs.Filled.{never-empty}
@@ -29,14 +29,14 @@ use Rattle.ranges.proofs.Ranges.{filled, ordered}
 use Rattle.narrowing.proofs.Pairs.{pairs-more}
 use Rattle.narrowing.proofs.Sides.{stands-range, narrowed-by}
 use Rattle.window_memory.proofs.Stored.{Ends, put-below, put-above, put-load}
-use Rattle.machine.specs.Layout.{windowsPlace, windowsEnd, tablesPlace}
+use Rattle.machine.specs.Layout.{windowsPlace, windowsEnd, startsPlace, tablesPlace}
 use Rattle.machine.specs.Memory.{nodeAt, nodesIn, windowsIn, rangesIn}
 use Rattle.machine.specs.Contracts.{cellOf, meant, Other}
 use Rattle.machine.specs.declared.Value as code
 use Rattle.machine.proofs.Tables.{room-same}
 use Rattle.paths.specs.Table.{Windows, Anew}
-use Rattle.paths.specs.Choice.{Named, Tables, Reached, Undecided, Narrowed}
-use Rattle.paths.proofs.Table.{windows-same, node-same, nodes-same}
+use Rattle.paths.specs.Choice.{Named, Tables, PairSet, Reached, Undecided, Narrowed}
+use Rattle.paths.proofs.Table.{windows-same, starts-same, node-same, nodes-same}
 use Rattle.paths.proofs.Choice.{windows-length}
 
 -- ---- the numbers of an array by value have 32 bits
@@ -58,29 +58,37 @@ ends ws us p = record { low = λ i. pairs-fit ws us i 0 p; high = λ i. pairs-fi
 
 -- ---- windows put back
 
-module _ (m : List ℕ) (ws : List (List ℤ)) (eight : length ws ≡ 8) where
-  stored-other : Other m (putPairs m windowsPlace ws) windowsPlace windowsEnd
-  stored-other = record { outside = λ i h. by i h (decLt i windowsPlace) (decLt i windowsEnd) }
+module _ (m : List ℕ) (at : ℕ) (ws : List (List ℤ)) (eight : length ws ≡ 8) where
+  stored-other : Other m (putPairs m at ws) at (at + 16)
+  stored-other = record { outside = λ i h. by i h (decLt i at) (decLt i (at + 16)) }
     where
-      by : (i : ℕ) → (windowsPlace ≤ i → i < windowsEnd → ⊥) → Dec (i < windowsPlace) → Dec (i < windowsEnd) → getD (putPairs m windowsPlace ws) i 0 ≡ getD m i 0
-      by i h (yes a) b = put-below m windowsPlace i ws a
+      by : (i : ℕ) → (at ≤ i → i < at + 16 → ⊥) → Dec (i < at) → Dec (i < at + 16) → getD (putPairs m at ws) i 0 ≡ getD m i 0
+      by i h (yes a) b = put-below m at i ws a
       by i h (no a) (yes b) = absurd (h (omega arith) b)
-      by i h (no a) (no b) = put-above m windowsPlace i ws (omega arith)
+      by i h (no a) (no b) = put-above m at i ws (omega arith)
 
-  stored-windows : (k : ℕ) → tablesPlace ≤ length m → Ends ws → windowsIn (putPairs m windowsPlace ws) k ≡ take k (ofPairs ws)
-  stored-windows k l e = ap (take k) (ap (λ (n : ℕ). ofPairs (pairsAt (putPairs m windowsPlace ws) windowsPlace n)) (sym eight) ∙ put-load m windowsPlace ws (omega arith) e)
+  stored-pairs : (k : ℕ) → at + 16 ≤ length m → Ends ws → take k (ofPairs (pairsAt (putPairs m at ws) at 8)) ≡ take k (ofPairs ws)
+  stored-pairs k l e = ap (take k) (ap (λ (n : ℕ). ofPairs (pairsAt (putPairs m at ws) at n)) (sym eight) ∙ put-load m at ws (omega arith) e)
 
 -- one more
-pub reached : (m m′ : List ℕ) (ws : List (List ℤ)) (k : ℕ) (p : List ℤ) (job : Window) → k < 8 → tablesPlace ≤ length m → m′ ≡ putPairs m windowsPlace ws → ws ≡ set (pairsAt m windowsPlace 8) k p
-    → ofPair p ≡ job → length ws ≡ 8 → Ends ws → Reached m m′ job k
+pub stored : (m m′ : List ℕ) (at : ℕ) (ws : List (List ℤ)) (k : ℕ) (p : List ℤ) (w : Window) → k < 8 → at + 16 ≤ length m → m′ ≡ putPairs m at ws → ws ≡ set (pairsAt m at 8) k p
+    → ofPair p ≡ w → length ws ≡ 8 → Ends ws → PairSet m m′ at w k
 unfolding pairsAt
-reached m m′ ws k p job l h q r e n f = subst (λ (m′ : List ℕ). Reached m m′ job k) (sym q) (record {
-  other = stored-other m ws n;
-  is = stored-windows m ws n (k + 1) h f
+stored m m′ at ws k p w l h q r e n f = subst (λ (m′ : List ℕ). PairSet m m′ at w k) (sym q) (record {
+  other = stored-other m at ws n;
+  is = stored-pairs m at ws n (k + 1) h f
       ∙ ap₂ (λ (j : ℕ) (us : List (List ℤ)). take j (ofPairs us)) (add-one k) r
-      ∙ pairs-more (pairsAt m windowsPlace 8) k p l
-      ∙ ap (λ (w : Window). windowsIn m k ++ w ∷ []) e;
+      ∙ pairs-more (pairsAt m at 8) k p l
+      ∙ ap (λ (w : Window). take k (ofPairs (pairsAt m at 8)) ++ w ∷ []) e;
 })
+
+-- a window, and the pair that it starts as
+pub reached : (m m₁ m₂ : List ℕ) (w : Window) (k : ℕ) → PairSet m m₁ windowsPlace w k → PairSet m₁ m₂ startsPlace w k → Reached m m₂ w k
+reached m m₁ m₂ w k a b = record {
+  other = record { outside = λ i f g. b .other .outside i g ∙ a .other .outside i f };
+  is = windows-same m₁ m₂ (k + 1) (λ i x y. b .other .outside i (λ u v. omega arith)) ∙ a .is;
+  starts = b .is ∙ ap (λ (l : List Window). l ++ w ∷ []) (starts-same m m₁ k (λ i x y. a .other .outside i (λ u v. omega arith)));
+}
 
 -- ---- windows narrowed
 
@@ -130,10 +138,10 @@ module _ (m : List ℕ) (k n : ℕ) (t : Tables m k n) where
     module _ (m₁ : List ℕ) (ls us : List (List ℤ)) (long : tablesPlace ≤ length m) (put : m₁ ≡ putPairs m windowsPlace us) (loaded : ls ≡ pairsAt m windowsPlace 8)
         (is : ofPairs us ≡ narrowedBy c a b (ofPairs ls)) (eight : length us ≡ 8) (e : Ends us) where
       put-windows : windowsIn m₁ k ≡ narrowed c (meant m n v) (meant m n w) (windowsIn m k)
-      put-windows = ap (λ (l : List ℕ). windowsIn l k) put ∙ stored-windows m us eight k long e ∙ ap (take k) (is ∙ ap (λ (l : List (List ℤ)). narrowedBy c a b (ofPairs l)) loaded) ∙ by-values
+      put-windows = ap (λ (l : List ℕ). windowsIn l k) put ∙ stored-pairs m windowsPlace us eight k (omega arith) e ∙ ap (take k) (is ∙ ap (λ (l : List (List ℤ)). narrowedBy c a b (ofPairs l)) loaded) ∙ by-values
 
       put-other : Other m m₁ windowsPlace windowsEnd
-      put-other = subst (λ (l : List ℕ). Other m l windowsPlace windowsEnd) (sym put) (stored-other m us eight)
+      put-other = subst (λ (l : List ℕ). Other m l windowsPlace windowsEnd) (sym put) (stored-other m windowsPlace us eight)
 
       pub put-some : Windows (windowsIn m₁ k)
       put-some = subst Windows (sym put-windows) some-left

@@ -11,7 +11,7 @@ use lib.Seq.{getD-at, getD-take, getD-set-same, getD-set-other}
 use lib.IntN.{ℤ, pos, negsuc}
 use mir.Syntax.{w32}
 use mir.Val.{toZ}
-use Rattle.semantics.specs.Run.{Window}
+use Rattle.semantics.specs.Program.{Window}
 use Rattle.semantics.specs.Search.{to, all32, span, fitted, range}
 use Rattle.semantics.proofs.Filled.{range-filled}
 use Rattle.simulation.specs.Nodes.{Cell, Known, Open, Node, cell, node, meaning, ranges, rangeIn}
@@ -21,8 +21,8 @@ use Rattle.intervals.specs.Meaning.{ofPair, Filled, ofPairs}
 use Rattle.window_memory.specs.Memory.{pairAt, pairsAt}
 use Rattle.ranges.proofs.Ranges.{filled, ordered}
 use Rattle.machine.specs.Kinds.{nodeOp, leftOpen, rightOpen}
-use Rattle.machine.specs.Layout.{windowsPlace, windowLow, windowHigh, windowsEnd, nodePlace, nodeLeft, nodeRight, nodeEnd, rangeLow, rangeHigh}
-use Rattle.machine.specs.Memory.{cellAs, nodeBy, nodeAt, nodesIn, windowsIn, rangesIn}
+use Rattle.machine.specs.Layout.{windowsPlace, windowLow, windowHigh, windowsEnd, startsPlace, startsEnd, nodePlace, nodeLeft, nodeRight, nodeEnd, rangeLow, rangeHigh}
+use Rattle.machine.specs.Memory.{cellAs, nodeBy, nodeAt, nodesIn, windowsIn, startsIn, rangesIn}
 use Rattle.machine.specs.Contracts.{Room}
 use Rattle.paths.specs.Table.{rangeAt, Ranging, Ranged, Windows, Anew}
 
@@ -53,6 +53,9 @@ pairs-same m m′ k (suc n) h =
 
 pub windows-same : (m m′ : List ℕ) (k : ℕ) → ((i : ℕ) → windowsPlace ≤ i → i < windowsEnd → getD m′ i 0 ≡ getD m i 0) → windowsIn m′ k ≡ windowsIn m k
 windows-same m m′ k h = ap (λ (l : List (List ℤ)). take k (ofPairs l)) (pairs-same m m′ windowsPlace 8 (λ i a b. h i a (omega arith)))
+
+pub starts-same : (m m′ : List ℕ) (k : ℕ) → ((i : ℕ) → startsPlace ≤ i → i < startsEnd → getD m′ i 0 ≡ getD m i 0) → startsIn m′ k ≡ startsIn m k
+starts-same m m′ k h = ap (λ (l : List (List ℤ)). take k (ofPairs l)) (pairs-same m m′ startsPlace 8 (λ i a b. h i a (omega arith)))
 
 -- ---- nodes
 

@@ -1,6 +1,7 @@
 -- Turns in the memory: what a step, a comparison and a free declaration are within the limits.
 use mathlib.Core.Path.{_≡_, refl, sym, ap, ap₂, _∙_, subst}
 use mathlib.Core.Bool.{Bool}
+use mathlib.Core.Option.{Option}
 use mathlib.Core.List.{List, [], _∷_, _++_, map}
 use Prim.Native.Nat.{ℕ, zero, suc, _+_, _-_, _≤_, _<_}
 use native.Mathlib.Omega.{arith}
@@ -8,14 +9,15 @@ use lib.Dec.{eqb}
 use borrow.Author.Tests.{ne-eqb}
 use lib.ListN.{length}
 use Rattle.semantics.specs.Int.{Cmp}
-use Rattle.semantics.specs.Run.{Window}
+use Rattle.semantics.specs.Program.{Window}
+use Rattle.semantics.specs.Run.{pairOf}
 use Rattle.semantics.specs.Search.{Value, Test, unknown, inUse}
 use Rattle.simulation.specs.Machine.{Machine, Doing}
 use Rattle.simulation.specs.Path.{State, state, Turn, cut, on, ended, still, fresh, comparing, turning}
 use Rattle.simulation.specs.Nodes as nodes
 use Rattle.simulation.specs.Nodes.{Noted, testOf}
 use Rattle.intervals.specs.Meaning.{Filled}
-use Rattle.machine.specs.Memory.{nodeAt, nodesIn, machineAt, windowsIn, testsIn, outcomesIn, testAt}
+use Rattle.machine.specs.Memory.{nodeAt, nodesIn, machineAt, windowsIn, startsIn, testsIn, outcomesIn, testAt}
 use Rattle.machine.specs.Contracts.{meant, Room, Ready, flagged}
 use Rattle.machine.specs.declared.Run.{Run}
 use Rattle.machine.specs.declared.Value as code
@@ -26,7 +28,7 @@ use Rattle.paths.specs.Point.{stateAt, Tested, Standing, Machinery, Comp
 use Rattle.paths.specs.Turn.{Growing, Grown, spending, declaring, Onward, Stops}
 use Rattle.paths.proofs.Choice.{windows-length}
 use Rattle.paths.proofs.Machinery.{machinery-then, machine-stays, ready-stays}
-use Rattle.paths.proofs.Growing.{range-machinery, range-windows, range-nodes, range-test, range-tests, range-outcomes, window-machinery, window-nodes, window-test, window-tests, window-outcomes, tested-more, tests-grow, reached-tables}
+use Rattle.paths.proofs.Growing.{range-machinery, range-windows, range-starts, range-nodes, range-test, range-tests, range-outcomes, window-machinery, window-nodes, window-test, window-tests, window-outcomes, tested-more, tests-grow, reached-tables}
 
 -- ---- turns of the definition
 
@@ -39,38 +41,39 @@ fresh-is m i (suc f) = sym (ne-eqb (suc f) 0 (λ e. omega arith))
 one-more : (n : ℕ) → 1 ≤ n → n ≡ suc (n - 1)
 one-more n h = omega arith
 
-module _ (job : Window) (f : ℕ) (ws : List Window) (ts : List Test) (p h : List Bool) where
-  step-none : (x : Machine Value) → turning inUse job (Doing.step x) (state 0 f ws ts p h) ≡ still (ended cut (state 0 f ws ts p h))
+module _ (job : Window) (f : ℕ) (ws ps : List Window) (ts : List Test) (p h : List Bool) where
+  step-none : (x : Machine Value) → turning inUse job (Doing.step x) (state 0 f ws ps ts p h) ≡ still (ended cut (state 0 f ws ps ts p h))
   unfolding turning
   step-none x = refl
 
-  step-one : (x : Machine Value) (l : ℕ) → turning inUse job (Doing.step x) (state (suc l) f ws ts p h) ≡ record { move = fresh p; went = on x (state l f ws ts p h) }
+  step-one : (x : Machine Value) (l : ℕ) → turning inUse job (Doing.step x) (state (suc l) f ws ps ts p h) ≡ record { move = fresh p; went = on x (state l f ws ps ts p h) }
   unfolding turning
   step-one x l = refl
 
-  test-none : (c : Cmp) (a b : Value) (k : Bool → Machine Value) → turning inUse job (Doing.test c a b k) (state 0 f ws ts p h) ≡ still (ended cut (state 0 f ws ts p h))
+  test-none : (c : Cmp) (a b : Value) (k : Bool → Machine Value) → turning inUse job (Doing.test c a b k) (state 0 f ws ps ts p h) ≡ still (ended cut (state 0 f ws ps ts p h))
   unfolding turning
   test-none c a b k = refl
 
-  test-one : (c : Cmp) (a b : Value) (k : Bool → Machine Value) (l : ℕ) → turning inUse job (Doing.test c a b k) (state (suc l) f ws ts p h)
-      ≡ record { move = fresh p; went = comparing inUse job c a b k (state l f ws ts p h) }
+  test-one : (c : Cmp) (a b : Value) (k : Bool → Machine Value) (l : ℕ) → turning inUse job (Doing.test c a b k) (state (suc l) f ws ps ts p h)
+      ≡ record { move = fresh p; went = comparing inUse job c a b k (state l f ws ps ts p h) }
   unfolding turning
   test-one c a b k l = refl
 
-  free-none : (k : Value → Machine Value) → turning inUse job (Doing.free k) (state 0 f ws ts p h) ≡ still (ended cut (state 0 f ws ts p h))
+  free-none : (o : Option Window) (k : Value → Machine Value) → turning inUse job (Doing.free o k) (state 0 f ws ps ts p h) ≡ still (ended cut (state 0 f ws ps ts p h))
   unfolding turning
-  free-none k = refl
+  free-none o k = refl
 
-free-full : (job : Window) (ws : List Window) (ts : List Test) (p h : List Bool) (k : Value → Machine Value) (l : ℕ) → turning inUse job (Doing.free k) (state l 0 ws ts p h)
-    ≡ still (ended cut (state l 0 ws ts p h))
+free-full : (job : Window) (o : Option Window) (ws ps : List Window) (ts : List Test) (p h : List Bool) (k : Value → Machine Value) (l : ℕ) → turning inUse job (Doing.free o k) (state l 0 ws ps ts p h)
+    ≡ still (ended cut (state l 0 ws ps ts p h))
 unfolding turning
-free-full job ws ts p h k zero = refl
-free-full job ws ts p h k (suc l) = refl
+free-full job o ws ps ts p h k zero = refl
+free-full job o ws ps ts p h k (suc l) = refl
 
-free-one : (job : Window) (ws : List Window) (ts : List Test) (p h : List Bool) (k : Value → Machine Value) (l f : ℕ)
-    → turning inUse job (Doing.free k) (state (suc l) (suc f) ws ts p h) ≡ record { move = fresh p; went = on (k (unknown (length ws))) (state l f (ws ++ job ∷ []) ts p h) }
+free-one : (job : Window) (o : Option Window) (ws ps : List Window) (ts : List Test) (p h : List Bool) (k : Value → Machine Value) (l f : ℕ)
+    → turning inUse job (Doing.free o k) (state (suc l) (suc f) ws ps ts p h)
+    ≡ record { move = fresh p; went = on (k (unknown (length ws))) (state l f (ws ++ pairOf job o ∷ []) (ps ++ pairOf job o ∷ []) ts p h) }
 unfolding turning
-free-one job ws ts p h k l f = refl
+free-one job o ws ps ts p h k l f = refl
 
 -- the turn goes on
 onward : (o o′ : Bool) (x x′ : Machine Value) (s s′ : State) → o ≡ o′ → x ≡ x′ → s ≡ s′ → _≡_ {A = Turn} (record { move = o; went = on x s }) (record { move = o′; went = on x′ s′ })
@@ -94,42 +97,42 @@ module _ (m : List ℕ) (p : Point) where
 
   -- the state with so many steps and free declarations left
   at : ℕ → ℕ → State
-  at l f = state l f (windowsIn m (p .windows)) tests left made
+  at l f = state l f (windowsIn m (p .windows)) (startsIn m (p .windows)) tests left made
 
   -- ---- the limits
 
   pub step-cut : (job : Window) (x : Machine Value) → p .steps ≡ 0 → Standing m p → Stops (turning inUse job (Doing.step x) (stateAt m p)) m p cut
   step-cut job x e h = record {
-    is = ap (λ (l : ℕ). turning inUse job (Doing.step x) (state l (8 - p .windows) (windowsIn m (p .windows)) tests left made)) e
-        ∙ step-none job (8 - p .windows) (windowsIn m (p .windows)) tests left made x
-        ∙ ap (λ (l : ℕ). still (ended cut (state l (8 - p .windows) (windowsIn m (p .windows)) tests left made))) (sym e);
+    is = ap (λ (l : ℕ). turning inUse job (Doing.step x) (state l (8 - p .windows) (windowsIn m (p .windows)) (startsIn m (p .windows)) tests left made)) e
+        ∙ step-none job (8 - p .windows) (windowsIn m (p .windows)) (startsIn m (p .windows)) tests left made x
+        ∙ ap (λ (l : ℕ). still (ended cut (state l (8 - p .windows) (windowsIn m (p .windows)) (startsIn m (p .windows)) tests left made))) (sym e);
     standing = h;
   }
 
   pub test-cut : (job : Window) (c : Cmp) (a b : Value) (k : Bool → Machine Value) → p .steps ≡ 0 → Standing m p → Stops (turning inUse job (Doing.test c a b k) (stateAt m p)) m p cut
   test-cut job c a b k e h = record {
-    is = ap (λ (l : ℕ). turning inUse job (Doing.test c a b k) (state l (8 - p .windows) (windowsIn m (p .windows)) tests left made)) e
-        ∙ test-none job (8 - p .windows) (windowsIn m (p .windows)) tests left made c a b k
-        ∙ ap (λ (l : ℕ). still (ended cut (state l (8 - p .windows) (windowsIn m (p .windows)) tests left made))) (sym e);
+    is = ap (λ (l : ℕ). turning inUse job (Doing.test c a b k) (state l (8 - p .windows) (windowsIn m (p .windows)) (startsIn m (p .windows)) tests left made)) e
+        ∙ test-none job (8 - p .windows) (windowsIn m (p .windows)) (startsIn m (p .windows)) tests left made c a b k
+        ∙ ap (λ (l : ℕ). still (ended cut (state l (8 - p .windows) (windowsIn m (p .windows)) (startsIn m (p .windows)) tests left made))) (sym e);
     standing = h;
   }
 
-  pub free-cut : (job : Window) (k : Value → Machine Value) → p .steps ≡ 0 → Standing m p → Stops (turning inUse job (Doing.free k) (stateAt m p)) m p cut
-  free-cut job k e h = record {
-    is = ap (λ (l : ℕ). turning inUse job (Doing.free k) (state l (8 - p .windows) (windowsIn m (p .windows)) tests left made)) e
-        ∙ free-none job (8 - p .windows) (windowsIn m (p .windows)) tests left made k
-        ∙ ap (λ (l : ℕ). still (ended cut (state l (8 - p .windows) (windowsIn m (p .windows)) tests left made))) (sym e);
+  pub free-cut : (job : Window) (o : Option Window) (k : Value → Machine Value) → p .steps ≡ 0 → Standing m p → Stops (turning inUse job (Doing.free o k) (stateAt m p)) m p cut
+  free-cut job o k e h = record {
+    is = ap (λ (l : ℕ). turning inUse job (Doing.free o k) (state l (8 - p .windows) (windowsIn m (p .windows)) (startsIn m (p .windows)) tests left made)) e
+        ∙ free-none job (8 - p .windows) (windowsIn m (p .windows)) (startsIn m (p .windows)) tests left made o k
+        ∙ ap (λ (l : ℕ). still (ended cut (state l (8 - p .windows) (windowsIn m (p .windows)) (startsIn m (p .windows)) tests left made))) (sym e);
     standing = h;
   }
 
   -- a ninth free declaration
-  pub ninth-cut : (job : Window) (k : Value → Machine Value) → p .windows ≡ 8 → Standing m p → Stops (turning inUse job (Doing.free k) (stateAt m p)) m p cut
-  ninth-cut job k e h =
+  pub ninth-cut : (job : Window) (o : Option Window) (k : Value → Machine Value) → p .windows ≡ 8 → Standing m p → Stops (turning inUse job (Doing.free o k) (stateAt m p)) m p cut
+  ninth-cut job o k e h =
       let z : 8 - p .windows ≡ 0 = omega arith in
       record {
-        is = ap (λ (f : ℕ). turning inUse job (Doing.free k) (state (p .steps) f (windowsIn m (p .windows)) tests left made)) z
-            ∙ free-full job (windowsIn m (p .windows)) tests left made k (p .steps)
-            ∙ ap (λ (f : ℕ). still (ended cut (state (p .steps) f (windowsIn m (p .windows)) tests left made))) (sym z);
+        is = ap (λ (f : ℕ). turning inUse job (Doing.free o k) (state (p .steps) f (windowsIn m (p .windows)) (startsIn m (p .windows)) tests left made)) z
+            ∙ free-full job o (windowsIn m (p .windows)) (startsIn m (p .windows)) tests left made k (p .steps)
+            ∙ ap (λ (f : ℕ). still (ended cut (state (p .steps) f (windowsIn m (p .windows)) (startsIn m (p .windows)) tests left made))) (sym z);
         standing = h;
       }
 
@@ -139,10 +142,10 @@ module _ (m : List ℕ) (p : Point) where
       → Grown m m′ (p .windows) n (run .nodes) → q ≡ spending p run
       → (job : Window) → Onward (turning inUse job (Doing.step (machineAt m run)) (stateAt m p)) m′ p (eqb (p .forced) 0) q
   step-on m′ run q h r g l len w e job = subst (Onward (turning inUse job (Doing.step (machineAt m run)) (stateAt m p)) m′ p (eqb (p .forced) 0)) (sym e) (record {
-    is = ap (λ (l : ℕ). turning inUse job (Doing.step (machineAt m run)) (state l (8 - p .windows) (windowsIn m (p .windows)) tests left made)) (one-more (p .steps) l)
-        ∙ step-one job (8 - p .windows) (windowsIn m (p .windows)) tests left made (machineAt m run) (p .steps - 1)
+    is = ap (λ (l : ℕ). turning inUse job (Doing.step (machineAt m run)) (state l (8 - p .windows) (windowsIn m (p .windows)) (startsIn m (p .windows)) tests left made)) (one-more (p .steps) l)
+        ∙ step-one job (8 - p .windows) (windowsIn m (p .windows)) (startsIn m (p .windows)) tests left made (machineAt m run) (p .steps - 1)
         ∙ onward _ _ _ _ _ _ (fresh-is m t (p .forced)) (sym (machine-stays (range-machinery n (w .other)) run (r .deep)))
-        (λ i. state (p .steps - 1) (8 - p .windows) (sym (range-windows n (w .other) (p .windows)) i) (sym tests-are i) (sym (range-outcomes n (w .other) t (p .forced)) i)
+        (λ i. state (p .steps - 1) (8 - p .windows) (sym (range-windows n (w .other) (p .windows)) i) (sym (range-starts n (w .other) (p .windows)) i) (sym tests-are i) (sym (range-outcomes n (w .other) t (p .forced)) i)
         (sym (range-outcomes n (w .other) 0 t) i));
     ready = ready-stays (range-machinery n (w .other)) run len r;
     standing = record { tables = w .tables; tested = λ j i. subst (Tested (run .nodes)) (sym (range-test n (w .other) j)) (tested-more n (run .nodes) (g .more) (testAt m j) (h .tested j i)) };
@@ -156,18 +159,18 @@ module _ (m : List ℕ) (p : Point) where
 
   -- ---- a free declaration
 
-  pub free-on : (m₁ m₂ : List ℕ) (run : Run) (job : Window) (q : Point) → Standing m p → Ready m run → run .nodes ≡ n + 1 → nodeAt m n ≡ nodes.unknown (p .windows) → Filled job → 1 ≤ p .steps
+  pub free-on : (m₁ m₂ : List ℕ) (run : Run) (w : Window) (q : Point) → Standing m p → Ready m run → run .nodes ≡ n + 1 → nodeAt m n ≡ nodes.unknown (p .windows) → Filled w → 1 ≤ p .steps
       → p .windows < 8 → length m₁ ≡ length m → length m₂ ≡ length m₁
-      → Reached m m₁ job (p .windows) → Ranged m₁ m₂ (p .windows + 1) n → q ≡ declaring p run → (next : Value → Machine Value) → next (unknown (p .windows)) ≡ machineAt m run
-      → Onward (turning inUse job (Doing.free next) (stateAt m p)) m₂ p (eqb (p .forced) 0) q
-  free-on m₁ m₂ run job q h r one new f l k len len₂ a b e next is = subst (Onward (turning inUse job (Doing.free next) (stateAt m p)) m₂ p (eqb (p .forced) 0)) (sym e) (record {
-    is = ap₂ (λ (l f : ℕ). turning inUse job (Doing.free next) (state l f (windowsIn m (p .windows)) tests left made)) (one-more (p .steps) l) fewer-left
-        ∙ free-one job (windowsIn m (p .windows)) tests left made next (p .steps - 1) (8 - (p .windows + 1))
+      → Reached m m₁ w (p .windows) → Ranged m₁ m₂ (p .windows + 1) n → q ≡ declaring p run → (job : Window) (o : Option Window) → pairOf job o ≡ w → (next : Value → Machine Value) → next (unknown (p .windows)) ≡ machineAt m run
+      → Onward (turning inUse job (Doing.free o next) (stateAt m p)) m₂ p (eqb (p .forced) 0) q
+  free-on m₁ m₂ run w q h r one new f l k len len₂ a b e job o same next is = subst (Onward (turning inUse job (Doing.free o next) (stateAt m p)) m₂ p (eqb (p .forced) 0)) (sym e) (record {
+    is = ap₂ (λ (l f : ℕ). turning inUse job (Doing.free o next) (state l f (windowsIn m (p .windows)) (startsIn m (p .windows)) tests left made)) (one-more (p .steps) l) fewer-left
+        ∙ free-one job o (windowsIn m (p .windows)) (startsIn m (p .windows)) tests left made next (p .steps - 1) (8 - (p .windows + 1))
         ∙ onward _ _ _ _ _ _ (fresh-is m t (p .forced)) (ap (λ (i : ℕ). next (unknown i)) (windows-length m (p .windows) (h .tables .count)) ∙ is ∙ sym (machine-stays moved run (r .deep)))
-        (λ i. state (p .steps - 1) (8 - (p .windows + 1)) (sym windows-are i) (sym tests-are i) (sym (outcomes-are t (p .forced)) i) (sym (outcomes-are 0 t) i));
+        (λ i. state (p .steps - 1) (8 - (p .windows + 1)) (sym windows-are i) (sym starts-are i) (sym tests-are i) (sym (outcomes-are t (p .forced)) i) (sym (outcomes-are 0 t) i));
     ready = ready-stays moved run (len₂ ∙ len) r;
     standing = record {
-      tables = subst (Tables m₂ (p .windows + 1)) (sym one) (reached-tables m m₁ job (p .windows) n (h .tables) a f m₂ k (subst (Room m) one (r .few)) len len₂ new b);
+      tables = subst (Tables m₂ (p .windows + 1)) (sym one) (reached-tables m m₁ w (p .windows) n (h .tables) a f m₂ k (subst (Room m) one (r .few)) len len₂ new b);
       tested = λ j i. subst (Tested (run .nodes)) (sym (range-test n (b .other) j ∙ window-test (a .other) j)) (tested-more n (run .nodes) (omega arith) (testAt m j) (h .tested j i));
     };
     lighter = omega arith;
@@ -180,8 +183,11 @@ module _ (m : List ℕ) (p : Point) where
       moved : Machinery m m₂
       moved = machinery-then (window-machinery (a .other)) (range-machinery n (b .other))
 
-      windows-are : windowsIn m₂ (p .windows + 1) ≡ windowsIn m (p .windows) ++ job ∷ []
-      windows-are = range-windows n (b .other) (p .windows + 1) ∙ a .is
+      windows-are : windowsIn m₂ (p .windows + 1) ≡ windowsIn m (p .windows) ++ pairOf job o ∷ []
+      windows-are = range-windows n (b .other) (p .windows + 1) ∙ a .is ∙ ap (λ (w : Window). windowsIn m (p .windows) ++ w ∷ []) (sym same)
+
+      starts-are : startsIn m₂ (p .windows + 1) ≡ startsIn m (p .windows) ++ pairOf job o ∷ []
+      starts-are = range-starts n (b .other) (p .windows + 1) ∙ a .starts ∙ ap (λ (w : Window). startsIn m (p .windows) ++ w ∷ []) (sym same)
 
       outcomes-are : (i f : ℕ) → outcomesIn m₂ i f ≡ outcomesIn m i f
       outcomes-are i f = range-outcomes n (b .other) i f ∙ window-outcomes (a .other) i f
@@ -206,8 +212,8 @@ module _ (m : List ℕ) (p : Point) where
       so : Compared m m′ (spending p run) c v w q → Onward (turning inUse job (Doing.test c (meant m n v) (meant m n w) (λ b. machineAt m (flagged run b))) (stateAt m p)) m′ p (eqb (p .forced) 0) q
       so d = record {
         is = ap (λ (l : ℕ). turning inUse job (Doing.test c (meant m n v) (meant m n w) (λ b. machineAt m (flagged run b)))
-            (state l (8 - p .windows) (windowsIn m (p .windows)) tests left made)) (one-more (p .steps) l)
-            ∙ test-one job (8 - p .windows) (windowsIn m (p .windows)) tests left made c (meant m n v) (meant m n w) (λ b. machineAt m (flagged run b)) (p .steps - 1)
+            (state l (8 - p .windows) (windowsIn m (p .windows)) (startsIn m (p .windows)) tests left made)) (one-more (p .steps) l)
+            ∙ test-one job (8 - p .windows) (windowsIn m (p .windows)) (startsIn m (p .windows)) tests left made c (meant m n v) (meant m n w) (λ b. machineAt m (flagged run b)) (p .steps - 1)
             ∙ (λ i. record { move = fresh-is m t (p .forced) i; went = went i });
         ready = d .follows .ready;
         standing = d .follows .standing;
@@ -215,10 +221,10 @@ module _ (m : List ℕ) (p : Point) where
         fewer = omega (arith, d .follows .fewer);
       }
         where
-          went : comparing inUse job c (meant m n v) (meant m n w) (λ b. machineAt m (flagged run b)) (state (p .steps - 1) (8 - p .windows) (windowsIn m (p .windows)) tests left made)
+          went : comparing inUse job c (meant m n v) (meant m n w) (λ b. machineAt m (flagged run b)) (state (p .steps - 1) (8 - p .windows) (windowsIn m (p .windows)) (startsIn m (p .windows)) tests left made)
               ≡ on (machineAt m′ (q .run)) (stateAt m′ q)
           went =
               (λ i. comparing inUse job c (meant m (sym one i) v) (meant m (sym one i) w) (λ b. machineAt m (flagged run b))
-              (state (p .steps - 1) (8 - p .windows) (windowsIn m (p .windows)) (map (testOf (nodesIn m (sym one i))) (testsIn m t)) left made))
+              (state (p .steps - 1) (8 - p .windows) (windowsIn m (p .windows)) (startsIn m (p .windows)) (map (testOf (nodesIn m (sym one i))) (testsIn m t)) left made))
               ∙ d .is job
               ∙ ap₂ (λ (x : Machine Value) (s : State). on x s) (sym (d .follows .machine)) (sym (d .follows .is))

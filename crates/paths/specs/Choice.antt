@@ -4,14 +4,16 @@ use mathlib.Core.Bool.{Bool}
 use mathlib.Core.Option.{none}
 use mathlib.Core.List.{List, [], _∷_, _++_}
 use Prim.Native.Nat.{ℕ, _+_, _-_, _≤_, _<_}
-use lib.ListN.{getD}
+use lib.ListN.{getD, take}
 use Rattle.semantics.specs.Int.{Cmp}
-use Rattle.semantics.specs.Run.{Window}
+use Rattle.semantics.specs.Program.{Window}
 use Rattle.semantics.specs.Search.{decided, narrowed}
 use Rattle.simulation.specs.Path.{outcome, later}
 use Rattle.simulation.specs.Nodes.{Node, unknown, operation, Within, Noted, ranges, rangeIn}
-use Rattle.machine.specs.Layout.{windowsPlace, windowsEnd, rangeLow, rangeEnd, testPlace, testEnd, outcomePlace, indexEnd}
-use Rattle.machine.specs.Memory.{nodeAt, nodesIn, windowsIn, rangesIn, testAt, outcomeAs, outcomesIn}
+use Rattle.intervals.specs.Meaning.{ofPairs}
+use Rattle.window_memory.specs.Memory.{pairsAt}
+use Rattle.machine.specs.Layout.{windowsPlace, windowsEnd, startsPlace, startsEnd, rangeLow, rangeEnd, testPlace, testEnd, outcomePlace, indexEnd}
+use Rattle.machine.specs.Memory.{nodeAt, nodesIn, windowsIn, startsIn, rangesIn, testAt, outcomeAs, outcomesIn}
 use Rattle.machine.specs.Contracts.{cellOf, Sized, meant, Room, Other}
 use Rattle.machine.specs.declared.Value as code
 use Rattle.machine.specs.declared.Value.the-variants.{Known, Open}
@@ -32,10 +34,20 @@ pub record Tables (m : List ℕ) (k n : ℕ) : Type 0 where
   pub named : (j : ℕ) → j < n → Named k (nodeAt m j)
   pub is : rangesIn m n ≡ ranges (windowsIn m k) (nodesIn m n)
 
--- a free declaration was reached after k others, and no other word changed: "each free declaration starts with the job's pair"
-pub record Reached (m m′ : List ℕ) (job : Window) (k : ℕ) : Type 0 where
-  pub other : Other m m′ windowsPlace windowsEnd
-  pub is : windowsIn m′ (k + 1) ≡ windowsIn m k ++ job ∷ []
+-- of the eight pairs at a place, w is the one after the first k, and no word beside the eight changed
+pub record PairSet (m m′ : List ℕ) (at : ℕ) (w : Window) (k : ℕ) : Type 0 where
+  pub other : Other m m′ at (at + 16)
+  pub is : take (k + 1) (ofPairs (pairsAt m′ at 8)) ≡ take k (ofPairs (pairsAt m at 8)) ++ w ∷ []
+
+-- only windows and the pairs that they started as may have changed
+pub record PairsOnly (m m′ : List ℕ) : Type 0 where
+  pub outside : (i : ℕ) → (windowsPlace ≤ i → i < windowsEnd → ⊥) → (startsPlace ≤ i → i < startsEnd → ⊥) → getD m′ i 0 ≡ getD m i 0
+
+-- a free declaration was reached after k others, and no other word changed: its window starts as its pair, and the pair is kept
+pub record Reached (m m′ : List ℕ) (w : Window) (k : ℕ) : Type 0 where
+  pub other : PairsOnly m m′
+  pub is : windowsIn m′ (k + 1) ≡ windowsIn m k ++ w ∷ []
+  pub starts : startsIn m′ (k + 1) ≡ startsIn m k ++ w ∷ []
 
 -- ---- tests
 

@@ -5,12 +5,12 @@ use mathlib.Core.List.{List, map}
 use Prim.Native.Nat.{ℕ, _+_, _-_, _≤_, _<_}
 use lib.ListN.{getD}
 use Rattle.semantics.specs.Int.{Cmp}
-use Rattle.semantics.specs.Run.{Window}
+use Rattle.semantics.specs.Program.{Window}
 use Rattle.semantics.specs.Search.{narrowed, inUse}
 use Rattle.simulation.specs.Path.{State, state, outcome, holding, chose, on, comparing}
 use Rattle.simulation.specs.Nodes.{Within, Noted, testOf}
 use Rattle.machine.specs.Layout.{windowsPlace, tempPlace, nodeEnd}
-use Rattle.machine.specs.Memory.{nodesIn, machineAt, windowsIn, testsIn, outcomesIn, testAt}
+use Rattle.machine.specs.Memory.{nodesIn, machineAt, windowsIn, startsIn, testsIn, outcomesIn, testAt}
 use Rattle.machine.specs.Contracts.{cellOf, Sized, meant, Room, Ready, flagged}
 use Rattle.machine.specs.declared.Value as code
 use Rattle.machine.specs.declared.Run.{Run}
@@ -19,7 +19,7 @@ use Rattle.paths.specs.Choice.{Tables}
 
 -- the state: a choice is noted with its test, so that there are as many tests as choices
 abbrev pub stateAt : List ℕ → Point → State
-stateAt m p = state (p .steps) (8 - p .windows) (windowsIn m (p .windows)) (map (testOf (nodesIn m (p .run .nodes))) (testsIn m (p .choices)))
+stateAt m p = state (p .steps) (8 - p .windows) (windowsIn m (p .windows)) (startsIn m (p .windows)) (map (testOf (nodesIn m (p .run .nodes))) (testsIn m (p .choices)))
     (outcomesIn m (p .choices) (p .forced)) (outcomesIn m 0 (p .choices))
 
 -- a test on the first n nodes

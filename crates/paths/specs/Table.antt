@@ -4,7 +4,7 @@ use mathlib.Core.List.{List, [], _∷_, _++_}
 use Prim.Native.Nat.{ℕ, _+_, _≤_, _<_}
 use lib.ListN.{getD}
 use lib.IntN.{pos}
-use Rattle.semantics.specs.Run.{Window}
+use Rattle.semantics.specs.Program.{Window}
 use Rattle.semantics.specs.Search.{to, all32, span, fitted}
 use Rattle.simulation.specs.Nodes.{node, ranges}
 use Rattle.intervals.specs.Meaning.{Filled}

@@ -1,10 +1,12 @@
 -- A turn of the machine in the memory: one entry is worked, within the limits.
 use mathlib.Core.Path.{_≡_}
 use mathlib.Core.Bool.{Bool}
+use mathlib.Core.Option.{Option}
 use mathlib.Core.List.{List}
 use Prim.Native.Nat.{ℕ, _+_, _-_, _≤_, _<_}
 use Rattle.semantics.specs.Int.{Cmp}
-use Rattle.semantics.specs.Run.{Window}
+use Rattle.semantics.specs.Program.{Window}
+use Rattle.semantics.specs.Run.{pairOf}
 use Rattle.semantics.specs.Search.{unknown, inUse}
 use Rattle.simulation.specs.Code.{Code}
 use Rattle.simulation.specs.Machine.{Machine, Doing}
@@ -75,7 +77,7 @@ Onwards m′ (Returned v) = Unit {0}
 Onwards m′ Failed = Unit {0}
 Onwards m′ Cut = Unit {0}
 
--- ---- what was done after an entry was worked with this run, from the point p in the memory m: a step, a comparison, a free declaration
+-- ---- what was done after an entry was worked with this run, from the point p in the memory m: a step, a comparison, a free declaration whose pair is w
 
 abbrev pub AfterStep : List ℕ → List ℕ → Point → Run → Turned → Type 0
 AfterStep m m′ p run r = (job : Window) → Turning (turning inUse job (Doing.step (machineAt m run)) (stateAt m p)) m′ p r
@@ -85,7 +87,8 @@ AfterTest m m′ p run c v w r = (job : Window)
     → Turning (turning inUse job (Doing.test c (meant m (p .run .nodes) v) (meant m (p .run .nodes) w) (λ b. machineAt m (flagged run b))) (stateAt m p)) m′ p r
 
 abbrev pub AfterFree : List ℕ → List ℕ → Point → Run → Window → Turned → Type 0
-AfterFree m m′ p run job r = (next : Sym → Machine Sym) → next (unknown (p .windows)) ≡ machineAt m run → Turning (turning inUse job (Doing.free next) (stateAt m p)) m′ p r
+AfterFree m m′ p run w r = (job : Window) (o : Option Window) → pairOf job o ≡ w → (next : Sym → Machine Sym) → next (unknown (p .windows)) ≡ machineAt m run
+    → Turning (turning inUse job (Doing.free o next) (stateAt m p)) m′ p r
 
 -- a whole turn
 abbrev pub OneTurn : Code → Window → List ℕ → List ℕ → Point → Turned → Type 0

@@ -5,7 +5,7 @@ ghost use mathlib.Core.List.{List};
 ghost use Prim.Native.Nat.{_+_, _-_, _*_, _<_, _≤_};
 ghost use lib.ListN.{length, getD};
 ghost use Rattle.semantics.specs.Int.{Cmp};
-ghost use Rattle.semantics.specs.Run.{Window as WindowS};
+ghost use Rattle.semantics.specs.Program.{Window as WindowS};
 ghost use Rattle.semantics.specs.Search.{all32, clipped, unknown};
 ghost use Rattle.simulation.specs.Path.{holding as holdingS};
 ghost use Rattle.simulation.specs.Words.{codeIn};
@@ -18,7 +18,7 @@ ghost use Rattle.machine.specs.Layout.{tablesPlace};
 ghost use Rattle.machine.specs.Memory.{cellAs, nodeAt, windowsIn, rangesIn, outcomesIn};
 ghost use Rattle.machine.specs.Contracts.{cellOf, Sized, meant, Room, Ready};
 ghost use Rattle.paths.specs.Table.{rangeAt, Ranging, Ranged, Windows, Anew};
-ghost use Rattle.paths.specs.Choice.{Tables, Reached, bit, testBy, Noting, Taken, Undecided, Narrowed};
+ghost use Rattle.paths.specs.Choice.{Tables, PairSet, Reached, bit, testBy, Noting, Taken, Undecided, Narrowed};
 ghost use Rattle.paths.specs.Point.{Standing, Chose, chosen, running, flagging, Usable, Compared, Going};
 ghost use Rattle.paths.specs.Turn.{Growing, Grown, spending, declaring, AfterStep, AfterTest, AfterFree, OneTurn};
 ghost use Rattle.paths.specs.Walk.{Walking};
@@ -149,17 +149,22 @@ fn all_ranges(mem: &mut [u32], k: usize, n: usize)
     }
 }
 
-// A free declaration is reached: window k is the job's pair.
-fn reach(mem: &mut [u32], job: Window, k: usize)
-    requires { ⌜ (k < 8) × (tablesPlace ≤ length (now mem)) ⌝ }
-    ensures { λ _. ⌜ Reached (now (mem .entry)) (now (mem .exit)) (ofWindow job) k ⌝ }
+// Pair k of the eight at a place is this one.
+fn store_pair(mem: &mut [u32], at: usize, w: Window, k: usize)
+    requires { ⌜ (k < 8) × (at + 16 ≤ length (now mem)) ⌝ }
+    ensures { λ _. ⌜ PairSet (now (mem .entry)) (now (mem .exit)) at (ofWindow w) k ⌝ }
 {
-    let ws = window_memory::load(mem, layout::WINDOWS);
-    window_memory::put(
-        mem,
-        layout::WINDOWS,
-        narrowing::with_pair(ws, k, [job.low, job.high]),
-    );
+    let ws = window_memory::load(mem, at);
+    window_memory::put(mem, at, narrowing::with_pair(ws, k, [w.low, w.high]));
+}
+
+// A free declaration is reached: window k starts as its pair, and the pair is kept.
+fn reach(mem: &mut [u32], w: Window, k: usize)
+    requires { ⌜ (k < 8) × (tablesPlace ≤ length (now mem)) ⌝ }
+    ensures { λ _. ⌜ Reached (now (mem .entry)) (now (mem .exit)) (ofWindow w) k ⌝ }
+{
+    store_pair(mem, layout::WINDOWS, w, k);
+    store_pair(mem, layout::STARTS, w, k);
 }
 
 // A side of a comparison, in k windows with n nodes.
@@ -386,10 +391,10 @@ fn after_test(mem: &mut [u32], p: Point, run: Run, c: u32, v: Value, w: Value) -
     Turned::On(p.forced == 0, compare(mem, spend(p, run), c, v, w))
 }
 
-// A free declaration.
-fn after_free(mem: &mut [u32], p: Point, run: Run, job: Window) -> Turned
-    requires { ⌜ Standing (now mem) p × Ready (now mem) run × (run .nodes ≡ p .run .nodes + 1) × (nodeAt (now mem) (p .run .nodes) ≡ nodes.unknown (p .windows)) × Filled (ofWindow job) ⌝ }
-    ensures { λ r. ⌜ AfterFree (now (mem .entry)) (now (mem .exit)) p run (ofWindow job) r ⌝ }
+// A free declaration, with its pair.
+fn after_free(mem: &mut [u32], p: Point, run: Run, w: Window) -> Turned
+    requires { ⌜ Standing (now mem) p × Ready (now mem) run × (run .nodes ≡ p .run .nodes + 1) × (nodeAt (now mem) (p .run .nodes) ≡ nodes.unknown (p .windows)) × Filled (ofWindow w) ⌝ }
+    ensures { λ r. ⌜ AfterFree (now (mem .entry)) (now (mem .exit)) p run (ofWindow w) r ⌝ }
 {
     if p.steps == 0 {
         return Turned::Cut;
@@ -398,7 +403,7 @@ fn after_free(mem: &mut [u32], p: Point, run: Run, job: Window) -> Turned
         return Turned::Cut;
     }
     let old = p.run;
-    reach(mem, job, p.windows);
+    reach(mem, w, p.windows);
     write_range(mem, p.windows + 1, old.nodes);
     Turned::On(p.forced == 0, declare(p, run))
 }
@@ -422,10 +427,10 @@ fn turn(code: &[u32], size: usize, mem: &mut [u32], job: Window, p: Point) -> Tu
     ensures { λ r. ⌜ OneTurn (codeIn (now (code .entry)) size) (ofWindow job) (now (mem .entry)) (now (mem .exit)) p r ⌝ }
 {
     let run = p.run;
-    match machine::advance(code, size, mem, run, p.windows as u32) {
+    match machine::advance(code, size, mem, job, run, p.windows as u32) {
         Did::Silent(r) => Turned::On(false, proceed(p, r)),
         Did::Step(r) => after_step(mem, p, r),
-        Did::Free(r) => after_free(mem, p, r, job),
+        Did::Free(r, w) => after_free(mem, p, r, w),
         Did::Test(c, v, w, r) => after_test(mem, p, r, c, v, w),
         Did::Returned(v) => Turned::Returned(v),
         Did::Failed => Turned::Failed,

@@ -7,7 +7,7 @@ use lib.Signed.{leZ}
 use mir.Syntax.{w32}
 use mir.Val.{SFits}
 use Rattle.semantics.specs.Int.{Op, add, sub, mul}
-use Rattle.semantics.specs.Run.{Window}
+use Rattle.semantics.specs.Program.{Window}
 use Rattle.semantics.specs.Search.{to, all32, minZ, maxZ, span, fitted}
 use Rattle.semantics.proofs.Order.{up, down, _≼_, leZ→, →leZ, of-add, of-minus}
 use Rattle.semantics.proofs.Range.{min-left, max-left}

@@ -7,7 +7,8 @@ use mathlib.Core.List.{List}
 use lib.ListN.{length}
 use lib.IntN.{ℤ}
 use Rattle.semantics.specs.Does.{does, Sure}
-use Rattle.semantics.specs.Run.{Window, Job}
+use Rattle.semantics.specs.Program.{Window}
+use Rattle.semantics.specs.Run.{Job}
 use Rattle.semantics.specs.Search.{known, work, inUse, listed}
 use Rattle.simulation.specs.Code.{Code}
 use Rattle.simulation.specs.Machine.{start}

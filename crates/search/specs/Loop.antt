@@ -7,7 +7,7 @@ use mathlib.Core.Option.{Option, none, some}
 use lib.ListN.{getD}
 use lib.IntN.{ℤ}
 use Rattle.semantics.specs.Does.{does, Sure}
-use Rattle.semantics.specs.Run as run
+use Rattle.semantics.specs.Program as program
 use Rattle.semantics.specs.Run.{Job}
 use Rattle.semantics.specs.Search.{known, work, inUse, Close, whole, cuts, full, spent, Answer, listed}
 use Rattle.simulation.specs.Code.{Code}
@@ -102,7 +102,7 @@ pub record Finished (m m′ : List ℕ) (rows rows′ : List ℤ) (e : End) (p :
   pub rowed : Rowed rows rows′ (t .written) (writtenIn r)
 
 -- one path, and what is done at its end
-pub record Round (c : Code) (job : run.Window) (limit : ℕ) (m m′ : List ℕ) (rows rows′ : List ℤ) (forced : ℕ) (t : Tally) (r : Then) : Type 0 where
+pub record Round (c : Code) (job : program.Window) (limit : ℕ) (m m′ : List ℕ) (rows rows′ : List ℤ) (forced : ℕ) (t : Tally) (r : Then) : Type 0 where
   pub is : thenOf m′ rows′ r ≡ path inUse job c limit (turnsOf c limit) (start known work c) (begins limit (outcomesIn m 0 forced)) (tallyOf rows t)
   pub onward : Onward t r
   pub rowed : Rowed rows rows′ (t .written) (writtenIn r)
@@ -110,7 +110,7 @@ pub record Round (c : Code) (job : run.Window) (limit : ℕ) (m m′ : List ℕ)
 -- ---- the search
 
 -- the answer to every job with this window and limit, whose program the code is, and of which no run reads a variable that holds nothing; the slice holds its rows, and behind them what it held
-pub record Lists (c : Code) (window : run.Window) (limit skip room budget : ℕ) (rows rows′ : List ℤ) (a : Answered) : Type 0 where
+pub record Lists (c : Code) (window : program.Window) (limit skip room budget : ℕ) (rows rows′ : List ℤ) (a : Answered) : Type 0 where
   pub is : (j : Job) → Placed c (j .program) → Sure (does known work (j .steps) (j .program)) → j .window ≡ window → j .steps ≡ limit → answerOf rows′ a ≡ listed inUse j skip room budget
   pub sheet : rows′ ≡ sheet rows (answerOf rows′ a .rows)
   pub few : a .written ≤ room

@@ -9,11 +9,10 @@ use lib.Dec.{T}
 use lib.Seq.{drop-nil}
 use Rattle.semantics.specs.Run.{Row, Job}
 use Rattle.semantics.specs.Plans.{choices, plans, someCut}
-use Rattle.semantics.specs.Search.{all32, Move, plain, found, probe, rowsIn, cutIn, Solver, search, Close, whole, cuts, full, spent, Answer, answer, listed}
+use Rattle.semantics.specs.Search.{Move, plain, found, probe, rowsIn, cutIn, Solver, search, Close, whole, cuts, full, spent, Answer, answer, listed}
 use Rattle.semantics.specs.Promise.{Ended, Full, Spent, Promised, atWhole, atCut, atFull, atSpent}
-use Rattle.semantics.proofs.Range.{Sub}
 use Rattle.semantics.proofs.Sound.{Sound}
-use Rattle.semantics.proofs.Complete.{search-rows, search-cut}
+use Rattle.semantics.proofs.Complete.{Small, search-rows, search-cut}
 use Rattle.semantics.proofs.Plans.{some-cut}
 use Rattle.semantics.proofs.Trace.{by-less}
 
@@ -86,7 +85,7 @@ drop-front (suc n) (r ∷ x) y = drop-front n x y
 
 -- ---- the promise
 
-module _ (v : Solver) (sound : Sound v) (j : Job) (small : Sub (j .window) all32) (skip room budget : ℕ) where
+module _ (v : Solver) (sound : Sound v) (j : Job) (small : Small j) (skip room budget : ℕ) where
   promised : (a : Answer) → Outcome whole (search v j) skip room budget a → Promised v j (plans j) skip room budget a
   promised a (filled l p q w s t u) = atFull p (record {
     last = l;

@@ -51,7 +51,7 @@ unfoldable mutual
   pub after : Stmt → ℕ → Flow → Flow
   after Stmt.empty v f = f
   after (Stmt.declare a) v f = f
-  after (Stmt.unknown (slot i)) v f = assigned i v f
+  after (Stmt.unknown (slot i) o) v f = assigned i v f
   after (Stmt.assign (slot i) e) v f = assigned i v f
   after (Stmt.eval e) v f = f
   after (Stmt.block ss) v f = afterAll ss v f
@@ -105,7 +105,7 @@ module _ (arity : ℕ → ℕ) where
     pub KeepsS : Stmt → Flows → Type 0
     KeepsS Stmt.empty φ = Unit {0}
     KeepsS (Stmt.declare (slot i)) φ = Unassigned (φ i)
-    KeepsS (Stmt.unknown (slot i)) φ = i < 16
+    KeepsS (Stmt.unknown (slot i) o) φ = i < 16
     KeepsS (Stmt.assign (slot i) e) φ = (i < 16) × KeepsE e φ
     KeepsS (Stmt.eval e) φ = KeepsE e φ
     KeepsS (Stmt.block ss) φ = KeepsSs ss φ
@@ -175,7 +175,7 @@ mutual
   below-after : (s : Stmt) (v : ℕ) (f : Flow) → Below f (after s v f)
   below-after Stmt.empty v f = below-refl f
   below-after (Stmt.declare a) v f = below-refl f
-  below-after (Stmt.unknown (slot i)) v f = below-assigned i v f
+  below-after (Stmt.unknown (slot i) o) v f = below-assigned i v f
   below-after (Stmt.assign (slot i) e) v f = below-assigned i v f
   below-after (Stmt.eval e) v f = below-refl f
   below-after (Stmt.block ss) v f = below-all ss v f
@@ -332,7 +332,7 @@ module _ {X : Type 0} (num : ℤ → X) (work : Op → X → X → X) (arity : �
             → ((G : Frame X) → Fits G (λ v. after s v (φ v)) → Sure (k G)) → ((x : X) → Sure (r x)) → Sure (stmt num work invoke most s F k r)
         stmt-sure Stmt.empty h e k r s t = s _ h
         stmt-sure (Stmt.declare (slot i)) h e k r s t = s _ (fits-declare i _ e h)
-        stmt-sure (Stmt.unknown (slot i)) h e k r s t = λ x. s _ (fits-store i x e h)
+        stmt-sure (Stmt.unknown (slot i) o) h e k r s t = λ x. s _ (fits-store i x e h)
         stmt-sure (Stmt.assign (slot i) a) h e k r s t = expr-sure a h (e .1) _ λ x. s _ (fits-store i x (e .0) h)
         stmt-sure (Stmt.eval a) h e k r s t = expr-sure a h e _ λ x. s _ h
         stmt-sure (Stmt.block ss) h e k r s t = stmts-sure ss h e k r s t

@@ -7,16 +7,19 @@ use native.Mathlib.Omega.{arith}
 use lib.ListN.{length}
 use lib.IntN.{ℤ}
 use lib.Dec.{leb·zero}
+use Rattle.semantics.specs.Int.{arith as work32}
 use Rattle.semantics.specs.Does.{does}
 use Rattle.semantics.specs.Run.{Ending, returns, fails, cuts, Ran, Choice, Row, Job, meaning}
-use Rattle.semantics.specs.Plans.{adding, belonging, before, insert, sorted, rowsWith, rowsOf, isCut, lists, choices, plans, someCut}
+use Rattle.semantics.specs.Plans.{before, insert, sorted, rowsWith, rowsOf, isCut, choices, plans, someCut}
 use Rattle.semantics.specs.Search.{known, work, all32, Move, plain, found, probe, meets, paths, moves, probedOnce, openly, Solver, search, rowsIn, cutIn}
 use Rattle.semantics.proofs.Order.{cond-cases}
-use Rattle.semantics.proofs.Range.{Sub}
+use Rattle.semantics.proofs.Range.{Sub, sub-refl}
 use Rattle.semantics.proofs.Keep.{keep-all, all-of}
-use Rattle.semantics.proofs.Ends.{ends, sorted-ends}
+use Rattle.semantics.proofs.Ends.{adding, belonging, ends, sorted-ends}
 use Rattle.semantics.proofs.Natural.{natural}
-use Rattle.semantics.proofs.Settings.{rising-lists}
+use Rattle.semantics.proofs.Settings.{lists, fits, rising-lists}
+use Rattle.semantics.proofs.Own.{Pairs, does-asks}
+use Rattle.semantics.proofs.Walked.{walked}
 use Rattle.semantics.proofs.Seen.{seenIn, seenOf, seenEnd}
 use Rattle.semantics.proofs.Trace.{search-good, in-32}
 use Rattle.semantics.proofs.Sound.{Sound}
@@ -100,23 +103,30 @@ unfolding belonging
 same-choices f g h [] = refl
 same-choices f g h (s ∷ ss) = ap₂ (λ r l. adding r s l) (h s) (same-choices f g h ss)
 
--- the choices of a job, in their order, are the leaves of what its program does over open values
-pub sorted-choices : (j : Job) → sorted (choices j) ≡ ends 0 (openly j) (lists 8 (j .window))
-unfolding choices meaning openly
-sorted-choices j =
-    ap sorted (same-choices _ _ (λ s. sym (natural (j .steps) (j .steps) (j .program) s)) (lists 8 (j .window)))
-    ∙ sorted-ends 0 (openly j) (lists 8 (j .window)) (rising-lists (j .window) 8)
+-- what the theorems on a job ask: its window and every own pair lie in 32 bits
+pub record Small (j : Job) : Type 0 where
+  pub window : Sub (j .window) all32
+  pub pairs : Pairs (λ w. Sub w all32) (j .program)
 
-module _ (solver : Solver) (sound : Sound solver) (j : Job) (small : Sub (j .window) all32) where
+-- the choices of a job, in their order, are the leaves of what its program does over open values
+pub sorted-choices : (j : Job) → Small j → sorted (choices j) ≡ ends (j .window) 0 (openly j) (lists 8 all32)
+unfolding choices meaning openly
+sorted-choices j h =
+    ap sorted (walked (j .window) all32 (h .window) (does (λ z. z) work32 (j .steps) (j .program)) (does-asks _ (λ z. z) work32 (j .steps) (j .program) (h .pairs)) (j .steps) 8)
+    ∙ ap sorted (same-choices _ _ (λ s. sym (natural (j .window) (j .steps) (j .steps) (j .program) s)) (lists 8 all32))
+    ∙ sorted-ends (j .window) 0 (openly j) (lists 8 all32) (rising-lists all32 8)
+
+module _ (solver : Solver) (sound : Sound solver) (j : Job) (small : Small j) where
   abbrev all-moves : List Move
   all-moves = moves (paths solver (j .window) (openly j) [] [])
 
   seen : seenIn all-moves ≡ seenOf (sorted (choices j))
-  unfolding meets openly
+  unfolding meets openly fits
   seen =
-      search-good solver sound (j .window) small (does known work (j .steps) (j .program)) (j .steps) 8 .good [] [] (omega arith) (λ i l. absurd (omega arith)) (record { keeps = λ s i l m. in-32 solver sound (j .window) small s i })
-      ∙ ap (λ l. seenOf (ends 0 (openly j) l)) (keep-all _ (all-of (λ s. ap (λ b. b && true) (leb·zero (length s))) (lists 8 (j .window))))
-      ∙ ap seenOf (sym (sorted-choices j))
+      search-good solver sound (j .window) (small .window) (does known work (j .steps) (j .program)) (does-asks _ known work (j .steps) (j .program) (small .pairs)) (j .steps) 8 .good [] [] [] (omega arith)
+      (record { narrower = record { many = refl; each = λ i. sub-refl all32 }; within32 = λ i l. absurd (omega arith); keeps = λ s i l f m. in-32 s i })
+      ∙ ap (λ l. seenOf (ends (j .window) 0 (openly j) l)) (keep-all _ (all-of (λ s. ap (λ b. (b && true) && true) (leb·zero (length s))) (lists 8 all32)))
+      ∙ ap seenOf (sym (sorted-choices j small))
 
   pub search-rows : rowsIn (search solver j) ≡ plans j
   unfolding search plans

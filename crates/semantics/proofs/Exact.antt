@@ -12,7 +12,7 @@ use lib.Signed.{leZ}
 use mir.Syntax.{w32}
 use mir.Val.{toZ}
 use Rattle.semantics.specs.Int.{Op, add, sub, mul, exact, low32, wrap, Cmp, lt, le, gt, ge, eq, ne, eqZ, holds}
-use Rattle.semantics.specs.Run.{Window}
+use Rattle.semantics.specs.Program.{Window}
 use Rattle.semantics.specs.Search.{Value, open′, all32, minZ, maxZ, span, fitted, range, negated, always, decided, clip}
 use Rattle.semantics.proofs.Order.{up, down, _≼_, cond-cases, leZ→, →leZ, →ltZ, nleZ→, antisym, eqZ→, eqZ-refl, of-suc, of-pred}
 use Rattle.semantics.proofs.Range.{In, Sub, and-left, and-right, and-both, sel-cases, low-fits, wrap-in, wrap-same, span-sound, min-right, max-left, max-right, max-least}

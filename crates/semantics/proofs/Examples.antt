@@ -2,7 +2,7 @@
 use Prim.Native.Nat.{ℕ, zero, suc}
 use mathlib.Core.Path.{_≡_, refl}
 use mathlib.Core.Bool.{true}
-use mathlib.Core.Option.{none}
+use mathlib.Core.Option.{none, some}
 use mathlib.Core.List.{List, [], _∷_, map}
 use lib.IntN.{ℤ, pos, negsuc}
 use Rattle.semantics.specs.Int.{add, mul, lt, eq, ne, arith, exact, wrap, low32, holds, eqZ}
@@ -78,7 +78,7 @@ gives j rs c n = asked j 0 1000 1000000 rs c n
 
 -- int main() { int y free; if (y < 2) return y; else fail; }
 abbrev A : Program
-A = main₁ (body₂ (unknown a) (if (compare lt (name a) (num 2)) (return (name a)) fail))
+A = main₁ (body₂ (unknown a none) (if (compare lt (name a) (num 2)) (return (name a)) fail))
 
 -- return e;
 abbrev value : Expr → Program
@@ -88,7 +88,7 @@ value e = main₁ (body₁ (return e))
 abbrev log : Program
 log = record {
   bodies = body₁ (return (call 1 (more (num 1) Exprs.none)))
-      ∷ body₂ (unknown b) (if (compare eq (call 2 (more (num 2) (more (name b) Exprs.none))) (name a)) (return (name b)) fail)
+      ∷ body₂ (unknown b none) (if (compare eq (call 2 (more (num 2) (more (name b) Exprs.none))) (name a)) (return (name b)) fail)
       ∷ next (declare c) (next (declare d) (next (assign c (num 0)) (body₃ (assign d (num 1)) (while (compare lt (name c) (name b)) (block (body₂ (assign d (op mul (name d) (name a))) (assign c (op add (name c) (num 1)))))) (return (name d)))))
       ∷ [];
   main = 0;
@@ -97,7 +97,7 @@ log = record {
 -- n free declarations, and then return 0;
 unfoldable pub frees : ℕ → Stmts
 frees zero = body₁ (give 0)
-frees (suc n) = next (unknown (slot n)) (frees n)
+frees (suc n) = next (unknown (slot n) none) (frees n)
 
 -- return main();
 abbrev deeper : Program
@@ -117,23 +117,27 @@ inner = main₁ (next (declare a) (body₃ (assign a (num 0)) (block (body₁ (a
 
 -- int a free; if (a + 1 < a) return 1; else return 0; near the greatest int: the sum wraps for one value
 abbrev wraps : Program
-wraps = main₁ (body₂ (unknown a) (if (compare lt (op add (name a) (num 1)) (name a)) (give 1) (give 0)))
+wraps = main₁ (body₂ (unknown a none) (if (compare lt (op add (name a) (num 1)) (name a)) (give 1) (give 0)))
 
 -- int a free; if (a < 1 || f() == 0) return 1; else return 0; and int f() { fail; }
 abbrev or-side : Program
-or-side = main₂ (body₂ (unknown a) (if (or (compare lt (name a) (num 1)) (compare eq (call 1 Exprs.none) (num 0))) (give 1) (give 0))) (body₁ fail)
+or-side = main₂ (body₂ (unknown a none) (if (or (compare lt (name a) (num 1)) (compare eq (call 1 Exprs.none) (num 0))) (give 1) (give 0))) (body₁ fail)
 
 -- int a free; if (a < 1) while (true) ; else while (true) ; fail;
 abbrev cut-twice : Program
-cut-twice = main₁ (body₃ (unknown a) (if (compare lt (name a) (num 1)) (while (const true) empty) (while (const true) empty)) fail)
+cut-twice = main₁ (body₃ (unknown a none) (if (compare lt (name a) (num 1)) (while (const true) empty) (while (const true) empty)) fail)
 
 -- int a free; if (b) return a; else return a;
 abbrev either : Cond → Program
-either b = main₁ (body₂ (unknown a) (if b (return (name a)) (return (name a))))
+either b = main₁ (body₂ (unknown a none) (if b (return (name a)) (return (name a))))
 
 -- int a free; int b free; if (b == 1) if (a < b) return a; else fail; else fail;
 abbrev one-number : Program
-one-number = main₁ (body₃ (unknown a) (unknown b) (if (compare eq (name b) (num 1)) (if (compare lt (name a) (name b)) (return (name a)) fail) fail))
+one-number = main₁ (body₃ (unknown a none) (unknown b none) (if (compare eq (name b) (num 1)) (if (compare lt (name a) (name b)) (return (name a)) fail) fail))
+
+-- int a free 5 .. 6; int b free; return a + b;
+abbrev own-pair : Program
+own-pair = main₁ (body₃ (unknown a (some (to (pos 5) (pos 6)))) (unknown b none) (return (op add (name a) (name b))))
 
 abbrev each-value : List ℕ → List Row
 each-value vs = map (λ v. plan v (v ∷ [])) vs
@@ -168,6 +172,8 @@ further =
     ∷ gives (upto one-number 2) (plan 0 (0 ∷ 1 ∷ []) ∷ []) whole 13
     -- a comparison that the ranges decide is no choice
     ∷ gives (upto (either (compare lt (name a) (num 5))) 3) (each-value (0 ∷ 1 ∷ 2 ∷ 3 ∷ [])) whole 9
+    -- a declaration has its own pair, and a plain one the job's
+    ∷ gives (upto own-pair 1) (plan 5 (5 ∷ 0 ∷ []) ∷ plan 6 (5 ∷ 1 ∷ []) ∷ plan 6 (6 ∷ 0 ∷ []) ∷ plan 7 (6 ∷ 1 ∷ []) ∷ []) whole 9
     -- skipped rows need no place; the row that has none is a move; full goes before spent
     ∷ asked (upto A 3) 1 1 1000000 (each-value (1 ∷ [])) whole 9
     ∷ asked (upto A 3) 1 0 1000000 [] full 7

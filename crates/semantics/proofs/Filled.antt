@@ -10,7 +10,7 @@ use lib.IntN.{ℤ, sucℤ, predℤ}
 use lib.Dec.{T, not-T}
 use lib.Signed.{ltZ, leZ}
 use Rattle.semantics.specs.Int.{Cmp, lt, le, gt, ge, eq, ne, eqZ, holds}
-use Rattle.semantics.specs.Run.{Window}
+use Rattle.semantics.specs.Program.{Window}
 use Rattle.semantics.specs.Search.{Value, known, unknown, open′, all32, span, fitted, range, negated, mirrored, always, decided, clip, clipped, narrowed}
 use Rattle.semantics.proofs.Order.{up, down, _≼_, _≺_, cond-cases, leZ→, →leZ, nltZ→, nleZ→, antisym, eqZ→, eqZ-refl, neqZ→, of-suc, of-pred}
 use Rattle.semantics.proofs.Range.{In, and-left, and-right, and-both, min-most, max-least}

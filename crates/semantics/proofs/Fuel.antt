@@ -10,7 +10,7 @@ use lib.IntN.{ℤ}
 use Rattle.semantics.specs.Int.{Op, Cmp, arith as arith32}
 use Rattle.semantics.specs.Program
 use Rattle.semantics.specs.Does
-use Rattle.semantics.specs.Program.{Expr, Exprs, Cond, const, compare, and, or, number, name, op, call, more, Stmt, Stmts, Program}
+use Rattle.semantics.specs.Program.{Window, Expr, Exprs, Cond, const, compare, and, or, number, name, op, call, more, Stmt, Stmts, Program}
 use Rattle.semantics.specs.Does.{Does, returned, failed, cut, stuck, step, free, test, within, Frame, frame, expr, exprs, loop, stmt, stmts, enter, does, fetch, store}
 use Rattle.semantics.specs.Run.{Job, meaning}
 use Rattle.semantics.specs.Search.{known, work as workOpen, openly}
@@ -51,14 +51,14 @@ module _ {X : Type 0} where
       go zero f h = refl
       go (suc l) f h = ap step (p .upto l f (omega arith))
 
-  upto-free : {L : ℕ} {k m : X → Does X} → ((v : X) → Upto L (k v) (m v)) → Upto L (free k) (free m)
+  upto-free : {L : ℕ} {o : Option Window} {k m : X → Does X} → ((v : X) → Upto L (k v) (m v)) → Upto L (free o k) (free o m)
   unfolding within
-  upto-free {L} {k} {m} p = record { upto = go }
+  upto-free {L} {o} {k} {m} p = record { upto = go }
     where
-      go : (l f : ℕ) → l ≤ L → within l f (free k) ≡ within l f (free m)
+      go : (l f : ℕ) → l ≤ L → within l f (free o k) ≡ within l f (free o m)
       go zero f h = refl
       go (suc l) zero h = refl
-      go (suc l) (suc f) h = ap free (fun-ext (λ v. p v .upto l f (omega arith)))
+      go (suc l) (suc f) h = ap (free o) (fun-ext (λ v. p v .upto l f (omega arith)))
 
   upto-test : {L : ℕ} {c : Cmp} {a b : X} {k m : Bool → Does X} → ((o : Bool) → Upto L (k o) (m o)) → Upto L (test c a b k) (test c a b m)
   unfolding within
@@ -112,7 +112,7 @@ module _ {X : Type 0} (num : ℤ → X) (work : Op → X → X → X) where
             → Upto K (stmt num work call₁ n t f k r) (stmt num work call₂ m t f k′ r′)
         stmt-upto Stmt.empty f K k k′ r r′ l h i = upto-step (h f)
         stmt-upto (Stmt.declare a) f K k k′ r r′ l h i = upto-step (h _)
-        stmt-upto (Stmt.unknown a) f K k k′ r r′ l h i = upto-free λ v. h (store f a (some v))
+        stmt-upto (Stmt.unknown a o) f K k k′ r r′ l h i = upto-free λ v. h (store f a (some v))
         stmt-upto (Stmt.assign a e) f K k k′ r r′ l h i = upto-step (expr-upto e f K _ _ l λ v. h (store f a (some v)))
         stmt-upto (Stmt.eval e) f K k k′ r r′ l h i = upto-step (expr-upto e f K _ _ l λ v. h f)
         stmt-upto (Stmt.block ss) f K k k′ r r′ l h i = upto-step (stmts-upto ss f K k k′ r r′ l h i)

@@ -10,7 +10,7 @@ use lib.IntN.{ℤ, sucℤ, predℤ}
 use lib.Dec.{T, T-not}
 use lib.Signed.{leZ}
 use Rattle.semantics.specs.Int.{Cmp, lt, le, gt, ge, eq, ne, eqZ}
-use Rattle.semantics.specs.Run.{Window}
+use Rattle.semantics.specs.Program.{Window}
 use Rattle.semantics.specs.Search.{Value, known, unknown, open′, to, all32, minZ, maxZ, range, negated, mirrored, always, decided, clip, clipped, narrowed}
 use Rattle.semantics.proofs.Order.{up, down, _≼_, cond-cases, leZ→, →leZ, ltZ→, antisym, eqZ→, of-suc, of-pred}
 use Rattle.semantics.proofs.Range.{and-left, and-right, and-both, min-left, min-most, max-left, max-least}

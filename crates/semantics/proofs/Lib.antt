@@ -8,8 +8,10 @@ pub mod Idle
 pub mod Sound
 pub mod Keep
 pub mod Ends
+pub mod Own
 pub mod Natural
 pub mod Settings
+pub mod Walked
 pub mod Seen
 pub mod Trace
 pub mod Complete

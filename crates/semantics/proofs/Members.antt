@@ -1,24 +1,24 @@
--- What is in the lists of a job: the integers of its window, the lists of values, the choices, the rows.
+-- What is in the lists of a job: the integers of a window, the choices, the rows.
 use Prim.Native.Nat.{ℕ, zero, suc, _≤_, _<_, suc-le-suc}
-use native.Mathlib.Nat.{le-of-suc-le-suc}
 use mathlib.Core.Path.{_≡_, refl, sym, ap, _∙_, subst}
 use mathlib.Core.Bool.{Bool, true, false, cond, _||_}
 use mathlib.Core.Option.{Option, none, some, Option·map}
 use mathlib.Core.Logic.{_⊎_, inl, inr}
-use mathlib.Core.List.{List, [], _∷_, _++_, map, List·Memᴰ·head as here, List·Memᴰ·tail as there, List·Memᴰ·cases-cons as cases, List·Memᴰ·not-nil as nowhere, Memᴰ·append-left, Memᴰ·append-right}
+use mathlib.Core.List.{List, [], _∷_, _++_, map, List·Memᴰ·head as here, List·Memᴰ·tail as there, List·Memᴰ·cases-cons as cases, List·Memᴰ·not-nil as nowhere, Memᴰ·append-left, Memᴰ·append-right, List·Memᴰ·append-cases}
 use native.Mathlib.Omega.{arith}
 use lib.ListN.{length}
 use lib.IntN.{ℤ, sucℤ, _-ℤ_}
 use lib.Dec.{T}
 use Rattle.semantics.specs.Int.{holds}
 use Rattle.semantics.specs.Does.{Does, returned, failed, cut, stuck, step, free, test, within}
-use Rattle.semantics.specs.Run.{Window, counting, clamp, numbers, each, Ending, returns, fails, cuts, Ran, noting, exactly, run, Choice, Row}
-use Rattle.semantics.specs.Plans.{lists, adding, belonging, before, insert, sorted, rowsWith, rowsOf, isCut, someCut}
-use Rattle.semantics.specs.Demand.{_∈_}
-use Rattle.semantics.proofs.Order.{_≼_, cond-cases, antisym, of-suc}
+use Rattle.semantics.specs.Program.{Window}
+use Rattle.semantics.specs.Run.{counting, clamp, numbers, each, Ending, returns, fails, cuts, Ran, noting, starting, exactly, run, pairOf, Choice, Row}
+use Rattle.semantics.specs.Plans.{ended, chosen, noted, choicesOf, before, insert, sorted, rowsWith, rowsOf, isCut, someCut}
+use Rattle.semantics.specs.Demand.{_∈_, InWindow, InPairs, more}
+use Rattle.semantics.proofs.Order.{_≼_, leZ→, →leZ, cond-cases, antisym, of-suc}
 use Rattle.semantics.proofs.Range.{In}
 use Rattle.semantics.proofs.Keep.{All, anil, acons}
-use Rattle.semantics.proofs.Settings.{gap, clamp-gap, by-order, Inside, lists-in}
+use Rattle.semantics.proofs.Settings.{gap, clamp-gap, by-order, numbers-in}
 
 -- ---- lists
 
@@ -59,7 +59,21 @@ module _ {A B : Type 0} where
   each-member f x (z ∷ xs) y (here e) n = Memᴰ·append-left (each f xs) (subst (λ z. y ∈ f z) e n)
   each-member f x (z ∷ xs) y (there m) n = Memᴰ·append-right (f z) (each-member f x xs y m n)
 
--- ---- the integers of a window, and the lists of them
+  map-split : (f : A → B) (xs : List A) (y : B) → y ∈ map f xs → (x : A) × ((x ∈ xs) × (f x ≡ y))
+  map-split f [] y m = absurd (nowhere m)
+  map-split f (x ∷ xs) y (here e) = (x, (here refl, sym e))
+  map-split f (x ∷ xs) y (there m) = let p = map-split f xs y m in (p .0, (there (p .1 .0), p .1 .1))
+
+  each-split : (f : A → List B) (xs : List A) (y : B) → y ∈ each f xs → (x : A) × ((x ∈ xs) × (y ∈ f x))
+  unfolding each
+  each-split f [] y m = absurd (nowhere m)
+  each-split f (x ∷ xs) y m = go (each-split f xs y) (List·Memᴰ·append-cases (f x) m)
+    where
+      go : (y ∈ each f xs → (z : A) × ((z ∈ xs) × (y ∈ f z))) → (y ∈ f x) ⊎ (y ∈ each f xs) → (z : A) × ((z ∈ x ∷ xs) × (y ∈ f z))
+      go k (inl n) = (x, (here refl, n))
+      go k (inr n) = let p = k n in (p .0, (there (p .1 .0), p .1 .1))
+
+-- ---- the integers of a window
 
 counting-has : (x v : ℤ) (n : ℕ) → x ≼ v → gap x v < n → v ∈ counting x n
 unfolding counting
@@ -72,30 +86,31 @@ numbers-has : (w : Window) (v : ℤ) → In w v → v ∈ numbers w
 unfolding numbers
 numbers-has w v h = counting-has (w .low) v (clamp (sucℤ (w .high) -ℤ w .low)) (h .least) (omega (arith, h .least, h .most, clamp-gap (w .low) (sucℤ (w .high)), of-suc (w .high)))
 
-pub lists-has : (n : ℕ) (w : Window) (s : List ℤ) → length s ≤ n → All (In w) s → s ∈ lists n w
-unfolding lists
-lists-has zero w [] l h = here refl
-lists-has zero w (v ∷ s) l h = absurd (omega arith)
-lists-has (suc n) w [] l h = here refl
-lists-has (suc n) w (v ∷ s) l (acons h t) =
-    there (each-member (λ v. map (λ vs. v ∷ vs) (lists n w)) v (numbers w) (v ∷ s) (numbers-has w v h)
-    (map-member (λ vs. v ∷ vs) s (lists n w) (lists-has n w s (le-of-suc-le-suc l) t)))
+numbers-only : (w : Window) (v : ℤ) → v ∈ numbers w → In w v
+numbers-only w v m = all-member (numbers-in w) v m
 
-inside-all : (w : Window) (s : List ℤ) → Inside w s → All (In w) s
-inside-all w [] h = anil
-inside-all w (v ∷ s) h = acons (h 0 (omega arith)) (inside-all w s (λ i l. h (suc i) (suc-le-suc l)))
-
-pub lists-all : (n : ℕ) (w : Window) (s : List ℤ) → s ∈ lists n w → All (In w) s
-lists-all n w s m = inside-all w s (all-member (lists-in w n) s m)
-
--- ---- a run within m free declarations has no more values
+-- ---- runs that answer
 
 no-run : (r : Ran) → _≡_ {A = Option Ran} none (some r) → ⊥
 no-run r e = let z : _≡_ {A = ℕ} 0 1 = cc in omega arith
 
-some-of : (o : Bool) (x : Option Ran) (r : Ran) → Option·map (noting o) x ≡ some r → (q : Ran) × (x ≡ some q)
-some-of o none r e = absurd (no-run r e)
-some-of o (some q) r e = (q, refl)
+in-window : (w : Window) (v : ℤ) → In w v → InWindow w v
+in-window w v h = (→leZ (w .low) v (h .least), →leZ v (w .high) (h .most))
+
+window-in : (w : Window) (v : ℤ) → InWindow w v → In w v
+window-in w v h = record { least = leZ→ (w .low) v (h .0); most = leZ→ v (w .high) (h .1) }
+
+-- what is mapped over a run that answers
+record Mapped (f : Ran → Ran) (x : Option Ran) (r : Ran) : Type 0 where
+  ran : Ran
+  runs : x ≡ some ran
+  same : f ran ≡ r
+
+mapped : (f : Ran → Ran) (x : Option Ran) (r : Ran) → Option·map f x ≡ some r → Mapped f x r
+mapped f none r e = absurd (no-run r e)
+mapped f (some q) r e = record { ran = q; runs = refl; same = cc }
+
+-- ---- a run within m free declarations has no more values
 
 exactly-none : (e : Ending) (vs : List ℤ) (r : Ran) → exactly e vs ≡ some r → length vs ≡ 0
 unfolding exactly
@@ -110,36 +125,80 @@ run-length cut n m vs r e = omega (arith, exactly-none cuts vs r e)
 run-length stuck n m vs r e = absurd (no-run r e)
 run-length (step t) zero m vs r e = omega (arith, exactly-none cuts vs r e)
 run-length (step t) (suc n) m vs r e = run-length t n m vs r e
-run-length (free k) zero m vs r e = omega (arith, exactly-none cuts vs r e)
-run-length (free k) (suc n) zero vs r e = omega (arith, exactly-none cuts vs r e)
-run-length (free k) (suc n) (suc m) [] r e = omega arith
-run-length (free k) (suc n) (suc m) (v ∷ vs) r e = suc-le-suc (run-length (k v) n m vs r e)
-run-length (test c a b k) n m vs r e = let p = some-of (holds c a b) (run (within n m (k (holds c a b))) vs) r e in run-length (k (holds c a b)) n m vs (p .0) (p .1)
+run-length (free o k) zero m vs r e = omega (arith, exactly-none cuts vs r e)
+run-length (free o k) (suc n) zero vs r e = omega (arith, exactly-none cuts vs r e)
+run-length (free o k) (suc n) (suc m) [] r e = omega arith
+run-length (free o k) (suc n) (suc m) (v ∷ vs) r e = let p = mapped (starting o) (run (within n m (k v)) vs) r e in suc-le-suc (run-length (k v) n m vs (p .ran) (p .runs))
+run-length (test c a b k) n m vs r e = let p = mapped (noting (holds c a b)) (run (within n m (k (holds c a b))) vs) r e in run-length (k (holds c a b)) n m vs (p .ran) (p .runs)
 
--- ---- choices
+-- ---- choices: those that a walk finds are those whose run answers, with each value in its own pair
 
-pub belonging-has : (f : List ℤ → Option Ran) (l : List (List ℤ)) (vs : List ℤ) (r : Ran) → vs ∈ l → f vs ≡ some r → record { ran = r; values = vs } ∈ belonging f l
-unfolding belonging
-belonging-has f [] vs r m e = absurd (nowhere m)
-belonging-has f (us ∷ l) vs r (here p) e = subst (λ o. record { ran = r; values = vs } ∈ adding o us (belonging f l)) (sym e ∙ ap f p) (here (λ i. record { ran = r; values = p i }))
-belonging-has f (us ∷ l) vs r (there m) e = later (f us) (belonging-has f l vs r m e)
-  where
-    later : (o : Option Ran) → record { ran = r; values = vs } ∈ belonging f l → record { ran = r; values = vs } ∈ adding o us (belonging f l)
-    later none n = n
-    later (some q) n = there n
+module _ (job : Window) where
+  -- a run that answers, each of whose values lies in its own pair
+  pub record Goes (t : Does ℤ) (c : Choice) : Type 0 where
+    pub inside : InPairs job (c .ran .starts) (c .values)
+    pub runs : run t (c .values) ≡ some (c .ran)
 
-pub belonging-only : (f : List ℤ → Option Ran) (l : List (List ℤ)) (c : Choice) → c ∈ belonging f l → (c .values ∈ l) × (f (c .values) ≡ some (c .ran))
-unfolding belonging
-belonging-only f [] c m = absurd (nowhere m)
-belonging-only f (us ∷ l) c m = go (f us) refl m (λ n. belonging-only f l c n)
-  where
-    later : (c .values ∈ l) × (f (c .values) ≡ some (c .ran)) → (c .values ∈ us ∷ l) × (f (c .values) ≡ some (c .ran))
-    later p = (there (p .0), p .1)
+  ended-has : (e : Ending) (c : Choice) → exactly e (c .values) ≡ some (c .ran) → c ∈ ended e
+  unfolding exactly
+  ended-has e c h = go (c .values) (c .ran) h
+    where
+      go : (vs : List ℤ) (r : Ran) → exactly e vs ≡ some r → record { ran = r; values = vs } ∈ ended e
+      go [] r h = let q : r ≡ record { tests = []; starts = []; ending = e } = cc in here (λ i. record { ran = q i; values = [] })
+      go (v ∷ vs) r h = absurd (no-run r h)
 
-    go : (o : Option Ran) → f us ≡ o → c ∈ adding o us (belonging f l) → (c ∈ belonging f l → (c .values ∈ l) × (f (c .values) ≡ some (c .ran))) → (c .values ∈ us ∷ l) × (f (c .values) ≡ some (c .ran))
-    go none e n k = later (k n)
-    go (some r) e (here p) k = (here (ap (λ c. c .values) p), ap (λ c. f (c .values)) p ∙ e ∙ ap (λ c. some (c .ran)) (sym p))
-    go (some r) e (there n) k = later (k n)
+  pub choices-has : (t : Does ℤ) (c : Choice) → Goes t c → c ∈ choicesOf job t
+  unfolding choicesOf run
+  choices-has (returned z) c g = ended-has (returns z) c (g .runs)
+  choices-has failed c g = ended-has fails c (g .runs)
+  choices-has cut c g = ended-has cuts c (g .runs)
+  choices-has stuck c g = absurd (no-run (c .ran) (g .runs))
+  choices-has (step t) c g = choices-has t c (record { inside = g .inside; runs = g .runs })
+  choices-has (free o k) c g = at-free (λ v d. choices-has (k v) d) (c .values) (c .ran) (g .runs) (g .inside)
+    where
+      first : (v : ℤ) (vs : List ℤ) (q : Ran) → ((d : Choice) → Goes (k v) d → d ∈ choicesOf job (k v)) → run (k v) vs ≡ some q → InPairs job (o ∷ q .starts) (v ∷ vs)
+          → chosen o v (record { ran = q; values = vs }) ∈ each (λ v. map (chosen o v) (choicesOf job (k v))) (numbers (pairOf job o))
+      first v vs q h e (more w i) =
+          each-member (λ v. map (chosen o v) (choicesOf job (k v))) v (numbers (pairOf job o)) _ (numbers-has (pairOf job o) v (window-in (pairOf job o) v w))
+          (map-member (chosen o v) (record { ran = q; values = vs }) (choicesOf job (k v)) (h (record { ran = q; values = vs }) (record { inside = i; runs = e })))
+
+      at-free : ((v : ℤ) (d : Choice) → Goes (k v) d → d ∈ choicesOf job (k v)) → (vs : List ℤ) (r : Ran) → run (free o k) vs ≡ some r → InPairs job (r .starts) vs
+          → record { ran = r; values = vs } ∈ each (λ v. map (chosen o v) (choicesOf job (k v))) (numbers (pairOf job o))
+      at-free h [] r e i = absurd (no-run r e)
+      at-free h (v ∷ vs) r e i =
+          let m = mapped (starting o) (run (k v) vs) r e in
+          subst (λ r. record { ran = r; values = v ∷ vs } ∈ each (λ v. map (chosen o v) (choicesOf job (k v))) (numbers (pairOf job o))) (m .same)
+          (first v vs (m .ran) (h v) (m .runs) (subst (λ r. InPairs job (r .starts) (v ∷ vs)) (sym (m .same)) i))
+  choices-has (test q a b k) c g =
+      let m = mapped (noting (holds q a b)) (run (k (holds q a b)) (c .values)) (c .ran) (g .runs) in
+      subst (λ r. record { ran = r; values = c .values } ∈ map (noted (holds q a b)) (choicesOf job (k (holds q a b)))) (m .same)
+      (map-member (noted (holds q a b)) (record { ran = m .ran; values = c .values }) (choicesOf job (k (holds q a b)))
+      (choices-has (k (holds q a b)) (record { ran = m .ran; values = c .values }) (record { inside = subst (λ r. InPairs job (r .starts) (c .values)) (sym (m .same)) (g .inside); runs = m .runs })))
+
+  ended-only : (t : Does ℤ) (e : Ending) (c : Choice) → ((vs : List ℤ) → run t vs ≡ exactly e vs) → c ∈ ended e → Goes t c
+  unfolding exactly
+  ended-only t e c h (here p) = subst (Goes t) (sym p) (record { inside = InPairs.none; runs = h [] })
+  ended-only t e c h (there m) = absurd (nowhere m)
+
+  pub choices-only : (t : Does ℤ) (c : Choice) → c ∈ choicesOf job t → Goes t c
+  unfolding choicesOf run
+  choices-only (returned z) c m = ended-only (returned z) (returns z) c (λ vs. refl) m
+  choices-only failed c m = ended-only failed fails c (λ vs. refl) m
+  choices-only cut c m = ended-only cut cuts c (λ vs. refl) m
+  choices-only stuck c m = absurd (nowhere m)
+  choices-only (step t) c m = let g = choices-only t c m in record { inside = g .inside; runs = g .runs }
+  choices-only (free o k) c m = at-free (λ v d. choices-only (k v) d) (each-split (λ v. map (chosen o v) (choicesOf job (k v))) (numbers (pairOf job o)) c m)
+    where
+      at-free : ((v : ℤ) (d : Choice) → d ∈ choicesOf job (k v) → Goes (k v) d) → (v : ℤ) × ((v ∈ numbers (pairOf job o)) × (c ∈ map (chosen o v) (choicesOf job (k v)))) → Goes (free o k) c
+      at-free h (v, (n, m)) =
+          let p = map-split (chosen o v) (choicesOf job (k v)) c m in
+          let d = p .0 in
+          let g = h v d (p .1 .0) in
+          subst (Goes (free o k)) (p .1 .1) (record { inside = InPairs.more (in-window (pairOf job o) v (numbers-only (pairOf job o) v n)) (g .inside); runs = ap (Option·map (starting o)) (g .runs) })
+  choices-only (test q a b k) c m =
+      let p = map-split (noted (holds q a b)) (choicesOf job (k (holds q a b))) c m in
+      let g = choices-only (k (holds q a b)) (p .0) (p .1 .0) in
+      subst (Goes (test q a b k)) (p .1 .1) (record { inside = g .inside; runs = ap (Option·map (noting (holds q a b))) (g .runs) })
 
 -- ---- sorting
 

@@ -9,7 +9,7 @@ use lib.IntN.{ℤ, pos, sucℤ, predℤ}
 use lib.Dec.{T, not-T, T-not}
 use lib.Signed.{ltZ, leZ}
 use Rattle.semantics.specs.Int.{Cmp, lt, le, gt, ge, eq, ne, eqZ, holds}
-use Rattle.semantics.specs.Run.{Window}
+use Rattle.semantics.specs.Program.{Window}
 use Rattle.semantics.specs.Search.{Value, known, unknown, open′, under, all32, range, negated, mirrored, always, clip, clipped, narrowed}
 use Rattle.semantics.proofs.Order.{up, down, _≼_, cond-cases, leZ→, →leZ, ltZ→, →ltZ, nltZ→, nleZ→, antisym, eqZ→, eqZ-refl, neqZ→, of-suc, of-pred}
 use Rattle.semantics.proofs.Range.{In, Sub, sub-refl, sub-trans, Within, and-left, and-right, and-both, bool-ext, range-sound, min-left, min-most, max-left, max-least}

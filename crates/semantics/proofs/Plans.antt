@@ -11,39 +11,29 @@ use lib.IntN.{ℤ}
 use lib.Dec.{T, eqb→eq}
 use lib.Signed.{ltZ}
 use Rattle.semantics.specs.Does.{Does, returned, failed, cut, stuck, step, free, test}
-use Rattle.semantics.specs.Run.{Window, Ending, returns, fails, cuts, Ran, run, Choice, Row, Job, meaning}
-use Rattle.semantics.specs.Plans.{lists, sorted, rowsWith, rowsOf, choices, plans, someCut}
-use Rattle.semantics.specs.Search.{Value, unknown, openly}
-use Rattle.semantics.specs.Demand.{_∈_, InWindow, Belongs, Sooner, Lower, Before, RowOf, Earlier, PlanList, SomeCut}
-use Rattle.semantics.proofs.Order.{up, down, leZ→, →leZ, ltZ→, →ltZ}
-use Rattle.semantics.proofs.Range.{In}
+use Rattle.semantics.specs.Program.{Window}
+use Rattle.semantics.specs.Run.{Ending, returns, fails, cuts, Ran, run, pairOf, Choice, Row, Job, meaning}
+use Rattle.semantics.specs.Plans.{noted, sorted, rowsWith, rowsOf, choices, plans, someCut}
+use Rattle.semantics.specs.Search.{Value, unknown, all32, openly}
+use Rattle.semantics.specs.Demand.{_∈_, Belongs, Sooner, Lower, Before, RowOf, Earlier, PlanList, SomeCut}
+use Rattle.semantics.proofs.Order.{up, down, ltZ→, →ltZ}
 use Rattle.semantics.proofs.Sound.{passes}
 use Rattle.semantics.proofs.Keep.{All, anil, acons, all-of, all-mapped, keep, keep-if, Ordered, onil, ocons, ordered-keep, ordered-append, ordered-map}
-use Rattle.semantics.proofs.Ends.{leaf, noted, sized, longer, ends, Less, shorter, lower, alike, Rising}
+use Rattle.semantics.proofs.Ends.{leaf, started, sized, opens, ends, Less, shorter, lower, alike, Rising}
 use Rattle.semantics.proofs.Settings.{rising-lists}
-use Rattle.semantics.proofs.Members.{all-member, member-all, member-split, split-member, lists-has, lists-all, run-length, belonging-has, belonging-only, sorted-has, sorted-only, rows-has, rows-only, cut-has, cut-only}
-use Rattle.semantics.proofs.Complete.{sorted-choices}
+use Rattle.semantics.proofs.Members.{all-member, member-all, member-split, split-member, choices-has, choices-only, sorted-has, sorted-only, rows-has, rows-only, cut-has, cut-only}
+use Rattle.semantics.proofs.Complete.{Small, sorted-choices}
+use Rattle.semantics.proofs.Walked.{rising-choices}
 
 -- ---- the choices of a job
 
-in-window : (w : Window) (v : ℤ) → In w v → InWindow w v
-in-window w v h = (→leZ (w .low) v (h .least), →leZ v (w .high) (h .most))
-
-window-in : (w : Window) (v : ℤ) → InWindow w v → In w v
-window-in w v h = record { least = leZ→ (w .low) v (h .0); most = leZ→ v (w .high) (h .1) }
-
 belongs-only : (j : Job) (c : Choice) → c ∈ choices j → Belongs j c
 unfolding choices
-belongs-only j c m =
-    let p = belonging-only (run (meaning j)) (lists 8 (j .window)) c m in
-    record { inside = λ v n. in-window (j .window) v (all-member (lists-all 8 (j .window) (c .values) (p .0)) v n); runs = p .1 }
+belongs-only j c m = let g = choices-only (j .window) (meaning j) c m in record { inside = g .inside; runs = g .runs }
 
 belongs-has : (j : Job) (c : Choice) → Belongs j c → c ∈ choices j
-unfolding choices meaning
-belongs-has j c b =
-    belonging-has (run (meaning j)) (lists 8 (j .window)) (c .values) (c .ran)
-    (lists-has 8 (j .window) (c .values) (run-length _ (j .steps) 8 (c .values) (c .ran) (b .runs)) (member-all (c .values) (λ v n. window-in (j .window) v (b .inside v n))))
-    (b .runs)
+unfolding choices
+belongs-has j c b = choices-has (j .window) (meaning j) c (record { inside = b .inside; runs = b .runs })
 
 -- the choices of a job are exactly those that belong to it
 pub belongs : (j : Job) (c : Choice) → (c ∈ choices j) ↔ Belongs j c
@@ -80,22 +70,29 @@ leaves-before e n {ss} r =
     ordered-map (leaf e) (λ s u p q h. inr (refl, less-lower h (omega (arith, eqb→eq (length s) n p, eqb→eq (length u) n q))))
     (keep-if {P = λ s. T (sized n s)} (sized n) (all-of (λ s t. t) ss)) (ordered-keep (sized n) r)
 
-ends-before : (n : ℕ) (t : Does Value) {ss : List (List ℤ)} → Rising ss → Ordered Before (ends n t ss)
+started-before : (o : Option Window) {cs : List Choice} → Ordered Before cs → Ordered Before (map (started o) cs)
+started-before o {cs} r = ordered-map {P = λ c. Unit {0}} (started o) (λ a b p q h. before-started a b h) (all-of (λ c. tt) cs) r
+  where
+    before-started : (a b : Choice) → Before a b → Before (started o a) (started o b)
+    before-started a b (inl h) = inl h
+    before-started a b (inr h) = inr h
+
+ends-before : (job : Window) (n : ℕ) (t : Does Value) {ss : List (List ℤ)} → Rising ss → Ordered Before (ends job n t ss)
 unfolding ends
-ends-before n (returned v) r = leaves-before _ n r
-ends-before n failed r = leaves-before _ n r
-ends-before n cut r = leaves-before _ n r
-ends-before n stuck r = onil
-ends-before n (step t) r = ends-before n t r
-ends-before n (free k) r = ends-before (suc n) (k (unknown n)) (ordered-keep (longer n) r)
-ends-before n (test c a b k) {ss} r =
-    let l = ends n (k true) (keep (passes c a b) ss) in
-    let m = ends n (k false) (keep (λ s. not (passes c a b s)) ss) in
-    ordered-append (noted-before true (ends-before n (k true) (ordered-keep (passes c a b) r))) (noted-before false (ends-before n (k false) (ordered-keep (λ s. not (passes c a b s)) r)))
+ends-before job n (returned v) r = leaves-before _ n r
+ends-before job n failed r = leaves-before _ n r
+ends-before job n cut r = leaves-before _ n r
+ends-before job n stuck r = onil
+ends-before job n (step t) r = ends-before job n t r
+ends-before job n (free o k) r = started-before o (ends-before job (suc n) (k (unknown n)) (ordered-keep (opens (pairOf job o) n) r))
+ends-before job n (test c a b k) {ss} r =
+    let l = ends job n (k true) (keep (passes c a b) ss) in
+    let m = ends job n (k false) (keep (λ s. not (passes c a b s)) ss) in
+    ordered-append (noted-before true (ends-before job n (k true) (ordered-keep (passes c a b) r))) (noted-before false (ends-before job n (k false) (ordered-keep (λ s. not (passes c a b s)) r)))
     (all-mapped (noted true) (all-of (λ x. all-mapped (noted false) (all-of (λ y. true-first x y) m)) l))
 
-sorted-before : (j : Job) → Ordered Before (sorted (choices j))
-sorted-before j = rw (sorted-choices j) (ends-before 0 (openly j) (rising-lists (j .window) 8))
+sorted-before : (j : Job) → Small j → Ordered Before (sorted (choices j))
+sorted-before j h = rw (sorted-choices j h) (ends-before (j .window) 0 (openly j) (rising-lists all32 8))
 
 -- ---- and so do the rows
 
@@ -119,9 +116,9 @@ rows-before j (acons {x = d} {xs = cs} b bs) (ocons h r) = go (d .ran .ending) r
     go fails e k = k
     go cuts e k = k
 
-plans-before : (j : Job) → Ordered (Earlier j) (plans j)
+plans-before : (j : Job) → Small j → Ordered (Earlier j) (plans j)
 unfolding plans
-plans-before j = rows-before j (member-all (sorted (choices j)) (λ c m. belongs-only j c (sorted-only c (choices j) m))) (sorted-before j)
+plans-before j h = rows-before j (member-all (sorted (choices j)) (λ c m. belongs-only j c (sorted-only c (choices j) m))) (sorted-before j h)
 
 -- ---- two rows never stand each before the other
 
@@ -215,17 +212,33 @@ module _ {A : Type 0} {R : A → A → Type 0} where
 
 -- ---- the theorem
 
-pub plan-list : (j : Job) → PlanList j (plans j)
+less-apart : {s u : List ℤ} → Less s u → s ≡ u → ⊥
+less-apart shorter e = zero-one (cc)
+less-apart (lower {v} {w} h) e = let g : v ≡ w = cc in omega (arith, h, ap up g, ap down g)
+less-apart (alike h) e = less-apart h (cc)
+
+pub choices-once : (j : Job) (x y z : List Choice) (c : Choice) → choices j ≡ x ++ c ∷ (y ++ c ∷ z) → ⊥
+unfolding choices
+choices-once j x y z c e = less-apart (ordered-split (rising-choices (j .window) (meaning j)) x y z c c e) refl
+
+-- the choice behind a row
+pub row-choice : (j : Job) (r : Row) → r ∈ plans j → (c : Choice) × RowOf j c r
 unfolding plans
-plan-list j = record {
+row-choice j r m =
+    let b = rows-only (sorted (choices j)) r m in
+    (b .choice, record { belongs = belongs-only j (b .choice) (sorted-only (b .choice) (choices j) (b .member)); values = b .same; returned = b .result })
+
+pub plan-list : (j : Job) → Small j → PlanList j (plans j)
+unfolding plans
+plan-list j s = record {
   all = λ c r p. rows-has (sorted (choices j)) c r (sorted-has c (choices j) (belongs-has j c (p .belongs))) (p .values) (p .returned);
-  only = λ r m. let b = rows-only (sorted (choices j)) r m in (b .choice, record { belongs = belongs-only j (b .choice) (sorted-only (b .choice) (choices j) (b .member)); values = b .same; returned = b .result });
-  once = λ x y z r e. let h = ordered-split (plans-before j) x y z r r e in earlier-asym j r r h h;
-  order = λ x y z r q e. ordered-split (plans-before j) x y z r q e;
+  only = row-choice j;
+  once = λ x y z r e. let h = ordered-split (plans-before j s) x y z r r e in earlier-asym j r r h h;
+  order = λ x y z r q e. ordered-split (plans-before j s) x y z r q e;
 }
 
-pub plan-list-unique : (j : Job) (rows : List Row) → PlanList j rows → rows ≡ plans j
-plan-list-unique j rows p =
-    same-list (earlier-asym j) (split-ordered rows (p .order)) (plans-before j)
-    (λ r m. let b = p .only r m in plan-list j .all (b .0) r (b .1))
-    (λ r m. let b = plan-list j .only r m in p .all (b .0) r (b .1))
+pub plan-list-unique : (j : Job) → Small j → (rows : List Row) → PlanList j rows → rows ≡ plans j
+plan-list-unique j s rows p =
+    same-list (earlier-asym j) (split-ordered rows (p .order)) (plans-before j s)
+    (λ r m. let b = p .only r m in plan-list j s .all (b .0) r (b .1))
+    (λ r m. let b = plan-list j s .only r m in p .all (b .0) r (b .1))

@@ -12,7 +12,7 @@ use lib.Signed.{leZ}
 use mir.Syntax.{w32}
 use mir.Val.{toZ, sel}
 use Rattle.semantics.specs.Int.{Op, add, sub, mul, exact, wrap, low32, arith as work32}
-use Rattle.semantics.specs.Run.{Window}
+use Rattle.semantics.specs.Program.{Window}
 use Rattle.semantics.specs.Search.{Value, known, unknown, open′, under, to, all32, minZ, maxZ, span, fitted, range}
 use Rattle.semantics.proofs.Order.{up, down, _≼_, cond-cases, leZ→, nleZ→, of-add, of-minus, up-mul, down-mul, up-mul-neg, down-mul-neg}
 

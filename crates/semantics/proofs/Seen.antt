@@ -2,13 +2,16 @@
 use Prim.Native.Nat.{ℕ, suc}
 use mathlib.Core.Path.{_≡_, refl, sym, ap, ap₂, _∙_}
 use mathlib.Core.Bool.{Bool, true, false, cond, _||_, or-false, or-assoc}
+use mathlib.Core.Option.{Option}
 use mathlib.Core.List.{List, [], _∷_, _++_, map, append-nil, append-assoc}
 use lib.IntN.{ℤ}
 use Rattle.semantics.specs.Does.{Does, returned, failed, cut, stuck, step, free, test}
+use Rattle.semantics.specs.Program.{Window}
 use Rattle.semantics.specs.Run.{Ending, returns, fails, cuts, Choice, Row}
+use Rattle.semantics.specs.Plans.{noted}
 use Rattle.semantics.specs.Search.{Value, unknown, under, Test, meets, Move, plain, found, probe, missed, tried, probed}
 use Rattle.semantics.proofs.Keep.{keep}
-use Rattle.semantics.proofs.Ends.{leaf, noted, ends}
+use Rattle.semantics.proofs.Ends.{leaf, started, ends}
 
 -- ---- what is found: rows, and whether a cut run is
 
@@ -64,6 +67,11 @@ unfolding seenOf
 seenOf-noted o [] = refl
 seenOf-noted o (x ∷ l) = ap (join (seenEnd (x .ran .ending) (x .values))) (seenOf-noted o l)
 
+pub seen-started : (o : Option Window) (l : List Choice) → seenOf (map (started o) l) ≡ seenOf l
+unfolding seenOf
+seen-started o [] = refl
+seen-started o (x ∷ l) = ap (join (seenEnd (x .ran .ending) (x .values))) (seen-started o l)
+
 -- ---- leaves
 
 pub seen-tried : (v : Value) (ts : List Test) (ss : List (List ℤ)) → seenIn (tried v ts ss) ≡ seenOf (map (leaf (λ s. returns (under s v))) (keep (meets ts) ss))
@@ -96,15 +104,15 @@ unfolding seenOf
 seen-failed [] = refl
 seen-failed (s ∷ ss) = seen-failed ss
 
-pub ends-nil : (n : ℕ) (t : Does Value) → ends n t [] ≡ []
+pub ends-nil : (job : Window) (n : ℕ) (t : Does Value) → ends job n t [] ≡ []
 unfolding ends keep
-ends-nil n (returned v) = refl
-ends-nil n failed = refl
-ends-nil n cut = refl
-ends-nil n stuck = refl
-ends-nil n (step t) = ends-nil n t
-ends-nil n (free k) = ends-nil (suc n) (k (unknown n))
-ends-nil n (test c a b k) = ap₂ (λ l m. map (noted true) l ++ map (noted false) m) (ends-nil n (k true)) (ends-nil n (k false))
+ends-nil job n (returned v) = refl
+ends-nil job n failed = refl
+ends-nil job n cut = refl
+ends-nil job n stuck = refl
+ends-nil job n (step t) = ends-nil job n t
+ends-nil job n (free o k) = ap (map (started o)) (ends-nil job (suc n) (k (unknown n)))
+ends-nil job n (test c a b k) = ap₂ (λ l m. map (noted true) l ++ map (noted false) m) (ends-nil job n (k true)) (ends-nil job n (k false))
 
 pub seen-split : (l m : List Choice) → seenOf (map (noted true) l ++ map (noted false) m) ≡ join (seenOf l) (seenOf m)
 seen-split l m = seenOf-append (map (noted true) l) (map (noted false) m) ∙ ap₂ join (seenOf-noted true l) (seenOf-noted false m)

@@ -1,4 +1,4 @@
--- The settings in the windows of a path are, in their order, the lists of the job's numbers that have as many values and lie in the windows.
+-- All lists of at most so many numbers of one window, in their order. The settings in the windows of a path, if each lies in that window, are those of the lists that have as many values and lie in the windows.
 use Prim.Native.Nat.{ℕ, zero, suc, _+_, _-_, _≤_, _<_}
 use mathlib.Core.Path.{_≡_, refl, sym, ap, ap₂, _∙_, subst}
 use mathlib.Core.Bool.{Bool, true, false, not, cond, _&&_}
@@ -10,13 +10,13 @@ use lib.ListN.{length, getD}
 use lib.IntN.{ℤ, pos, negsuc, sucℤ, _-ℤ_}
 use lib.Dec.{T, eqb·zero-suc, eqb·suc-zero, eqb·suc-suc}
 use lib.Signed.{leZ}
-use Rattle.semantics.specs.Run.{Window, counting, clamp, numbers, each}
-use Rattle.semantics.specs.Plans.{lists}
+use Rattle.semantics.specs.Program.{Window}
+use Rattle.semantics.specs.Run.{counting, clamp, numbers, each}
 use Rattle.semantics.specs.Search.{settings}
 use Rattle.semantics.proofs.Order.{up, down, _≼_, _≺_, leZ→, →leZ, nleZ→, antisym, of-minus, of-suc}
 use Rattle.semantics.proofs.Range.{In, Sub, Subs, and-left, and-right, and-both}
 use Rattle.semantics.proofs.Keep.{All, anil, acons, onil, ocons, ordered-map, ordered-append, keep, keep-none, keep-same, keep-map, keep-each, each-same, all-of, all-map, all-mapped, all-each}
-use Rattle.semantics.proofs.Ends.{sized, Rising, shorter, lower, alike}
+use Rattle.semantics.proofs.Ends.{sized, inside, Rising, shorter, lower, alike}
 
 -- ---- the numbers of a window
 
@@ -37,9 +37,6 @@ parts (negsuc n) = omega arith
 
 pub clamp-gap : (a b : ℤ) → clamp (b -ℤ a) ≡ gap a b
 clamp-gap a b = omega (arith, clamp-up (b -ℤ a), parts (b -ℤ a), of-minus b a)
-
-abbrev pub inside : Window → ℤ → Bool
-inside w x = leZ (w .low) x && leZ x (w .high)
 
 true-of : (b : Bool) → T b → b ≡ true
 true-of true t = refl
@@ -93,7 +90,7 @@ ahead w x (suc n) h k = by-order (w .low) x
     (λ l. rw (inside-no w x (λ p q. omega arith)) (ahead w (sucℤ x) n (omega (arith, of-suc x)) (omega (arith, of-suc x))))
 
 -- a window within another keeps its own numbers of the other's
-numbers-sub : (v w : Window) → Sub v w → keep (inside v) (numbers w) ≡ numbers v
+pub numbers-sub : (v w : Window) → Sub v w → keep (inside v) (numbers w) ≡ numbers v
 unfolding numbers counting
 numbers-sub v w h = by-order (v .low) (v .high)
     (λ l. ap (λ n. keep (inside v) (counting (w .low) n)) (clamp-gap (w .low) (sucℤ (w .high)))
@@ -105,12 +102,17 @@ numbers-sub v w h = by-order (v .low) (v .high)
 
 -- ---- settings and lists
 
+-- all lists of at most n integers of a window
+unfoldable pub lists : ℕ → Window → List (List ℤ)
+lists zero w = [] ∷ []
+lists (suc n) w = [] ∷ each (λ v. map (λ vs. v ∷ vs) (lists n w)) (numbers w)
+
 unfoldable pub fits : List Window → List ℤ → Bool
 fits [] s = true
 fits (w ∷ ws) [] = true
 fits (w ∷ ws) (v ∷ s) = inside w v && fits ws s
 
-each-keep : {A B : Type 0} (p : A → Bool) (f : A → List B) (xs : List A) → each (λ x. cond (p x) (f x) []) xs ≡ each f (keep p xs)
+pub each-keep : {A B : Type 0} (p : A → Bool) (f : A → List B) (xs : List A) → each (λ x. cond (p x) (f x) []) xs ≡ each f (keep p xs)
 unfolding each keep
 each-keep p f [] = refl
 each-keep {B = B} p f (x ∷ xs) = go (p x) (each-keep p f xs)
@@ -153,7 +155,7 @@ settings-lists job (w ∷ ws) (suc n) h k =
     ∙ each-keep (inside w) (λ v. map (λ s. v ∷ s) (keep (fitted ws) (lists n job))) (numbers job)
     ∙ ap₂ (λ l m. each (λ v. map (λ s. v ∷ s) l) m) (settings-lists job ws n (le-of-suc-le-suc h) (λ i l. k (suc i) (suc-le-suc l))) (numbers-sub w job (k 0 (omega arith))))
 
--- ---- the lists of the job's numbers
+-- ---- the lists of a window's numbers
 
 -- each value of such a list is one of them
 abbrev pub Inside : Window → List ℤ → Type 0
@@ -164,7 +166,7 @@ unfolding counting
 counting-in w x zero h k = anil
 counting-in w x (suc n) h k = acons (record { least = h; most = omega (arith, of-suc (w .high)) }) (counting-in w (sucℤ x) n (omega (arith, of-suc x)) (omega (arith, of-suc x)))
 
-numbers-in : (w : Window) → All (In w) (numbers w)
+pub numbers-in : (w : Window) → All (In w) (numbers w)
 unfolding numbers
 numbers-in w = counting-in w (w .low) (clamp (sucℤ (w .high) -ℤ w .low)) (omega arith) (omega (arith, clamp-gap (w .low) (sucℤ (w .high))))
 
@@ -184,7 +186,7 @@ lists-in job (suc n) = acons (inside-nil job) (all-each (λ v. map (λ s. v ∷ 
 rising-map : (v : ℤ) {ss : List (List ℤ)} → Rising ss → Rising (map (λ s. v ∷ s) ss)
 rising-map v {ss} r = ordered-map {P = λ s. Unit {0}} (λ s. v ∷ s) (λ s u p q h. alike h) (all-of (λ s. tt) ss) r
 
-counting-above : (z x : ℤ) (n : ℕ) → z ≺ x → All (λ v. z ≺ v) (counting x n)
+pub counting-above : (z x : ℤ) (n : ℕ) → z ≺ x → All (λ v. z ≺ v) (counting x n)
 unfolding counting
 counting-above z x zero h = anil
 counting-above z x (suc n) h = acons h (counting-above z (sucℤ x) n (omega (arith, of-suc x)))

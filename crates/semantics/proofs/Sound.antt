@@ -9,7 +9,7 @@ use lib.ListN.{getD, length}
 use lib.IntN.{ℤ}
 use lib.Dec.{T}
 use Rattle.semantics.specs.Int.{Cmp, holds}
-use Rattle.semantics.specs.Run.{Window}
+use Rattle.semantics.specs.Program.{Window}
 use Rattle.semantics.specs.Search.{Value, under, all32, range, negated, always, decided, Solver, byRanges, inUse}
 use Rattle.semantics.proofs.Range.{Sub, Within, range-sound}
 use Rattle.semantics.proofs.Narrow.{always-sound, holds-negated, narrowed-sound, narrowed-length, narrowed-within}

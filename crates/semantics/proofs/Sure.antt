@@ -9,7 +9,7 @@ use lib.ListN.{length, take}
 use lib.IntN.{ℤ}
 use Rattle.semantics.specs.Int.{arith as work32, holds}
 use Rattle.semantics.specs.Does.{Does, returned, failed, cut, stuck, step, free, test, does, within, Sure}
-use Rattle.semantics.specs.Run.{Ran, noting, exactly, run, Job, meaning}
+use Rattle.semantics.specs.Run.{Ran, noting, starting, exactly, run, Job, meaning}
 
 -- the run with the first ones of these values, as many as it reaches
 pub record Reaches (t : Does ℤ) (vs : List ℤ) : Type 0 where
@@ -25,10 +25,10 @@ reaches cut s n m vs h = record { count = 0; ran = _; runs = refl }
 reaches stuck s n m vs h = absurd s
 reaches (step t) s zero m vs h = record { count = 0; ran = _; runs = refl }
 reaches (step t) s (suc n) m vs h = let r = reaches t s n m vs h in record { count = r .count; ran = r .ran; runs = r .runs }
-reaches (free k) s zero m vs h = record { count = 0; ran = _; runs = refl }
-reaches (free k) s (suc n) zero vs h = record { count = 0; ran = _; runs = refl }
-reaches (free k) s (suc n) (suc m) [] h = absurd (omega arith)
-reaches (free k) s (suc n) (suc m) (v ∷ vs) h = let r = reaches (k v) (s v) n m vs (le-of-suc-le-suc h) in record { count = suc (r .count); ran = r .ran; runs = r .runs }
+reaches (free o k) s zero m vs h = record { count = 0; ran = _; runs = refl }
+reaches (free o k) s (suc n) zero vs h = record { count = 0; ran = _; runs = refl }
+reaches (free o k) s (suc n) (suc m) [] h = absurd (omega arith)
+reaches (free o k) s (suc n) (suc m) (v ∷ vs) h = let r = reaches (k v) (s v) n m vs (le-of-suc-le-suc h) in record { count = suc (r .count); ran = starting o (r .ran); runs = ap (Option·map (starting o)) (r .runs) }
 reaches (test c a b k) s n m vs h =
     let r = reaches (k (holds c a b)) (s (holds c a b)) n m vs h in
     record { count = r .count; ran = noting (holds c a b) (r .ran); runs = ap (Option·map (noting (holds c a b))) (r .runs) }

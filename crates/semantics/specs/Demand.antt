@@ -1,13 +1,14 @@
 -- What demand 3 says of the plan list of a job, in words of runs alone: neither sorting nor a search stands here. That `plans` (Plans) is this list, and that there is no other, are theorems.
 use mathlib.Core.Path.{_≡_}
 use mathlib.Core.Bool.{Bool, true, false}
-use mathlib.Core.Option.{some}
+use mathlib.Core.Option.{Option, some}
 use mathlib.Core.Logic.{_⊎_}
-use mathlib.Core.List.{List, _∷_, _++_, List·Memᴰ}
+use mathlib.Core.List.{List, [], _∷_, _++_, List·Memᴰ}
 use lib.IntN.{ℤ, pos, negsuc}
 use lib.Dec.{T}
 use lib.Signed.{ltZ, leZ}
-use Rattle.semantics.specs.Run.{Window, Job, meaning, run, returns, cuts, Choice, Row}
+use Rattle.semantics.specs.Program.{Window}
+use Rattle.semantics.specs.Run.{Job, pairOf, meaning, run, returns, cuts, Choice, Row}
 
 -- x is an element of the list
 infix 4 _∈_
@@ -21,9 +22,14 @@ InWindow w x = T (leZ (w .low) x) × T (leZ x (w .high))
 abbrev pub In32 : Window → Type 0
 In32 w = T (leZ (negsuc 2147483647) (w .low)) × T (leZ (w .high) (pos 2147483647))
 
+-- "A choice of values now means one inside each variable's own pair": value by value, each in the pair of its own declaration
+pub data InPairs (job : Window) : List (Option Window) → List ℤ → Type 0 where
+  none : InPairs job [] []
+  more : {o : Option Window} {os : List (Option Window)} {v : ℤ} {vs : List ℤ} → InWindow (pairOf job o) v → InPairs job os vs → InPairs job (o ∷ os) (v ∷ vs)
+
 -- "A choice of values belongs to it if each value is in the window and the run with them reaches as many free declarations as there are values": `run` has an answer only then.
 pub record Belongs (j : Job) (c : Choice) : Type 0 where
-  pub inside : (v : ℤ) → v ∈ c .values → InWindow (j .window) v
+  pub inside : InPairs (j .window) (c .ran .starts) (c .values)
   pub runs : run (meaning j) (c .values) ≡ some (c .ran)
 
 -- "Where two runs' tests first differ, true stands first"

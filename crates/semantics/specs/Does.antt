@@ -6,15 +6,15 @@ use mathlib.Core.List.{List, [], _∷_, map}
 use lib.ListN.{getD, set}
 use lib.IntN.{ℤ}
 use Rattle.semantics.specs.Int.{Op, Cmp}
-use Rattle.semantics.specs.Program.{Address, slot, Expr, number, name, op, call, Exprs, more, Cond, const, compare, and, or, Stmt, empty, declare, unknown, assign, eval, block, if, while, return, fail, Stmts, end, next, Program}
+use Rattle.semantics.specs.Program.{Window, Address, slot, Expr, number, name, op, call, Exprs, more, Cond, const, compare, and, or, Stmt, empty, declare, unknown, assign, eval, block, if, while, return, fail, Stmts, end, next, Program}
 
--- "It returns, fails or is cut." Before that it makes steps, asks for the value of a free declaration (a statement begun, so a step too), and asks for the outcome of a comparison, with what it does for each answer.
+-- "It returns, fails or is cut." Before that it makes steps, asks for the value of a free declaration (a statement begun, so a step too), whose own pair it names if it has one, and asks for the outcome of a comparison, with what it does for each answer.
 -- Where it reads a variable that holds nothing it is stuck: a state for which no rule of 002 applies.
 pub data Does (X : Type 0) : Type 0 where
   returned : X → Does X
   failed cut stuck : Does X
   step : Does X → Does X
-  free : (X → Does X) → Does X
+  free : Option Window → (X → Does X) → Does X
   test : Cmp → X → X → (Bool → Does X) → Does X
 
 -- ---- the variables of a function that runs
@@ -82,7 +82,7 @@ module _ {X : Type 0} (num : ℤ → X) (work : Op → X → X → X) where
         -- Decl: a fresh place, which holds nothing, each time it is reached
         stmt (declare a) f k r = step (k (store f a none))
         -- Free: a new unknown each time it is reached
-        stmt (unknown a) f k r = free λ v. k (store f a (some v))
+        stmt (unknown a o) f k r = free o λ v. k (store f a (some v))
         -- Assign: 002 gives x a new address, so that an open value that names the old one stays as it was; here an open value names its unknowns, never a variable, and x keeps its address
         stmt (assign a e) f k r = step (expr e f λ v. k (store f a (some v)))
         stmt (eval e) f k r = step (expr e f λ v. k f)
@@ -122,9 +122,9 @@ within n m cut = cut
 within n m stuck = stuck
 within zero m (step t) = cut
 within (suc n) m (step t) = step (within n m t)
-within zero m (free k) = cut
-within (suc n) zero (free k) = cut
-within (suc n) (suc m) (free k) = free λ v. within n m (k v)
+within zero m (free o k) = cut
+within (suc n) zero (free o k) = cut
+within (suc n) (suc m) (free o k) = free o λ v. within n m (k v)
 within n m (test c a b k) = test c a b λ o. within n m (k o)
 
 -- ---- what definite assignment is for
@@ -136,5 +136,5 @@ Sure failed = Unit {0}
 Sure cut = Unit {0}
 Sure stuck = ⊥
 Sure (step t) = Sure t
-Sure {X} (free k) = (v : X) → Sure (k v)
+Sure {X} (free o k) = (v : X) → Sure (k v)
 Sure (test c a b k) = (o : Bool) → Sure (k o)

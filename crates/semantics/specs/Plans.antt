@@ -1,32 +1,40 @@
 -- The plan list, computed: the choices of a job, sorted, and the rows of those whose run returns.
 -- Nobody has to believe this file. Which list the plan list is, and when a choice is cut, say `PlanList` and `SomeCut` (Demand); that `plans` is that list and no other is, and that `someCut` is true just then, are theorems.
-use Prim.Native.Nat.{ℕ, zero, suc}
 use mathlib.Core.Bool.{Bool, true, false, cond, _||_}
-use mathlib.Core.Option.{Option, none, some}
+use mathlib.Core.Option.{Option}
 use mathlib.Core.List.{List, [], _∷_, map}
 use lib.IntN.{ℤ}
 use lib.Signed.{ltZ}
-use Rattle.semantics.specs.Run.{Ending, returns, fails, cuts, Ran, run, Window, Job, meaning, Choice, Row, numbers, each}
+use Rattle.semantics.specs.Int.{holds}
+use Rattle.semantics.specs.Does.{Does, returned, failed, cut, stuck, step, free, test}
+use Rattle.semantics.specs.Program.{Window}
+use Rattle.semantics.specs.Run.{Ending, returns, fails, cuts, noting, starting, Job, pairOf, meaning, Choice, Row, numbers, each}
 
--- ---- the choices of a job: "A choice of values belongs to it if each value is in the window and the run with them reaches as many free declarations as there are values."
+-- ---- the choices of a job, by walking what its program does: at each free declaration every value of its pair, upward, and then the choices of what is done with it
 
--- all lists of at most n integers of a window
-unfoldable pub lists : ℕ → Window → List (List ℤ)
-lists zero w = [] ∷ []
-lists (suc n) w = [] ∷ each (λ v. map (λ vs. v ∷ vs) (lists n w)) (numbers w)
+-- the choice of a run that has ended, with no value left to choose
+abbrev pub ended : Ending → List Choice
+ended e = record { ran = record { tests = []; starts = []; ending = e }; values = [] } ∷ []
 
--- those of the lists that have a run, each with its run
-abbrev pub adding : Option Ran → List ℤ → List Choice → List Choice
-adding none vs cs = cs
-adding (some r) vs cs = record { ran = r; values = vs } ∷ cs
+-- a choice with one value before the others
+abbrev pub chosen : Option Window → ℤ → Choice → Choice
+chosen o v c = record { ran = starting o (c .ran); values = v ∷ c .values }
 
-unfoldable pub belonging : (List ℤ → Option Ran) → List (List ℤ) → List Choice
-belonging f [] = []
-belonging f (vs ∷ l) = adding (f vs) vs (belonging f l)
+-- a choice with one test before the others
+abbrev pub noted : Bool → Choice → Choice
+noted o c = record { ran = noting o (c .ran); values = c .values }
 
--- no run reaches a ninth free declaration, so lists of eight are enough
+unfoldable pub choicesOf : Window → Does ℤ → List Choice
+choicesOf job (returned z) = ended (returns z)
+choicesOf job failed = ended fails
+choicesOf job cut = ended cuts
+choicesOf job stuck = []
+choicesOf job (step t) = choicesOf job t
+choicesOf job (free o k) = each (λ v. map (chosen o v) (choicesOf job (k v))) (numbers (pairOf job o))
+choicesOf job (test c a b k) = map (noted (holds c a b)) (choicesOf job (k (holds c a b)))
+
 unfoldable pub choices : Job → List Choice
-choices j = belonging (run (meaning j)) (lists 8 (j .window))
+choices j = choicesOf (j .window) (meaning j)
 
 -- ---- the order: "Where two runs' tests first differ, true stands first; where all are equal, the smaller value at the first difference."
 

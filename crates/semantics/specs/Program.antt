@@ -1,6 +1,7 @@
 -- A program in which every name is resolved: each variable is the address of its declaration, each call the number of its function.
 use Prim.Native.Nat.{ℕ}
 use mathlib.Core.Bool.{Bool}
+use mathlib.Core.Option.{Option}
 use mathlib.Core.List.{List}
 use lib.IntN.{ℤ}
 use Rattle.semantics.specs.Int.{Op, Cmp}
@@ -28,11 +29,18 @@ pub data Cond : Type 0 where
   compare : Cmp → Expr → Expr → Cond
   and or : Cond → Cond → Cond
 
+-- a window, "low to high"
+pub record Window : Type 0 where
+  pub low : ℤ
+  pub high : ℤ
+
 -- "Statement: `;`, `int x;`, `int x free;`, `x = e;`, `e;`, `{ statements }`, `if (b) s else s` (else always), `while (b) s`, `return e;`, `fail;`."
 mutual
   pub data Stmt : Type 0 where
     empty : Stmt
-    declare unknown : Address → Stmt
+    declare : Address → Stmt
+    -- "`int x free 5 .. 400;` gives that declaration its own pair"; none is a plain `free`, which "takes the job's pair"
+    unknown : Address → Option Window → Stmt
     assign : Address → Expr → Stmt
     eval : Expr → Stmt
     block : Stmts → Stmt

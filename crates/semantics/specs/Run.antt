@@ -5,7 +5,7 @@ use mathlib.Core.Option.{Option, none, some, Option·map}
 use mathlib.Core.List.{List, [], _∷_, _++_}
 use lib.IntN.{ℤ, pos, negsuc, sucℤ, _-ℤ_}
 use Rattle.semantics.specs.Int.{arith, holds}
-use Rattle.semantics.specs.Program.{Program}
+use Rattle.semantics.specs.Program.{Window, Program}
 use Rattle.semantics.specs.Does.{Does, returned, failed, cut, stuck, step, free, test, does, within}
 
 -- ---- a run: "Choose values for the free declarations, in the order in which they are reached. The run is then fixed. It returns, fails or is cut."
@@ -14,17 +14,22 @@ pub data Ending : Type 0 where
   returns : ℤ → Ending
   fails cuts : Ending
 
--- "A run's tests are the outcomes of the comparisons it works, in order."
 pub record Ran : Type 0 where
+  -- "A run's tests are the outcomes of the comparisons it works, in order."
   pub tests : List Bool
+  -- the own pairs of the free declarations that it reached, in order; none where it is the job's
+  pub starts : List (Option Window)
   pub ending : Ending
 
 abbrev pub noting : Bool → Ran → Ran
-noting o r = record { tests = o ∷ r .tests; ending = r .ending }
+noting o r = record { tests = o ∷ r .tests; starts = r .starts; ending = r .ending }
+
+abbrev pub starting : Option Window → Ran → Ran
+starting o r = record { tests = r .tests; starts = o ∷ r .starts; ending = r .ending }
 
 -- the end of a run, with the values that are left
 unfoldable pub exactly : Ending → List ℤ → Option Ran
-exactly e [] = some (record { tests = []; ending = e })
+exactly e [] = some (record { tests = []; starts = []; ending = e })
 exactly e (v ∷ vs) = none
 
 -- The run with these values; none unless it "reaches as many free declarations as there are values".
@@ -35,20 +40,21 @@ run failed vs = exactly fails vs
 run cut vs = exactly cuts vs
 run stuck vs = none
 run (step t) vs = run t vs
-run (free k) [] = none
-run (free k) (v ∷ vs) = run (k v) vs
+run (free o k) [] = none
+run (free o k) (v ∷ vs) = Option·map (starting o) (run (k v) vs)
 run (test c a b k) vs = Option·map (noting (holds c a b)) (run (k (holds c a b)) vs)
 
 -- ---- a job: "A job is a text that check accepts, a window (low to high) and a step limit."
-
-pub record Window : Type 0 where
-  pub low : ℤ
-  pub high : ℤ
 
 pub record Job : Type 0 where
   pub program : Program
   pub window : Window
   pub steps : ℕ
+
+-- the pair of a free declaration: "A plain `free` takes the job's pair."
+abbrev pub pairOf : Window → Option Window → Window
+pairOf job none = job
+pairOf job (some own) = own
 
 -- what the job's program does over 32-bit integers, within the step limit and eight free declarations
 unfoldable pub meaning : Job → Does ℤ

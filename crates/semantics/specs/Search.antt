@@ -8,7 +8,8 @@ use lib.IntN.{ℤ, pos, negsuc, sucℤ, predℤ, _+ℤ_, _-ℤ_, _*ℤ_}
 use lib.Signed.{ltZ, leZ}
 use Rattle.semantics.specs.Int.{Op, add, sub, mul, arith, Cmp, lt, le, gt, ge, eq, ne, eqZ, holds}
 use Rattle.semantics.specs.Does.{Does, returned, failed, cut, stuck, step, free, test, does, within}
-use Rattle.semantics.specs.Run.{Window, numbers, each, Row, Job}
+use Rattle.semantics.specs.Program.{Window}
+use Rattle.semantics.specs.Run.{numbers, each, Row, Job, pairOf}
 
 -- ---- values: "A value is known, or open with the expression it stands for."
 
@@ -190,7 +191,7 @@ abbrev pub side : Option (List Window) → (List Window → Paths) → Paths
 side none p = leaf []
 side (some ws) p = p ws
 
--- The paths from here on, with the windows and the tests made so far. "each free declaration starts with the job's pair"; "At `fail`, none"; a comparison that is not decided is a choice.
+-- The paths from here on, with the windows and the tests made so far. "each free declaration starts with the job's pair", or with its own; "At `fail`, none"; a comparison that is not decided is a choice.
 -- Where it is stuck there is no run, and nothing is tried.
 module _ (solver : Solver) (job : Window) where
   unfoldable pub paths : Does Value → List Window → List Test → Paths
@@ -199,7 +200,7 @@ module _ (solver : Solver) (job : Window) where
   paths cut ws ts = leaf (probed ts (settings ws))
   paths stuck ws ts = leaf []
   paths (step t) ws ts = onward (paths t ws ts)
-  paths (free k) ws ts = onward (paths (k (unknown (length ws))) (ws ++ job ∷ []) ts)
+  paths (free o k) ws ts = onward (paths (k (unknown (length ws))) (ws ++ pairOf job o ∷ []) ts)
   paths (test c a b k) ws ts = elim (solver .decide c a b ws) [
     | some o ↦ paths (k o) ws ts
     | none ↦ fork

@@ -7,7 +7,7 @@ use native.Mathlib.Omega.{arith}
 use lib.Dec.{T}
 use lib.ListN.{length}
 use lib.IntN.{ℤ}
-use Rattle.semantics.specs.Run.{Window}
+use Rattle.semantics.specs.Program.{Window}
 use Rattle.semantics.specs.Search.{Value, Test, Answer}
 use Rattle.simulation.specs.Nodes.{Cell, Node, meaning}
 use Rattle.simulation.specs.Odometer.{filled, lowest, after}

@@ -14,7 +14,7 @@ use lib.IntN.{ℤ, sucℤ}
 use lib.Signed.{ltZ, leZ}
 use mir.Syntax.{w32}
 use mir.Val.{toZ}
-use Rattle.semantics.specs.Run.{Window}
+use Rattle.semantics.specs.Program.{Window}
 use Rattle.semantics.specs.Search.{to}
 use Rattle.simulation.specs.Odometer.{filled, lowest, after}
 use Rattle.simulation.proofs.Odometer.{AtHigh, after-last, after-up}

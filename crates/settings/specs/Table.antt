@@ -9,7 +9,7 @@ use lib.IntN.{ℤ, pos}
 use mir.Syntax.{w32}
 use mir.Val.{toZ}
 use Rattle.semantics.specs.Int.{arith, holds}
-use Rattle.semantics.specs.Run.{Window}
+use Rattle.semantics.specs.Program.{Window}
 use Rattle.semantics.specs.Search.{to}
 use Rattle.simulation.specs.Nodes.{node, numbers, numberIn}
 use Rattle.simulation.specs.Odometer.{lowest, after}

@@ -5,7 +5,7 @@ use mathlib.Core.Bool.{Bool, true, false}
 use mathlib.Core.Option.{Option, none, some}
 use mathlib.Core.List.{List, [], _∷_, _++_, append-assoc, append-nil}
 use Rattle.semantics.specs.Int.{Cmp}
-use Rattle.semantics.specs.Run.{Window}
+use Rattle.semantics.specs.Program.{Window}
 use Rattle.semantics.specs.Search.{Value, known, work, Solver, Test}
 use Rattle.simulation.specs.Code.{Code}
 use Rattle.simulation.specs.Machine.{Machine, Doing, advance, start}
@@ -100,7 +100,7 @@ where-is (z ∷ d) (y ∷ g) r x o e = by (where-is d g r x o (ap others e))
 -- ---- what a turn does, whatever is forced
 
 abbrev pub forcing : List Bool → State → State
-forcing q s = state (s .steps) (s .frees) (s .windows) (s .tests) q (s .chosen)
+forcing q s = state (s .steps) (s .frees) (s .windows) (s .starts) (s .tests) q (s .chosen)
 
 module _ (solver : Solver) (job : Window) (c : Code) where
   -- a turn without a choice, and a turn with one; each is made again with other outcomes forced after it
@@ -130,59 +130,59 @@ module _ (solver : Solver) (job : Window) (c : Code) where
     unfolding turn
     by-doing s e f = ap (λ d. turning solver job d s .went) e ∙ f
 
-    shape-step : (l f : ℕ) (ws : List Window) (ts : List Test) (p h : List Bool) (j : Machine Value) → advance known work c m ≡ Doing.step j → Shape m (state l f ws ts p h) (turning solver job (Doing.step j) (state l f ws ts p h) .went)
+    shape-step : (l f : ℕ) (ws ps : List Window) (ts : List Test) (p h : List Bool) (j : Machine Value) → advance known work c m ≡ Doing.step j → Shape m (state l f ws ps ts p h) (turning solver job (Doing.step j) (state l f ws ps ts p h) .went)
     unfolding turning
-    shape-step zero f ws ts p h j e = one refl
-    shape-step (suc l) f ws ts p h j e = one (record { chosen = refl; forced = refl; again = λ q. by-doing _ e refl })
+    shape-step zero f ws ps ts p h j e = one refl
+    shape-step (suc l) f ws ps ts p h j e = one (record { chosen = refl; forced = refl; again = λ q. by-doing _ e refl })
 
-    shape-free : (l f : ℕ) (ws : List Window) (ts : List Test) (p h : List Bool) (k : Value → Machine Value) → advance known work c m ≡ Doing.free k → Shape m (state l f ws ts p h) (turning solver job (Doing.free k) (state l f ws ts p h) .went)
+    shape-free : (l f : ℕ) (ws ps : List Window) (ts : List Test) (p h : List Bool) (x : Option Window) (k : Value → Machine Value) → advance known work c m ≡ Doing.free x k → Shape m (state l f ws ps ts p h) (turning solver job (Doing.free x k) (state l f ws ps ts p h) .went)
     unfolding turning
-    shape-free zero f ws ts p h k e = one refl
-    shape-free (suc l) zero ws ts p h k e = one refl
-    shape-free (suc l) (suc f) ws ts p h k e = one (record { chosen = refl; forced = refl; again = λ q. by-doing _ e refl })
+    shape-free zero f ws ps ts p h x k e = one refl
+    shape-free (suc l) zero ws ps ts p h x k e = one refl
+    shape-free (suc l) (suc f) ws ps ts p h x k e = one (record { chosen = refl; forced = refl; again = λ q. by-doing _ e refl })
 
-    module _ (l f : ℕ) (ws : List Window) (ts : List Test) (h : List Bool) (o : Cmp) (a b : Value) (k : Bool → Machine Value) (e : advance known work c m ≡ Doing.test o a b k) where
+    module _ (l f : ℕ) (ws ps : List Window) (ts : List Test) (h : List Bool) (o : Cmp) (a b : Value) (k : Bool → Machine Value) (e : advance known work c m ≡ Doing.test o a b k) where
       -- a test that the solver decides, or not
-      test-decided : (r : Bool) → solver .decide o a b ws ≡ some r → (q : List Bool) → turn solver job c m (state (suc l) f ws ts q h) .went ≡ on (k r) (state l f ws ts q h)
+      test-decided : (r : Bool) → solver .decide o a b ws ≡ some r → (q : List Bool) → turn solver job c m (state (suc l) f ws ps ts q h) .went ≡ on (k r) (state l f ws ps ts q h)
       unfolding turning comparing
-      test-decided r d q = by-doing _ e (ap (λ x. elim x as (λ x. Went) [ some r ↦ on (k r) (state l f ws ts q h) | none ↦ choosing solver job o a b k (state l f ws ts q h) (outcome q) ]) d)
+      test-decided r d q = by-doing _ e (ap (λ x. elim x as (λ x. Went) [ some r ↦ on (k r) (state l f ws ps ts q h) | none ↦ choosing solver job o a b k (state l f ws ps ts q h) (outcome q) ]) d)
 
-      test-chosen : solver .decide o a b ws ≡ none → (q : List Bool) → turn solver job c m (state (suc l) f ws ts q h) .went ≡ choosing solver job o a b k (state l f ws ts q h) (outcome q)
+      test-chosen : solver .decide o a b ws ≡ none → (q : List Bool) → turn solver job c m (state (suc l) f ws ps ts q h) .went ≡ choosing solver job o a b k (state l f ws ps ts q h) (outcome q)
       unfolding turning comparing
-      test-chosen d q = by-doing _ e (ap (λ x. elim x as (λ x. Went) [ some r ↦ on (k r) (state l f ws ts q h) | none ↦ choosing solver job o a b k (state l f ws ts q h) (outcome q) ]) d)
+      test-chosen d q = by-doing _ e (ap (λ x. elim x as (λ x. Went) [ some r ↦ on (k r) (state l f ws ps ts q h) | none ↦ choosing solver job o a b k (state l f ws ps ts q h) (outcome q) ]) d)
 
-      choice-at : solver .decide o a b ws ≡ none → (p : List Bool) → ChoiceAt solver job c m (state (suc l) f ws ts p h)
+      choice-at : solver .decide o a b ws ≡ none → (p : List Bool) → ChoiceAt solver job c m (state (suc l) f ws ps ts p h)
       choice-at d p = record { compare = o; left = a; right = b; after = k; steps = l; works = e; within = refl; undecided = d }
 
       shape-side : solver .decide o a b ws ≡ none → (p : List Bool) (y : Option (List Window)) → solver .narrow (holding (outcome p) o) a b ws ≡ y
-          → Shape m (state (suc l) f ws ts p h) (siding o a b (k (outcome p)) (state l f ws ts p h) (outcome p) y)
+          → Shape m (state (suc l) f ws ps ts p h) (siding o a b (k (outcome p)) (state l f ws ps ts p h) (outcome p) y)
       unfolding choosing
       shape-side d p none n = two (record { choice = choice-at d p; chosen = refl })
       shape-side d p (some us) n = two (record {
         choice = choice-at d p;
         chosen = refl;
         forced = refl;
-        again = λ q. test-chosen d (outcome p ∷ q) ∙ ap (siding o a b (k (outcome p)) (state l f ws ts (outcome p ∷ q) h) (outcome p)) n;
+        again = λ q. test-chosen d (outcome p ∷ q) ∙ ap (siding o a b (k (outcome p)) (state l f ws ps ts (outcome p ∷ q) h) (outcome p)) n;
       })
 
       shape-choice : (p : List Bool) (x : Option Bool) → solver .decide o a b ws ≡ x
-          → Shape m (state (suc l) f ws ts p h) (elim x as (λ x. Went) [ some r ↦ on (k r) (state l f ws ts p h) | none ↦ choosing solver job o a b k (state l f ws ts p h) (outcome p) ])
+          → Shape m (state (suc l) f ws ps ts p h) (elim x as (λ x. Went) [ some r ↦ on (k r) (state l f ws ps ts p h) | none ↦ choosing solver job o a b k (state l f ws ps ts p h) (outcome p) ])
       unfolding choosing
       shape-choice p (some r) d = one (record { chosen = refl; forced = refl; again = test-decided r d })
       shape-choice p none d = shape-side d p (solver .narrow (holding (outcome p) o) a b ws) refl
 
-    shape-test : (l f : ℕ) (ws : List Window) (ts : List Test) (p h : List Bool) (o : Cmp) (a b : Value) (k : Bool → Machine Value) → advance known work c m ≡ Doing.test o a b k
-        → Shape m (state l f ws ts p h) (turning solver job (Doing.test o a b k) (state l f ws ts p h) .went)
+    shape-test : (l f : ℕ) (ws ps : List Window) (ts : List Test) (p h : List Bool) (o : Cmp) (a b : Value) (k : Bool → Machine Value) → advance known work c m ≡ Doing.test o a b k
+        → Shape m (state l f ws ps ts p h) (turning solver job (Doing.test o a b k) (state l f ws ps ts p h) .went)
     unfolding turning comparing
-    shape-test zero f ws ts p h o a b k e = one refl
-    shape-test (suc l) f ws ts p h o a b k e = shape-choice l f ws ts h o a b k e p (solver .decide o a b ws) refl
+    shape-test zero f ws ps ts p h o a b k e = one refl
+    shape-test (suc l) f ws ps ts p h o a b k e = shape-choice l f ws ps ts h o a b k e p (solver .decide o a b ws) refl
 
     shape-of : (s : State) (d : Doing Value) → advance known work c m ≡ d → Shape m s (turning solver job d s .went)
     unfolding turning
     shape-of s (Doing.silent j) e = one (record { chosen = refl; forced = refl; again = λ q. by-doing _ e refl })
-    shape-of s (Doing.step j) e = shape-step (s .steps) (s .frees) (s .windows) (s .tests) (s .forced) (s .chosen) j e
-    shape-of s (Doing.free k) e = shape-free (s .steps) (s .frees) (s .windows) (s .tests) (s .forced) (s .chosen) k e
-    shape-of s (Doing.test o a b k) e = shape-test (s .steps) (s .frees) (s .windows) (s .tests) (s .forced) (s .chosen) o a b k e
+    shape-of s (Doing.step j) e = shape-step (s .steps) (s .frees) (s .windows) (s .starts) (s .tests) (s .forced) (s .chosen) j e
+    shape-of s (Doing.free x k) e = shape-free (s .steps) (s .frees) (s .windows) (s .starts) (s .tests) (s .forced) (s .chosen) x k e
+    shape-of s (Doing.test o a b k) e = shape-test (s .steps) (s .frees) (s .windows) (s .starts) (s .tests) (s .forced) (s .chosen) o a b k e
     shape-of s (Doing.returned v) e = one refl
     shape-of s Doing.failed e = one refl
     shape-of s Doing.cut e = one refl
@@ -269,17 +269,17 @@ module _ (solver : Solver) (job : Window) (c : Code) where
 
   -- ---- both sides go on from what stands there: only the outcome, the narrowed windows and the test made differ
 
-  side-at : (l f : ℕ) (ws : List Window) (ts : List Test) (p h : List Bool) (m : Machine Value) (k : ChoiceAt solver job c m (state l f ws ts p h))
-      → turn solver job c m (state l f ws ts p h) .went ≡ siding (k .compare) (k .left) (k .right) (k .after (outcome p)) (state (k .steps) f ws ts p h) (outcome p) (solver .narrow (holding (outcome p) (k .compare)) (k .left) (k .right) ws)
+  side-at : (l f : ℕ) (ws ps : List Window) (ts : List Test) (p h : List Bool) (m : Machine Value) (k : ChoiceAt solver job c m (state l f ws ps ts p h))
+      → turn solver job c m (state l f ws ps ts p h) .went ≡ siding (k .compare) (k .left) (k .right) (k .after (outcome p)) (state (k .steps) f ws ps ts p h) (outcome p) (solver .narrow (holding (outcome p) (k .compare)) (k .left) (k .right) ws)
   unfolding choosing
-  side-at l f ws ts p h m k =
-      ap (λ n. turn solver job c m (state n f ws ts p h) .went) (k .within)
-      ∙ test-chosen m (k .steps) f ws ts h (k .compare) (k .left) (k .right) (k .after) (k .works) (k .undecided) p
+  side-at l f ws ps ts p h m k =
+      ap (λ n. turn solver job c m (state n f ws ps ts p h) .went) (k .within)
+      ∙ test-chosen m (k .steps) f ws ps ts h (k .compare) (k .left) (k .right) (k .after) (k .works) (k .undecided) p
 
   pub both-sides : (m : Machine Value) (s : State) (k : ChoiceAt solver job c m s)
       → turn solver job c m s .went
       ≡ siding (k .compare) (k .left) (k .right) (k .after (outcome (s .forced))) (stepped (k .steps) s) (outcome (s .forced)) (solver .narrow (holding (outcome (s .forced)) (k .compare)) (k .left) (k .right) (s .windows))
-  both-sides m s k = side-at (s .steps) (s .frees) (s .windows) (s .tests) (s .forced) (s .chosen) m k
+  both-sides m s k = side-at (s .steps) (s .frees) (s .windows) (s .starts) (s .tests) (s .forced) (s .chosen) m k
 
   -- ---- what stands at a choice depends on the outcomes before it alone
 

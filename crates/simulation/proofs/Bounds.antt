@@ -38,7 +38,7 @@ module _ {X : Type 0} where
   abbrev pub Sounds : ℕ → Doing X → Type 0
   Sounds n (Doing.silent m) = Sound n m
   Sounds n (Doing.step m) = Sound (suc n) m
-  Sounds n (Doing.free k) = (v : X) → Sound (suc n) (k v)
+  Sounds n (Doing.free x k) = (v : X) → Sound (suc n) (k v)
   Sounds n (Doing.test o a b k) = (r : Bool) → Sound (suc n) (k r)
   Sounds n (Doing.returned v) = Unit {0}
   Sounds n Doing.failed = Unit {0}
@@ -89,6 +89,7 @@ module _ {X : Type 0} (num : ℤ → X) (work : Op → X → X → X) (c : Code)
     sound-act (Act.again m) = record { few = omega arith; nested = s .nested; framed = s .framed; frames = s .frames }
     sound-act Act.begin = record { few = omega arith; nested = s .nested; framed = s .framed; frames = s .frames }
     sound-act (Act.ask a) = λ v. record { few = omega arith; nested = s .nested; framed = length-store f a v ∙ s .framed; frames = s .frames }
+    sound-act (Act.own a) = λ v. record { few = omega arith; nested = s .nested; framed = length-store f a v ∙ s .framed; frames = s .frames }
     sound-act (Act.store a) = record { few = omega (arith, taken-le f ts i); nested = s .nested; framed = length-store f a _ ∙ s .framed; frames = s .frames }
     sound-act Act.return = sound-leaving n d cs _ b (omega arith) (s .nested) (s .frames)
     sound-act Act.fail = tt
@@ -114,7 +115,7 @@ module _ {X : Type 0} (num : ℤ → X) (work : Op → X → X → X) (c : Code)
   abbrev pub Falls : ℕ → Doing X → Type 0
   Falls n (Doing.silent m) = silents m < n
   Falls n (Doing.step m) = Unit {0}
-  Falls n (Doing.free k) = Unit {0}
+  Falls n (Doing.free x k) = Unit {0}
   Falls n (Doing.test o a b k) = Unit {0}
   Falls n (Doing.returned v) = Unit {0}
   Falls n Doing.failed = Unit {0}
@@ -145,6 +146,7 @@ module _ {X : Type 0} (num : ℤ → X) (work : Op → X → X → X) (c : Code)
     falls-act (Act.again m) = tt
     falls-act Act.begin = tt
     falls-act (Act.ask a) = tt
+    falls-act (Act.own a) = tt
     falls-act (Act.store a) = omega arith
     falls-act Act.return = falls-leaving i d b cs (taken num work c f ts i .value)
     falls-act Act.fail = tt

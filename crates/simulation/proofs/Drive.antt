@@ -8,18 +8,19 @@ use native.Mathlib.Omega.{arith}
 use native.Mathlib.Nat.{suc-mul, mul-le-mul-right, le-refl, le-of-suc-le-suc, lt-of-lt-of-le}
 use lib.ListN.{length}
 use Rattle.semantics.specs.Int.{Cmp}
-use Rattle.semantics.specs.Program.{Program}
+use Rattle.semantics.specs.Program.{Window, Program}
 use Rattle.semantics.specs.Does.{Does, does, within, Sure}
-use Rattle.semantics.specs.Run.{Window}
+use Rattle.semantics.specs.Run.{pairOf}
 use Rattle.semantics.specs.Search as search
 use Rattle.semantics.specs.Search.{Value, known, unknown, work, Solver, Test, settings, Move, plain, tried, probed, asTest, paths}
+use Rattle.semantics.proofs.Own.{Pairs}
 use Rattle.simulation.specs.Code.{Code, codeOf}
 use Rattle.simulation.specs.Machine.{Machine, Doing, advance, start}
 use Rattle.simulation.specs.Path.{holding, outcome, later, State, state, begins, End, returned, failed, cut, Went, on, ended, Turn, fresh, counted, still, siding, choosing, stepped, reached, comparing, turning, turn}
 use Rattle.simulation.proofs.Replay.{Has}
 use Rattle.simulation.proofs.Route.{Route, stepping, taking, ending, sided, route, of, route-of}
 use Rattle.simulation.specs.Placed.{Placed}
-use Rattle.simulation.proofs.Placed.{placed}
+use Rattle.simulation.proofs.Placed.{Upward, placed}
 use Rattle.simulation.proofs.Simulate as simulate
 use Rattle.simulation.proofs.Simulate.{Runs, Makes, does-runs}
 use Rattle.simulation.proofs.Bounds.{Sound, Sounds, sound-start, sound-advance, silents, Falls, silent-falls}
@@ -81,54 +82,54 @@ module _ (solver : Solver) (job : Window) (c : Code) where
     unfolding last
     keeps-cut s e = keeps-still (ended cut s) (route-eq (sym (append-nil (s .chosen))) ∙ e)
 
-    keeps-step : (l f : ℕ) (ws : List Window) (ts : List Test) (p h : List Bool) (m : Machine Value) (t : Does Value) → Sure t → ((k : ℕ) → k < l → Runs known work c k m t)
-        → at (Does.step t) (state l f ws ts p h) ≡ r → Keeps r (turning solver job (Doing.step m) (state l f ws ts p h))
+    keeps-step : (l f : ℕ) (ws ps : List Window) (ts : List Test) (p h : List Bool) (m : Machine Value) (t : Does Value) → Sure t → ((k : ℕ) → k < l → Runs known work c k m t)
+        → at (Does.step t) (state l f ws ps ts p h) ≡ r → Keeps r (turning solver job (Doing.step m) (state l f ws ps ts p h))
     unfolding turning route
-    keeps-step zero f ws ts p h m t u d e = keeps-cut (state zero f ws ts p h) e
-    keeps-step (suc l) f ws ts p h m t u d e = keeps-counted (state (suc l) f ws ts p h) (on m (state l f ws ts p h)) _ (record { tree = t; sure = u; does = d l (le-refl _); same = refl }) e
+    keeps-step zero f ws ps ts p h m t u d e = keeps-cut (state zero f ws ps ts p h) e
+    keeps-step (suc l) f ws ps ts p h m t u d e = keeps-counted (state (suc l) f ws ps ts p h) (on m (state l f ws ps ts p h)) _ (record { tree = t; sure = u; does = d l (le-refl _); same = refl }) e
 
-    keeps-free : (l f : ℕ) (ws : List Window) (ts : List Test) (p h : List Bool) (j : Value → Machine Value) (k : Value → Does Value)
+    keeps-free : (l f : ℕ) (ws ps : List Window) (ts : List Test) (p h : List Bool) (x : Option Window) (j : Value → Machine Value) (k : Value → Does Value)
         → ((v : Value) → Sure (k v)) → ((i : ℕ) → i < l → (v : Value) → Runs known work c i (j v) (k v))
-        → at (Does.free k) (state l f ws ts p h) ≡ r → Keeps r (turning solver job (Doing.free j) (state l f ws ts p h))
+        → at (Does.free x k) (state l f ws ps ts p h) ≡ r → Keeps r (turning solver job (Doing.free x j) (state l f ws ps ts p h))
     unfolding turning route
-    keeps-free zero f ws ts p h j k u d e = keeps-cut (state zero f ws ts p h) e
-    keeps-free (suc l) zero ws ts p h j k u d e = keeps-cut (state (suc l) zero ws ts p h) e
-    keeps-free (suc l) (suc f) ws ts p h j k u d e =
-        keeps-counted (state (suc l) (suc f) ws ts p h) (on (j (unknown (length ws))) (state l f (ws ++ job ∷ []) ts p h)) _ (record { tree = k (unknown (length ws)); sure = u _; does = d l (le-refl _) _; same = refl }) e
+    keeps-free zero f ws ps ts p h x j k u d e = keeps-cut (state zero f ws ps ts p h) e
+    keeps-free (suc l) zero ws ps ts p h x j k u d e = keeps-cut (state (suc l) zero ws ps ts p h) e
+    keeps-free (suc l) (suc f) ws ps ts p h x j k u d e =
+        keeps-counted (state (suc l) (suc f) ws ps ts p h) (on (j (unknown (length ws))) (state l f (ws ++ pairOf job x ∷ []) (ps ++ pairOf job x ∷ []) ts p h)) _ (record { tree = k (unknown (length ws)); sure = u _; does = d l (le-refl _) _; same = refl }) e
 
   -- a comparison, after its step
-  goes-side : (x : Option (List Window)) (o : Bool) (q : Cmp) (a b : Value) (l f : ℕ) (ws : List Window) (ts : List Test) (p h : List Bool) (m : Machine Value) (t : Does Value) → Sure t
+  goes-side : (x : Option (List Window)) (o : Bool) (q : Cmp) (a b : Value) (l f : ℕ) (ws ps : List Window) (ts : List Test) (p h : List Bool) (m : Machine Value) (t : Does Value) → Sure t
       → Runs known work c l m t
-      → GoesOn (behind h (taking o (sided x (λ us. route solver job t l f us (asTest (holding o q) a b ∷ ts) (later p))))) (siding q a b m (state l f ws ts p h) o x)
+      → GoesOn (behind h (taking o (sided x (λ us. route solver job t l f us (asTest (holding o q) a b ∷ ts) (later p))))) (siding q a b m (state l f ws ps ts p h) o x)
   unfolding last
-  goes-side none o q a b l f ws ts p h m t u d = refl
-  goes-side (some us) o q a b l f ws ts p h m t u d = record { tree = t; sure = u; does = d; same = route-eq (append-assoc h (o ∷ []) _) }
+  goes-side none o q a b l f ws ps ts p h m t u d = refl
+  goes-side (some us) o q a b l f ws ps ts p h m t u d = record { tree = t; sure = u; does = d; same = route-eq (append-assoc h (o ∷ []) _) }
 
-  goes-choice : (x : Option Bool) (q : Cmp) (a b : Value) (l f : ℕ) (ws : List Window) (ts : List Test) (p h : List Bool) (j : Bool → Machine Value) (k : Bool → Does Value)
+  goes-choice : (x : Option Bool) (q : Cmp) (a b : Value) (l f : ℕ) (ws ps : List Window) (ts : List Test) (p h : List Bool) (j : Bool → Machine Value) (k : Bool → Does Value)
       → ((o : Bool) → Sure (k o)) → ((o : Bool) → Runs known work c l (j o) (k o))
       → GoesOn (behind h (elim x as (λ x. Route) [
         | some o ↦ route solver job (k o) l f ws ts p
         | none ↦ taking (outcome p) (sided (solver .narrow (holding (outcome p) q) a b ws) (λ us. route solver job (k (outcome p)) l f us (asTest (holding (outcome p) q) a b ∷ ts) (later p)))
-      ])) (elim x as (λ x. Went) [ some o ↦ on (j o) (state l f ws ts p h) | none ↦ choosing solver job q a b j (state l f ws ts p h) (outcome p) ])
+      ])) (elim x as (λ x. Went) [ some o ↦ on (j o) (state l f ws ps ts p h) | none ↦ choosing solver job q a b j (state l f ws ps ts p h) (outcome p) ])
   unfolding choosing
-  goes-choice (some o) q a b l f ws ts p h j k u d = record { tree = k o; sure = u o; does = d o; same = refl }
-  goes-choice none q a b l f ws ts p h j k u d = goes-side (solver .narrow (holding (outcome p) q) a b ws) (outcome p) q a b l f ws ts p h (j (outcome p)) (k (outcome p)) (u (outcome p)) (d (outcome p))
+  goes-choice (some o) q a b l f ws ps ts p h j k u d = record { tree = k o; sure = u o; does = d o; same = refl }
+  goes-choice none q a b l f ws ps ts p h j k u d = goes-side (solver .narrow (holding (outcome p) q) a b ws) (outcome p) q a b l f ws ps ts p h (j (outcome p)) (k (outcome p)) (u (outcome p)) (d (outcome p))
 
   module _ (r : Route) where
-    keeps-test : (l f : ℕ) (ws : List Window) (ts : List Test) (p h : List Bool) (o : Cmp) (a b : Value) (j : Bool → Machine Value) (k : Bool → Does Value) → ((o : Bool) → Sure (k o))
+    keeps-test : (l f : ℕ) (ws ps : List Window) (ts : List Test) (p h : List Bool) (o : Cmp) (a b : Value) (j : Bool → Machine Value) (k : Bool → Does Value) → ((o : Bool) → Sure (k o))
         → ((i : ℕ) → i < l → (q : Bool) → Runs known work c i (j q) (k q))
-        → at (Does.step (Does.test o a b k)) (state l f ws ts p h) ≡ r → Keeps r (turning solver job (Doing.test o a b j) (state l f ws ts p h))
+        → at (Does.step (Does.test o a b k)) (state l f ws ps ts p h) ≡ r → Keeps r (turning solver job (Doing.test o a b j) (state l f ws ps ts p h))
     unfolding turning comparing route
-    keeps-test zero f ws ts p h o a b j k u d e = keeps-cut r (state zero f ws ts p h) e
-    keeps-test (suc l) f ws ts p h o a b j k u d e =
-        keeps-counted r (state (suc l) f ws ts p h) (comparing solver job o a b j (state l f ws ts p h)) (route solver job (Does.test o a b k) l f ws ts p) (goes-choice (solver .decide o a b ws) o a b l f ws ts p h j k u (d l (le-refl _))) e
+    keeps-test zero f ws ps ts p h o a b j k u d e = keeps-cut r (state zero f ws ps ts p h) e
+    keeps-test (suc l) f ws ps ts p h o a b j k u d e =
+        keeps-counted r (state (suc l) f ws ps ts p h) (comparing solver job o a b j (state l f ws ps ts p h)) (route solver job (Does.test o a b k) l f ws ts p) (goes-choice (solver .decide o a b ws) o a b l f ws ps ts p h j k u (d l (le-refl _))) e
 
     keeps-makes : (s : State) {d : Doing Value} {t : Does Value} → Makes known work c (s .steps) d t → Sure t → at t s ≡ r → Keeps r (turning solver job d s)
     unfolding turning route last Sure
     keeps-makes s (simulate.silent {m} {t} h) u e = keeps-still r (on m s) (record { tree = t; sure = u; does = h; same = e })
-    keeps-makes s (simulate.step {m} {t} h) u e = keeps-step r (s .steps) (s .frees) (s .windows) (s .tests) (s .forced) (s .chosen) m t u h e
-    keeps-makes s (simulate.free {j} {k} h) u e = keeps-free r (s .steps) (s .frees) (s .windows) (s .tests) (s .forced) (s .chosen) j k u h e
-    keeps-makes s (simulate.test {o} {a} {b} {j} {k} h) u e = keeps-test (s .steps) (s .frees) (s .windows) (s .tests) (s .forced) (s .chosen) o a b j k u h e
+    keeps-makes s (simulate.step {m} {t} h) u e = keeps-step r (s .steps) (s .frees) (s .windows) (s .starts) (s .tests) (s .forced) (s .chosen) m t u h e
+    keeps-makes s (simulate.free {x} {j} {k} h) u e = keeps-free r (s .steps) (s .frees) (s .windows) (s .starts) (s .tests) (s .forced) (s .chosen) x j k u h e
+    keeps-makes s (simulate.test {o} {a} {b} {j} {k} h) u e = keeps-test (s .steps) (s .frees) (s .windows) (s .starts) (s .tests) (s .forced) (s .chosen) o a b j k u h e
     keeps-makes s (simulate.returned {v}) u e = keeps-still r (ended (returned v) s) (route-eq (sym (append-nil (s .chosen))) ∙ e)
     keeps-makes s simulate.failed u e = keeps-still r (ended failed s) (route-eq (sym (append-nil (s .chosen))) ∙ e)
     keeps-makes s simulate.cut u e = keeps-cut r s e
@@ -189,14 +190,14 @@ module _ (c : Code) where
     near-step k zero s m e h = tt
     near-step k (suc l) s m e h = near l m _ e refl h
 
-    near-free : (k l f : ℕ) (s : State) (j : Value → Machine Value) → k + l ≡ most → ((v : Value) → Sound (suc k) (j v))
+    near-free : (k l f : ℕ) (s : State) (x : Option Window) (j : Value → Machine Value) → k + l ≡ most → ((v : Value) → Sound (suc k) (j v))
         → Nears most (l * suc most-silents + q) ((elim l as (λ l. Turn) [
           | zero ↦ still (ended cut s)
-          | suc l ↦ elim f as (λ f. Turn) [ zero ↦ still (ended cut s) | suc f ↦ counted s (on (j (unknown (length (s .windows)))) (reached job l f s)) ]
+          | suc l ↦ elim f as (λ f. Turn) [ zero ↦ still (ended cut s) | suc f ↦ counted s (on (j (unknown (length (s .windows)))) (reached (pairOf job x) l f s)) ]
         ]) .went)
-    near-free k zero f s j e h = tt
-    near-free k (suc l) zero s j e h = tt
-    near-free k (suc l) (suc f) s j e h = near l _ _ e refl (h _)
+    near-free k zero f s x j e h = tt
+    near-free k (suc l) zero s x j e h = tt
+    near-free k (suc l) (suc f) s x j e h = near l _ _ e refl (h _)
 
     near-side : (k l : ℕ) (x : Option (List Window)) (o : Cmp) (a b : Value) (s : State) (r : Bool) (m : Machine Value) → k + suc l ≡ most → s .steps ≡ l → Sound (suc k) m
         → Nears most (suc l * suc most-silents + q) (siding o a b m s r x)
@@ -219,7 +220,7 @@ module _ (c : Code) where
     unfolding turning
     near-turn (Doing.silent m) s k e h f = record { kept = record { made = k; limit = e; sound = h }; nearer = omega arith }
     near-turn (Doing.step m) s k e h f = near-step k (s .steps) s m e h
-    near-turn (Doing.free j) s k e h f = near-free k (s .steps) (s .frees) s j e h
+    near-turn (Doing.free x j) s k e h f = near-free k (s .steps) (s .frees) s x j e h
     near-turn (Doing.test o a b j) s k e h f = near-test k (s .steps) s o a b j e h
     near-turn (Doing.returned v) s k e h f = tt
     near-turn Doing.failed s k e h f = tt
@@ -261,7 +262,7 @@ module _ (solver : Solver) (job : Window) (c : Code) where
   driven-ok most p h u forced n l = drive-ok most n _ _ _ (goes-start solver job c most p h u forced) (kept-start c most forced) (lt-of-lt-of-le (turns-le c most _ _ (kept-start c most forced)) l)
 
 -- the path that the machine goes from the start of main with forced outcomes is that path of the search
-pub replay-ok : (solver : Solver) (job : Window) (most : ℕ) (p : Program) → Sure (does known work most p) → (forced : List Bool)
+pub replay-ok : (solver : Solver) (job : Window) (most : ℕ) (p : Program) → Pairs Upward p → Sure (does known work most p) → (forced : List Bool)
     → Has (paths solver job (within most 8 (does known work most p)) [] []) forced → (n : ℕ) → most-turns (codeOf p) most ≤ n
     → drive solver job (codeOf p) n (start known work (codeOf p)) (begins most forced) ≡ of (paths solver job (within most 8 (does known work most p)) [] []) forced
-replay-ok solver job most p u forced h n l = driven-ok solver job (codeOf p) most p (placed p) u forced n l ∙ route-of solver job (does known work most p) most 8 [] [] forced h
+replay-ok solver job most p o u forced h n l = driven-ok solver job (codeOf p) most p (placed p o) u forced n l ∙ route-of solver job (does known work most p) most 8 [] [] forced h

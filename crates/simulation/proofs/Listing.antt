@@ -7,9 +7,9 @@ use mathlib.Core.List.{List, [], _∷_, _++_, append-assoc, append-nil}
 use native.Mathlib.Omega.{arith}
 use native.Mathlib.Nat.{le-of-suc-le-suc, lt-of-lt-of-le}
 use lib.IntN.{ℤ}
-use Rattle.semantics.specs.Program.{Program}
+use Rattle.semantics.specs.Program.{Window, Program}
 use Rattle.semantics.specs.Does.{does, within, Sure}
-use Rattle.semantics.specs.Run.{Window, Row, Job}
+use Rattle.semantics.specs.Run.{Row, Job}
 use Rattle.semantics.specs.Search as search
 use Rattle.semantics.specs.Search.{Value, known, work, under, Solver, Test, meets, settings, Kind, missed, Move, plain, found, tried, probed, Paths, paths, moves, probedOnce, Close, Answer, answer, listed}
 use Rattle.simulation.specs.Code.{Code}

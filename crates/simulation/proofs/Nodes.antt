@@ -10,7 +10,7 @@ use lib.Seq.{getD-at}
 use lib.IntN.{ℤ, pos}
 use Rattle.semantics.specs.Int as int
 use Rattle.semantics.specs.Int.{Op, holds}
-use Rattle.semantics.specs.Run.{Window}
+use Rattle.semantics.specs.Program.{Window}
 use Rattle.semantics.specs.Search as search
 use Rattle.semantics.specs.Search.{Value, known, open′, work, under, range, meets, to, all32, span, fitted}
 use Rattle.simulation.specs.Nodes.{Cell, Known, Open, Node, unknown, operation, cell, node, pass, values, meaning, ranges, rangeIn, numbers, numberIn, Within, working, Noted, testOf, meetsIn}

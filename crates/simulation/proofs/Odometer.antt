@@ -9,7 +9,8 @@ use lib.ListN.{length}
 use lib.IntN.{ℤ, pos, negsuc, sucℤ, _-ℤ_}
 use lib.Dec.{T}
 use lib.Signed.{ltZ, leZ}
-use Rattle.semantics.specs.Run.{Window, counting, clamp, numbers, each}
+use Rattle.semantics.specs.Program.{Window}
+use Rattle.semantics.specs.Run.{counting, clamp, numbers, each}
 use Rattle.semantics.specs.Search.{settings, to}
 use Rattle.semantics.proofs.Order.{up, down, _≼_, _≺_, leZ→, →leZ, ltZ→, nltZ→, nleZ→, of-minus, of-suc}
 use Rattle.simulation.specs.Odometer.{filled, lowest, carried, after}

@@ -6,7 +6,8 @@ use mathlib.Core.Option.{Option, none, some}
 use mathlib.Core.List.{List, [], _∷_, _++_}
 use lib.ListN.{length}
 use Rattle.semantics.specs.Does.{Does, returned, failed, cut, stuck, step, free, test, within}
-use Rattle.semantics.specs.Run.{Window}
+use Rattle.semantics.specs.Program.{Window}
+use Rattle.semantics.specs.Run.{pairOf}
 use Rattle.semantics.specs.Search.{Value, unknown, Solver, Test, settings, Move, plain, stepped, tried, probed, Paths, leaf, onward, fork, asTest, side, paths}
 use Rattle.simulation.specs.Path.{holding, outcome, later}
 use Rattle.simulation.proofs.Replay.{Has, path-moves, truths, replayed, chosen}
@@ -39,9 +40,9 @@ module _ (solver : Solver) (job : Window) where
   route stuck l f ws ts p = ending []
   route (step t) zero f ws ts p = ending (probed ts (settings ws))
   route (step t) (suc l) f ws ts p = stepping p (route t l f ws ts p)
-  route (free k) zero f ws ts p = ending (probed ts (settings ws))
-  route (free k) (suc l) zero ws ts p = ending (probed ts (settings ws))
-  route (free k) (suc l) (suc f) ws ts p = stepping p (route (k (unknown (length ws))) l f (ws ++ job ∷ []) ts p)
+  route (free o k) zero f ws ts p = ending (probed ts (settings ws))
+  route (free o k) (suc l) zero ws ts p = ending (probed ts (settings ws))
+  route (free o k) (suc l) (suc f) ws ts p = stepping p (route (k (unknown (length ws))) l f (ws ++ pairOf job o ∷ []) ts p)
   route (test c a b k) l f ws ts p = elim (solver .decide c a b ws) [
     | some o ↦ route (k o) l f ws ts p
     | none ↦ taking (outcome p) (sided (solver .narrow (holding (outcome p) c) a b ws) (λ us. route (k (outcome p)) l f us (asTest (holding (outcome p) c) a b ∷ ts) (later p)))
@@ -90,9 +91,9 @@ module _ (solver : Solver) (job : Window) where
   route-of stuck l f ws ts p h = of-leaf _ p h
   route-of (step t) zero f ws ts p h = of-leaf _ p h
   route-of (step t) (suc l) f ws ts p h = ap (stepping p) (route-of t l f ws ts p (has-step _ p h)) ∙ of-step _ p
-  route-of (free k) zero f ws ts p h = of-leaf _ p h
-  route-of (free k) (suc l) zero ws ts p h = of-leaf _ p h
-  route-of (free k) (suc l) (suc f) ws ts p h = ap (stepping p) (route-of (k (unknown (length ws))) l f (ws ++ job ∷ []) ts p (has-step _ p h)) ∙ of-step _ p
+  route-of (free o k) zero f ws ts p h = of-leaf _ p h
+  route-of (free o k) (suc l) zero ws ts p h = of-leaf _ p h
+  route-of (free o k) (suc l) (suc f) ws ts p h = ap (stepping p) (route-of (k (unknown (length ws))) l f (ws ++ pairOf job o ∷ []) ts p (has-step _ p h)) ∙ of-step _ p
   route-of (test c a b k) l f ws ts p h =
       of-test (solver .decide c a b ws) p (λ o. route solver job (k o) l f ws ts p) (λ o. paths solver job (within l f (k o)) ws ts)
       (λ o q. sided (solver .narrow (holding o c) a b ws) (λ us. route solver job (k o) l f us (asTest (holding o c) a b ∷ ts) q))

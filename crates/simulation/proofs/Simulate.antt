@@ -1,20 +1,23 @@
 -- The machine on a program's code does what the program does, up to any number of steps that the turns of its whiles suffice for.
 use Prim.Native.Nat.{ℕ, zero, suc, _-_, _≤_, _<_}
-use mathlib.Core.Path.{_≡_, refl, sym, ap, _∙_, subst}
-use mathlib.Core.Bool.{Bool, true, false}
+use mathlib.Core.Path.{_≡_, refl, sym, ap, ap₂, _∙_, subst}
+use mathlib.Core.Bool.{Bool, true, false, cond}
 use mathlib.Core.Option.{Option, none, some}
 use mathlib.Core.List.{List, [], _∷_, _++_, append-nil}
 use native.Mathlib.Omega.{arith}
 use native.Mathlib.Nat.{lt-of-lt-of-le, le-of-lt, le-trans, le-of-suc-le-suc}
 use lib.ListN.{getD}
 use lib.IntN.{ℤ, pos}
+use lib.Dec.{T}
+use lib.Signed.{leZ}
 use Rattle.semantics.specs.Int.{Op, Cmp}
 use Rattle.semantics.specs.Program
 use Rattle.semantics.specs.Does
-use Rattle.semantics.specs.Program.{Expr, Exprs, Cond, Stmt, Stmts, Program}
+use Rattle.semantics.specs.Program.{Window, Expr, Exprs, Cond, Stmt, Stmts, Program}
 use Rattle.semantics.specs.Does.{Does, Frame, fetch, store, expr, exprs, loop, stmt, stmts, enter, does}
-use Rattle.simulation.specs.Code.{Act, Entry, argument, act, Code, count}
-use Rattle.simulation.specs.Machine.{Caller, Machine, Doing, machine, entryAt, reading, taken, two, gather, entering, leaving, working, advance, start}
+use Rattle.semantics.specs.Search.{to, maxZ}
+use Rattle.simulation.specs.Code.{number, Act, Entry, leaf, argument, act, Code, count}
+use Rattle.simulation.specs.Machine.{Caller, Machine, Doing, machine, entryAt, leafNumber, ownPair, reading, taken, two, gather, entering, leaving, working, advance, start}
 use Rattle.simulation.specs.Placed.{InE, InEs, InC, InS, InSs, InB, Placed}
 use Rattle.simulation.proofs.Agrees.{Has, nothing, same, Agrees, agrees-frame, agrees-fetch, agrees-store, agrees-declare}
 
@@ -27,7 +30,7 @@ module _ {X : Type 0} (num : ℤ → X) (work : Op → X → X → X) (c : Code)
     pub data Makes : ℕ → Doing X → Does X → Type 0 where
       silent : {n : ℕ} {m : Machine X} {t : Does X} → Runs n m t → Makes n (Doing.silent m) t
       step : {n : ℕ} {m : Machine X} {t : Does X} → ((k : ℕ) → k < n → Runs k m t) → Makes n (Doing.step m) (Does.step t)
-      free : {n : ℕ} {j : X → Machine X} {k : X → Does X} → ((i : ℕ) → i < n → (v : X) → Runs i (j v) (k v)) → Makes n (Doing.free j) (Does.free k)
+      free : {n : ℕ} {x : Option Window} {j : X → Machine X} {k : X → Does X} → ((i : ℕ) → i < n → (v : X) → Runs i (j v) (k v)) → Makes n (Doing.free x j) (Does.free x k)
       test : {n : ℕ} {o : Cmp} {a b : X} {j : Bool → Machine X} {k : Bool → Does X} → ((i : ℕ) → i < n → (r : Bool) → Runs i (j r) (k r)) → Makes n (Doing.test o a b j) (Does.step (Does.test o a b k))
       returned : {n : ℕ} {v : X} → Makes n (Doing.returned v) (Does.returned v)
       failed : {n : ℕ} → Makes n Doing.failed Does.failed
@@ -60,6 +63,24 @@ module _ {X : Type 0} (num : ℤ → X) (work : Op → X → X → X) (c : Code)
   reads : {n : ℕ} {m : Machine X} {o : Option X} {x : X} (k : X → Does X) → Has o x → Runs n m (k x) → Runs n m (elim o as (λ o. Does X) [ none ↦ Does.stuck | some v ↦ k v ])
   reads k nothing r = runs stuck
   reads k same r = r
+
+  -- the own pair of a declaration, from the two entries before it
+  own-pair : (w : Window) (i : ℕ) → entryAt c i ≡ leaf (number (w .low)) → entryAt c (suc i) ≡ leaf (number (w .high)) → T (leZ (w .low) (w .high)) → ownPair c (suc (suc i)) ≡ w
+  unfolding maxZ
+  own-pair w i e₁ e₂ t =
+      ap₂ (λ p q. to (leafNumber (entryAt c p)) (cond (leZ (leafNumber (entryAt c p)) (leafNumber (entryAt c q))) (leafNumber (entryAt c q)) (leafNumber (entryAt c p)))) (low i) (high i)
+      ∙ ap₂ (λ x y. to (leafNumber x) (cond (leZ (leafNumber x) (leafNumber y)) (leafNumber y) (leafNumber x))) e₁ e₂
+      ∙ ap (λ b. to (w .low) (cond b (w .high) (w .low))) (true-of (leZ (w .low) (w .high)) t)
+    where
+      low : (i : ℕ) → suc (suc i) - 2 ≡ i
+      low i = omega arith
+
+      high : (i : ℕ) → suc (suc i) - 1 ≡ suc i
+      high i = omega arith
+
+      true-of : (b : Bool) → T b → b ≡ true
+      true-of true t = refl
+      true-of false t = absurd t
 
   -- ---- operands
 
@@ -170,6 +191,10 @@ module _ {X : Type 0} (num : ℤ → X) (work : Op → X → X → X) (c : Code)
       stmt-runs (InS.empty e) n l b ts u cs k r h g = by _ e (steps (h _ _ u ts b))
       stmt-runs (InS.declare {a} e) n l b ts u cs k r h g = by _ e (steps (h _ _ (agrees-declare a u) ts b))
       stmt-runs (InS.unknown {a} e) n l b ts u cs k r h g = by _ e (free (λ i m v. fewer (h _ _ (agrees-store a v u) ts b) i (le-of-lt m)))
+      stmt-runs (InS.own {a} {w} {i = j} e₁ e₂ e₃ q) n l b ts {F} {f} u cs k r h g =
+          by _ e₁ (silent (by _ e₂ (silent (by _ e₃
+          (subst (λ x. Makes n (Doing.free (some x) (λ v. machine (suc (suc (suc j))) b ts (store f a v) cs d)) (Does.free (some w) (λ v. k (store F a (some v))))) (sym (own-pair w j e₁ e₂ q))
+          (free (λ i m v. fewer (h _ _ (agrees-store a v u) ts b) i (le-of-lt m))))))))
       stmt-runs (InS.assign {a} {n = j} e x e₂) n l b ts {F} {f} u cs k r h g =
           by _ e (steps (expr-runs x n l b ts u cs _ λ v ts₁ b p. by _ e₂
           (subst (λ t. Makes n (Doing.silent (machine (suc j) b (t .rest) (store f a (t .value)) cs d)) (k (store F a (some v)))) (sym (p .takes)) (silent (h _ _ (agrees-store a v u) ts b)))))

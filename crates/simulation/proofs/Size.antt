@@ -1,6 +1,7 @@
 -- How long a program's code is: no longer than the text it comes from has tokens, and three entries.
 use Prim.Native.Nat.{ℕ, suc, _+_, _*_, _≤_}
 use mathlib.Core.Bool.{Bool}
+use mathlib.Core.Option.{none, some}
 use mathlib.Core.List.{List, [], _∷_, _++_}
 use native.Mathlib.Omega.{arith}
 use native.Mathlib.Nat.{le-refl}
@@ -33,7 +34,9 @@ unfoldable mutual
   pub tokensS : Stmt → ℕ
   tokensS Stmt.empty = 1
   tokensS (Stmt.declare a) = 3
-  tokensS (Stmt.unknown a) = 4
+  tokensS (Stmt.unknown a none) = 4
+  -- and two ends with `..` between
+  tokensS (Stmt.unknown a (some w)) = 7
   tokensS (Stmt.assign a e) = 3 + tokensE e
   tokensS (Stmt.eval e) = 1 + tokensE e
   tokensS (Stmt.block ss) = 2 + tokensSs ss
@@ -79,7 +82,8 @@ mutual
   s-size : (s : Stmt) → length (codeS s) ≤ tokensS s
   s-size Stmt.empty = le-refl _
   s-size (Stmt.declare a) = omega arith
-  s-size (Stmt.unknown a) = omega arith
+  s-size (Stmt.unknown a none) = omega arith
+  s-size (Stmt.unknown a (some w)) = omega arith
   s-size (Stmt.assign a e) = omega (arith, e-size e, length-append (codeE e) (act (store a) ∷ []))
   s-size (Stmt.eval e) = omega (arith, e-size e)
   s-size (Stmt.block ss) = omega (arith, ss-size ss)

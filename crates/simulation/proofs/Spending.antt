@@ -5,7 +5,8 @@ use mathlib.Core.Option.{Option, none, some}
 use mathlib.Core.List.{List, [], _∷_}
 use native.Mathlib.Nat.{le-refl, le-trans, le-of-lt, lt-of-lt-of-le}
 use lib.IntN.{ℤ}
-use Rattle.semantics.specs.Run.{Window, Row}
+use Rattle.semantics.specs.Program.{Window}
+use Rattle.semantics.specs.Run.{Row}
 use Rattle.semantics.specs.Search.{Value, under, Solver, Test, meets, settings}
 use Rattle.simulation.specs.Code.{Code}
 use Rattle.simulation.specs.Machine.{Machine}

@@ -2,19 +2,21 @@
 use Prim.Native.Nat.{ℕ, zero, suc, _+_, _*_, _<_, _≤_}
 use mathlib.Core.Path.{_≡_, refl, sym, ap, ap₂, _∙_, subst}
 use mathlib.Core.Bool.{true, false}
+use mathlib.Core.Option.{Option, none, some}
 use mathlib.Core.List.{List, [], _∷_, _++_, append-assoc}
 use native.Mathlib.Omega.{arith}
 use native.Mathlib.Nat.{le-of-suc-le-suc}
 use lib.ListN.{length, getD, take, drop, length-append}
 use lib.Seq.{getD-at, take-append-seam, drop-append-seam}
 use Rattle.semantics.specs.Int.{add, sub, mul, lt, le, gt, ge, eq, ne}
-use Rattle.semantics.specs.Program.{slot, Expr, Exprs, Cond, Stmt, Stmts, Program}
+use Rattle.semantics.specs.Program.{Window, slot, Expr, Exprs, Cond, Stmt, Stmts, Program}
 use Rattle.semantics.specs.Does.{frame}
 use Rattle.semantics.proofs.Frames.{length-frame}
-use Rattle.simulation.specs.Code.{number, name, operate, compare, call, constant, jump, skip, again, begin, ask, store, return, fail, Entry, leaf, argument, act, Code, codeE, codeEs, codeC, codeS, codeSs, codeB, entriesOf, startsOf, codeOf}
-use Rattle.simulation.specs.Words.{entryOf, entriesIn, codeIn, kindOf, wordOf, wordsOf, wordsIn, Plain, FitsE, FitsEs, FitsC, FitsS, FitsSs, FitsBs, Fits}
+use Rattle.simulation.specs.Code.{number, name, operate, compare, call, constant, jump, skip, again, begin, ask, own, store, return, fail, Entry, leaf, argument, act, Code, codeE, codeEs, codeC, codeS, codeSs, codeB, entriesOf, startsOf, codeOf}
+use Rattle.simulation.specs.Words.{entryOf, entriesIn, codeIn, kindOf, wordOf, wordsOf, wordsIn, Plain, FitsE, FitsEs, FitsC, FitsW, FitsS, FitsSs, FitsBs, Fits}
 use Rattle.simulation.specs.Placed.{Placed, InB}
-use Rattle.simulation.proofs.Placed.{placed}
+use Rattle.semantics.proofs.Own.{Given, PairsS, PairsSs, Pairs}
+use Rattle.simulation.proofs.Placed.{Upward, placed}
 
 pub length-entries : (ws : List ℕ) (i n : ℕ) → length (entriesIn ws i n) ≡ n
 unfolding entriesIn
@@ -52,6 +54,7 @@ read-back (act (skip d)) h = refl
 read-back (act (again d)) h = refl
 read-back (act begin) h = refl
 read-back (act (ask (slot i))) h = ap (λ k. act (ask (slot k))) (omega arith)
+read-back (act (own (slot i))) h = ap (λ k. act (own (slot k))) (omega arith)
 read-back (act (store (slot i))) h = ap (λ k. act (store (slot k))) (omega arith)
 read-back (act return) h = refl
 read-back (act fail) h = refl
@@ -109,7 +112,8 @@ mutual
   plain-s : (s : Stmt) → FitsS s → AllPlain (codeS s)
   plain-s Stmt.empty h = (tt, tt)
   plain-s (Stmt.declare a) h = (tt, tt)
-  plain-s (Stmt.unknown a) h = (h, tt)
+  plain-s (Stmt.unknown a none) h = (h .0, tt)
+  plain-s (Stmt.unknown a (some w)) h = (h .1 .0, (h .1 .1, (h .0, tt)))
   plain-s (Stmt.assign a e) h = (tt, plain-append (codeE e) _ (plain-e e (h .1)) (h .0, tt))
   plain-s (Stmt.eval e) h = (tt, plain-e e h)
   plain-s (Stmt.block ss) h = (tt, plain-ss ss h)
@@ -171,14 +175,43 @@ few-starts : (p : Program) → length (p .bodies) < 17 → length (codeOf p .sta
 unfolding codeOf
 few-starts p h = omega (arith, length-starts 3 (p .bodies))
 
-filled : (p : Program) → length (p .bodies) < 17 → Placed (record { entries = codeOf p .entries; starts = frame 2 16 (codeOf p .starts) }) p
+-- the own pairs of a program that fits go upward
+upward-o : (o : Option Window) → FitsW o → Given Upward o
+upward-o none h = tt
+upward-o (some w) h = h .2
+
+mutual
+  unfolding PairsS
+
+  upward-s : (s : Stmt) → FitsS s → PairsS Upward s
+  upward-s Stmt.empty h = tt
+  upward-s (Stmt.declare a) h = tt
+  upward-s (Stmt.unknown a o) h = upward-o o (h .1)
+  upward-s (Stmt.assign a e) h = tt
+  upward-s (Stmt.eval e) h = tt
+  upward-s (Stmt.block ss) h = upward-ss ss h
+  upward-s (Stmt.if c s t) h = (upward-s s (h .1), upward-s t (h .2))
+  upward-s (Stmt.while c s) h = upward-s s (h .1)
+  upward-s (Stmt.return e) h = tt
+  upward-s Stmt.fail h = tt
+
+  upward-ss : (ss : Stmts) → FitsSs ss → PairsSs Upward ss
+  upward-ss Stmts.end h = tt
+  upward-ss (Stmts.next s ss) h = (upward-s s (h .0), upward-ss ss (h .1))
+
+upward-bs : (bs : List Stmts) → FitsBs bs → (g : ℕ) → PairsSs Upward (getD bs g Stmts.end)
+upward-bs [] h g = upward-ss Stmts.end tt
+upward-bs (b ∷ bs) h zero = upward-ss b (h .0)
+upward-bs (b ∷ bs) h (suc g) = upward-bs bs (h .1) g
+
+filled : (p : Program) → Pairs Upward p → length (p .bodies) < 17 → Placed (record { entries = codeOf p .entries; starts = frame 2 16 (codeOf p .starts) }) p
 unfolding codeOf
-filled p h = record {
+filled p o h = record {
   first = refl;
   second = refl;
-  bodies = λ g. subst (InB (codeOf p .entries) (getD (p .bodies) g Stmts.end)) (sym (frame-getD 2 16 (codeOf p .starts) (few-starts p h) g)) (placed p .bodies g);
+  bodies = λ g. subst (InB (codeOf p .entries) (getD (p .bodies) g Stmts.end)) (sym (frame-getD 2 16 (codeOf p .starts) (few-starts p h) g)) (placed p o .bodies g);
 }
 
 -- a program that fits is placed in the words of its code, whatever follows them
 pub placed-words : (p : Program) → Fits p → (rest : List ℕ) → Placed (codeIn (wordsIn (codeOf p) ++ rest) (length (codeOf p .entries))) p
-placed-words p h rest = subst (λ c. Placed c p) (sym (code-back (codeOf p) (plain-code p h) rest)) (filled p (h .functions))
+placed-words p h rest = subst (λ c. Placed c p) (sym (code-back (codeOf p) (plain-code p h) rest)) (filled p (upward-bs (p .bodies) (h .bodies)) (h .functions))

@@ -5,7 +5,7 @@ use mathlib.Core.Bool.{Bool, false}
 use mathlib.Core.Option.{none, some}
 use mathlib.Core.List.{List, [], _∷_, _++_, map}
 use Rattle.semantics.specs.Int.{Cmp}
-use Rattle.semantics.specs.Run.{Window}
+use Rattle.semantics.specs.Program.{Window}
 use Rattle.semantics.specs.Search.{Value, known, work, Solver, Test}
 use Rattle.simulation.specs.Code.{Code}
 use Rattle.simulation.specs.Machine.{Machine, Doing, advance, start}
@@ -18,6 +18,8 @@ pub record Standing : Type 0 where
   -- the variables of the function that runs, of its caller, of that one's caller, and so on
   pub variables : List (List Value)
   pub windows : List Window
+  -- "The path's record keeps the pair that each variable started with."
+  pub starts : List Window
   pub tests : List Test
   -- and all else that a run goes on with: the whole machine, the steps and free declarations left, and the outcomes of the choices so far
   pub machine : Machine Value
@@ -29,6 +31,7 @@ abbrev pub standing : Machine Value → State → Standing
 standing m s = record {
   variables = m .frame ∷ map (λ r. r .frame) (m .callers);
   windows = s .windows;
+  starts = s .starts;
   tests = s .tests;
   machine = m;
   steps = s .steps;

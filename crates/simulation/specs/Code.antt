@@ -1,6 +1,7 @@
 -- Programs as flat code: one list of entries in the order of the text. An expression stands in postfix order and control entries stand in place, with jumps by distance, so that a part's code does not depend on where it stands.
 use Prim.Native.Nat.{ℕ, suc, _+_}
 use mathlib.Core.Bool.{Bool, true, false}
+use mathlib.Core.Option.{none, some}
 use mathlib.Core.List.{List, [], _∷_, _++_}
 use lib.ListN.{length}
 use lib.IntN.{ℤ}
@@ -31,6 +32,8 @@ pub data Act : Type 0 where
   begin : Act
   -- a variable declared free: begun, and set to a new unknown
   ask : Address → Act
+  -- the same with its own pair: the numbers at the two entries before this one, low and high
+  own : Address → Act
   -- the operand that ends just before this entry goes into a variable
   store : Address → Act
   -- the operand that ends just before this entry is returned
@@ -77,7 +80,8 @@ unfoldable mutual
   pub codeS : Stmt → List Entry
   codeS Stmt.empty = act begin ∷ []
   codeS (Stmt.declare a) = act begin ∷ []
-  codeS (Stmt.unknown a) = act (ask a) ∷ []
+  codeS (Stmt.unknown a none) = act (ask a) ∷ []
+  codeS (Stmt.unknown a (some w)) = leaf (number (w .low)) ∷ leaf (number (w .high)) ∷ act (own a) ∷ []
   codeS (Stmt.assign a e) = act begin ∷ (codeE e ++ act (store a) ∷ [])
   codeS (Stmt.eval e) = act begin ∷ codeE e
   codeS (Stmt.block ss) = act begin ∷ codeSs ss

@@ -4,7 +4,8 @@ use mathlib.Core.Bool.{Bool, true, false}
 use mathlib.Core.Option.{Option, none, some}
 use mathlib.Core.List.{List, [], _∷_, _++_}
 use lib.IntN.{ℤ}
-use Rattle.semantics.specs.Run.{Window, Row}
+use Rattle.semantics.specs.Program.{Window}
+use Rattle.semantics.specs.Run.{Row}
 use Rattle.semantics.specs.Search.{Value, known, work, under, Solver, Test, meets, settings, Close, whole, cuts, full, spent, Answer}
 use Rattle.simulation.specs.Code.{Code}
 use Rattle.simulation.specs.Machine.{Machine, start}

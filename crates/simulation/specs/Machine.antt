@@ -2,11 +2,14 @@
 -- Only the results of operations and calls are kept among the temporaries, so that there are at most as many as steps were made.
 use Prim.Native.Nat.{ℕ, zero, suc, _+_, _-_}
 use mathlib.Core.Bool.{Bool, true, false}
+use mathlib.Core.Option.{Option, none, some}
 use mathlib.Core.List.{List, [], _∷_}
 use lib.ListN.{getD}
 use lib.IntN.{ℤ, pos}
 use Rattle.semantics.specs.Int.{Op, Cmp}
+use Rattle.semantics.specs.Program.{Window}
 use Rattle.semantics.specs.Does.{fetch, store, frame}
+use Rattle.semantics.specs.Search.{to, maxZ}
 use Rattle.simulation.specs.Code.{number, name, Act, Entry, leaf, argument, act, Code}
 
 -- a call that waits: where it goes on, with its temporaries and its variables
@@ -30,10 +33,10 @@ pub record Machine (X : Type 0) : Type 0 where
   -- how many calls may still nest
   pub left : ℕ
 
--- What working one entry does: the machine goes on without a step, or after one; it asks for the value of a free declaration (a step); it asks for the outcome of a comparison (a step, then the comparison); or the run has ended.
+-- What working one entry does: the machine goes on without a step, or after one; it asks for the value of a free declaration, with its own pair if it has one (a step); it asks for the outcome of a comparison (a step, then the comparison); or the run has ended.
 pub data Doing (X : Type 0) : Type 0 where
   silent step : Machine X → Doing X
-  free : (X → Machine X) → Doing X
+  free : Option Window → (X → Machine X) → Doing X
   test : Cmp → X → X → (Bool → Machine X) → Doing X
   returned : X → Doing X
   failed cut : Doing X
@@ -79,6 +82,17 @@ landing false false d i = i + d
 -- the entry at i; beside the code the run fails
 abbrev pub entryAt : Code → ℕ → Entry
 entryAt c i = getD (c .entries) i (act Act.fail)
+
+-- the number that stands at an entry; 0 where none does
+abbrev pub leafNumber : Entry → ℤ
+leafNumber (leaf (number z)) = z
+leafNumber (leaf (name a)) = pos 0
+leafNumber (argument d) = pos 0
+leafNumber (act a) = pos 0
+
+-- the pair of the declaration at i that has its own, from the two entries before it; one the wrong way round has its low end alone
+abbrev pub ownPair : Code → ℕ → Window
+ownPair c i = to (leafNumber (entryAt c (i - 2))) (maxZ (leafNumber (entryAt c (i - 2))) (leafNumber (entryAt c (i - 1))))
 
 module _ {X : Type 0} (num : ℤ → X) (work : Op → X → X → X) (c : Code) where
   -- the newest temporary
@@ -127,7 +141,8 @@ module _ {X : Type 0} (num : ℤ → X) (work : Op → X → X → X) (c : Code)
     acting (Act.skip n) = Doing.silent (machine (suc i + n) b ts f cs d)
     acting (Act.again n) = Doing.step (machine (i - n) b ts f cs d)
     acting Act.begin = Doing.step (machine (suc i) b ts f cs d)
-    acting (Act.ask a) = Doing.free (λ v. machine (suc i) b ts (store f a v) cs d)
+    acting (Act.ask a) = Doing.free none (λ v. machine (suc i) b ts (store f a v) cs d)
+    acting (Act.own a) = Doing.free (some (ownPair c i)) (λ v. machine (suc i) b ts (store f a v) cs d)
     acting (Act.store a) = let t = taken f ts i in Doing.silent (machine (suc i) b (t .rest) (store f a (t .value)) cs d)
     acting Act.return = leaving cs (taken f ts i .value) b d
     acting Act.fail = Doing.failed

@@ -5,7 +5,7 @@ use mathlib.Core.List.{List, [], _∷_, _++_}
 use lib.ListN.{getD, length}
 use lib.IntN.{ℤ, pos}
 use Rattle.semantics.specs.Int.{Op, Cmp, arith, holds}
-use Rattle.semantics.specs.Run.{Window}
+use Rattle.semantics.specs.Program.{Window}
 use Rattle.semantics.specs.Search as search
 use Rattle.semantics.specs.Search.{Value, known, open′, Test, asTest, to, all32, span, fitted}
 

@@ -4,7 +4,7 @@ use mathlib.Core.Option.{Option, none, some}
 use mathlib.Core.List.{List, [], _∷_}
 use lib.IntN.{ℤ, sucℤ}
 use lib.Signed.{ltZ, leZ}
-use Rattle.semantics.specs.Run.{Window}
+use Rattle.semantics.specs.Program.{Window}
 
 -- every window has a number; otherwise there is no setting
 unfoldable pub filled : List Window → Bool

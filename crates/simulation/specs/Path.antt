@@ -6,7 +6,8 @@ use mathlib.Core.Option.{Option, none, some}
 use mathlib.Core.List.{List, [], _∷_, _++_}
 use lib.ListN.{length}
 use Rattle.semantics.specs.Int.{Cmp}
-use Rattle.semantics.specs.Run.{Window}
+use Rattle.semantics.specs.Program.{Window}
+use Rattle.semantics.specs.Run.{pairOf}
 use Rattle.semantics.specs.Search.{Value, known, unknown, work, negated, Solver, Test, asTest}
 use Rattle.simulation.specs.Code.{Code}
 use Rattle.simulation.specs.Machine.{Machine, Doing, advance}
@@ -18,6 +19,8 @@ pub record State : Type 0 where
   pub frees : ℕ
   -- a window for each free declaration that was reached
   pub windows : List Window
+  -- the pair that each of them started with
+  pub starts : List Window
   -- the tests made, the newest first
   pub tests : List Test
   -- the forced outcomes that are still to come
@@ -25,12 +28,12 @@ pub record State : Type 0 where
   -- the outcomes of all choices so far, the oldest first
   pub chosen : List Bool
 
-abbrev pub state : ℕ → ℕ → List Window → List Test → List Bool → List Bool → State
-state l f ws ts p h = record { steps = l; frees = f; windows = ws; tests = ts; forced = p; chosen = h }
+abbrev pub state : ℕ → ℕ → List Window → List Window → List Test → List Bool → List Bool → State
+state l f ws ps ts p h = record { steps = l; frees = f; windows = ws; starts = ps; tests = ts; forced = p; chosen = h }
 
 -- where a path starts, for runs of at most `most` steps
 abbrev pub begins : ℕ → List Bool → State
-begins most forced = state most 8 [] [] forced []
+begins most forced = state most 8 [] [] [] forced []
 
 -- a choice takes the next forced outcome, and where none is left, true
 abbrev pub outcome : List Bool → Bool
@@ -75,15 +78,15 @@ counted s w = record { move = fresh (s .forced); went = w }
 
 -- the state with one step less
 abbrev pub stepped : ℕ → State → State
-stepped l s = state l (s .frees) (s .windows) (s .tests) (s .forced) (s .chosen)
+stepped l s = state l (s .frees) (s .windows) (s .starts) (s .tests) (s .forced) (s .chosen)
 
--- a free declaration reached: its window is the job's
+-- a free declaration reached: its window is its pair, which is noted
 abbrev pub reached : Window → ℕ → ℕ → State → State
-reached job l f s = state l f (s .windows ++ job ∷ []) (s .tests) (s .forced) (s .chosen)
+reached w l f s = state l f (s .windows ++ w ∷ []) (s .starts ++ w ∷ []) (s .tests) (s .forced) (s .chosen)
 
 -- a choice made with the outcome o, after which the windows are ws: the test is noted
 abbrev pub chose : Cmp → Value → Value → Bool → List Window → State → State
-chose c a b o ws s = state (s .steps) (s .frees) ws (asTest (holding o c) a b ∷ s .tests) (later (s .forced)) (s .chosen ++ o ∷ [])
+chose c a b o ws s = state (s .steps) (s .frees) ws (s .starts) (asTest (holding o c) a b ∷ s .tests) (later (s .forced)) (s .chosen ++ o ∷ [])
 
 -- a choice that goes to the side o, where the windows narrow to these; a side that the solver closes goes on as after a `fail`
 abbrev pub siding : Cmp → Value → Value → Machine Value → State → Bool → Option (List Window) → Went
@@ -102,9 +105,9 @@ module _ (solver : Solver) (job : Window) where
   unfoldable pub turning : Doing Value → State → Turn
   turning (Doing.silent m) s = still (on m s)
   turning (Doing.step m) s = elim (s .steps) [ zero ↦ still (ended cut s) | suc l ↦ counted s (on m (stepped l s)) ]
-  turning (Doing.free k) s = elim (s .steps) [
+  turning (Doing.free o k) s = elim (s .steps) [
     | zero ↦ still (ended cut s)
-    | suc l ↦ elim (s .frees) [ zero ↦ still (ended cut s) | suc f ↦ counted s (on (k (unknown (length (s .windows)))) (reached job l f s)) ]
+    | suc l ↦ elim (s .frees) [ zero ↦ still (ended cut s) | suc f ↦ counted s (on (k (unknown (length (s .windows)))) (reached (pairOf job o) l f s)) ]
   ]
   turning (Doing.test c a b k) s = elim (s .steps) [ zero ↦ still (ended cut s) | suc l ↦ counted s (comparing c a b k (stepped l s)) ]
   turning (Doing.returned v) s = still (ended (returned v) s)

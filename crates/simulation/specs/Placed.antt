@@ -2,11 +2,14 @@
 use Prim.Native.Nat.{ℕ, suc, _+_, _-_}
 use mathlib.Core.Path.{_≡_}
 use mathlib.Core.Bool.{Bool, true, false}
+use mathlib.Core.Option.{Option, some}
 use mathlib.Core.List.{List}
 use lib.ListN.{getD}
 use lib.IntN.{ℤ}
+use lib.Dec.{T}
+use lib.Signed.{leZ}
 use Rattle.semantics.specs.Int.{Op, Cmp}
-use Rattle.semantics.specs.Program.{Address, Expr, Exprs, Cond, Stmt, Stmts, Program}
+use Rattle.semantics.specs.Program.{Window, Address, Expr, Exprs, Cond, Stmt, Stmts, Program}
 use Rattle.simulation.specs.Code.{Leaf, Act, Entry, leaf, argument, act, Code, count}
 
 abbrev pub at : List Entry → ℕ → Entry
@@ -34,7 +37,9 @@ module _ (l : List Entry) where
     pub data InS : Stmt → ℕ → ℕ → Type 0 where
       empty : {i : ℕ} → at l i ≡ act Act.begin → InS Stmt.empty i (suc i)
       declare : {a : Address} {i : ℕ} → at l i ≡ act Act.begin → InS (Stmt.declare a) i (suc i)
-      unknown : {a : Address} {i : ℕ} → at l i ≡ act (Act.ask a) → InS (Stmt.unknown a) i (suc i)
+      unknown : {a : Address} {i : ℕ} → at l i ≡ act (Act.ask a) → InS (Stmt.unknown a Option.none) i (suc i)
+      own : {a : Address} {w : Window} {i : ℕ} → at l i ≡ leaf (Leaf.number (w .low)) → at l (suc i) ≡ leaf (Leaf.number (w .high)) → at l (suc (suc i)) ≡ act (Act.own a) → T (leZ (w .low) (w .high))
+          → InS (Stmt.unknown a (some w)) i (suc (suc (suc i)))
       assign : {a : Address} {e : Expr} {i n : ℕ} → at l i ≡ act Act.begin → InE e (suc i) n → at l n ≡ act (Act.store a) → InS (Stmt.assign a e) i (suc n)
       eval : {e : Expr} {i n : ℕ} → at l i ≡ act Act.begin → InE e (suc i) n → InS (Stmt.eval e) i n
       block : {ss : Stmts} {i n : ℕ} → at l i ≡ act Act.begin → InSs ss (suc i) n → InS (Stmt.block ss) i n

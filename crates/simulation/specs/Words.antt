@@ -2,14 +2,17 @@
 use Prim.Native.Nat.{ℕ, zero, suc, _+_, _*_, _/_, _%_, _<_}
 use mathlib.Core.Path.{_≡_}
 use mathlib.Core.Bool.{true, false}
+use mathlib.Core.Option.{Option, none, some}
 use mathlib.Core.List.{List, [], _∷_, _++_}
 use lib.ListN.{length, getD, take, drop}
+use lib.Dec.{T}
+use lib.Signed.{leZ}
 use mir.Syntax.{w32}
 use mir.Val.{toZ}
 use Rattle.semantics.specs.Int.{add, sub, mul, lt, le, gt, ge, eq, ne, low32}
-use Rattle.semantics.specs.Program.{Address, slot, Expr, Exprs, Cond, Stmt, Stmts, Program}
+use Rattle.semantics.specs.Program.{Window, Address, slot, Expr, Exprs, Cond, Stmt, Stmts, Program}
 use Rattle.semantics.specs.Does.{frame}
-use Rattle.simulation.specs.Code.{number, name, operate, compare, call, constant, jump, skip, again, begin, ask, store, return, fail, Entry, leaf, argument, act, Code}
+use Rattle.simulation.specs.Code.{number, name, operate, compare, call, constant, jump, skip, again, begin, ask, own, store, return, fail, Entry, leaf, argument, act, Code}
 
 -- ---- the kinds of entries; a comparison has the kind `cCompare` and its number, 0 to 5
 
@@ -70,6 +73,9 @@ cStore = 22
 abbrev pub cReturn : ℕ
 cReturn = 23
 
+abbrev pub cOwn : ℕ
+cOwn = 24
+
 -- the words of an entry: its kind, then its number
 abbrev pub entryWords : ℕ
 entryWords = 2
@@ -87,7 +93,7 @@ kinds w = act fail
     ∷ act (compare lt w) ∷ act (compare le w) ∷ act (compare gt w) ∷ act (compare ge w) ∷ act (compare eq w) ∷ act (compare ne w)
     ∷ act (call (w % 16) (w / 16))
     ∷ act (constant false) ∷ act (constant true) ∷ act (jump false w) ∷ act (jump true w) ∷ act (skip w) ∷ act (again w)
-    ∷ act begin ∷ act (ask (slot (w % 16))) ∷ act (store (slot (w % 16))) ∷ act return ∷ []
+    ∷ act begin ∷ act (ask (slot (w % 16))) ∷ act (store (slot (w % 16))) ∷ act return ∷ act (own (slot (w % 16))) ∷ []
 
 -- a kind that is none of these fails
 unfoldable pub entryOf : ℕ → ℕ → Entry
@@ -127,6 +133,7 @@ kindOf (act (skip d)) = cSkip
 kindOf (act (again d)) = cAgain
 kindOf (act begin) = cBegin
 kindOf (act (ask a)) = cAsk
+kindOf (act (own a)) = cOwn
 kindOf (act (store a)) = cStore
 kindOf (act return) = cReturn
 kindOf (act fail) = cFail
@@ -148,6 +155,7 @@ wordOf (act (skip d)) = d
 wordOf (act (again d)) = d
 wordOf (act begin) = 0
 wordOf (act (ask a)) = placeOf a
+wordOf (act (own a)) = placeOf a
 wordOf (act (store a)) = placeOf a
 wordOf (act return) = 0
 wordOf (act fail) = 0
@@ -176,6 +184,7 @@ Plain (act (skip d)) = Unit {0}
 Plain (act (again d)) = Unit {0}
 Plain (act begin) = Unit {0}
 Plain (act (ask a)) = placeOf a < 16
+Plain (act (own a)) = placeOf a < 16
 Plain (act (store a)) = placeOf a < 16
 Plain (act return) = Unit {0}
 Plain (act fail) = Unit {0}
@@ -201,11 +210,16 @@ FitsC (Cond.compare c a b) = FitsE a × FitsE b
 FitsC (Cond.and a b) = FitsC a × FitsC b
 FitsC (Cond.or a b) = FitsC a × FitsC b
 
+-- each end of an own pair has 32 bits, and the low end is not above the high end
+abbrev pub FitsW : Option Window → Type 0
+FitsW none = Unit {0}
+FitsW (some w) = (toZ w32 (low32 (w .low)) ≡ w .low) × (toZ w32 (low32 (w .high)) ≡ w .high) × T (leZ (w .low) (w .high))
+
 abbrev mutual
   pub FitsS : Stmt → Type 0
   FitsS Stmt.empty = Unit {0}
   FitsS (Stmt.declare a) = Unit {0}
-  FitsS (Stmt.unknown a) = Small a
+  FitsS (Stmt.unknown a o) = Small a × FitsW o
   FitsS (Stmt.assign a e) = Small a × FitsE e
   FitsS (Stmt.eval e) = FitsE e
   FitsS (Stmt.block ss) = FitsSs ss

@@ -8,6 +8,7 @@ pub mod Slots
 pub mod Resolving
 pub mod Bodies
 pub mod Programs
+pub mod Pairs
 pub mod SameNames
 pub mod Flows
 pub mod Keeping

@@ -1,6 +1,7 @@
 -- The program of a syntax tree, with names resolved: every variable an Address, every call a function's number.
 use Prim.Native.Nat.{ℕ, suc, _+_}
 use mathlib.Core.Bool.{Bool, true, false, cond}
+use mathlib.Core.Option.{Option}
 use mathlib.Core.List.{List, [], _∷_}
 use lib.IntN.{pos, _-ℤ_}
 use Rattle.syntax.specs.Tree.{less, lessEq, greater, greaterEq, equal, unequal}
@@ -54,7 +55,7 @@ module _ (value means : ℕ → ℕ) where
   part (A.either a b) = P.or (part a) (part b)
   part (A.empty i) = P.empty
   part (A.declare i) = P.declare (slot (means (i + 1)))
-  part (A.declareFree i) = P.unknown (slot (means (i + 1)))
+  part (A.declareFree i) = P.unknown (slot (means (i + 1))) Option.none
   part (A.assign i e) = P.assign (slot (means i)) (part e)
   part (A.eval e) = P.eval (part e)
   part (A.block i b) = P.block (part b)

@@ -10,7 +10,7 @@ use lib.IntN.{ℤ, pos}
 use mir.Syntax.{w32}
 use mir.Val.{toZ, ofZ, SFits}
 use mir.Facts.{toZ-ofZ}
-use Rattle.semantics.specs.Run.{Window}
+use Rattle.semantics.specs.Program.{Window}
 use Rattle.semantics.specs.Search.{to}
 use Rattle.intervals.specs.Meaning.{ofPair, ofPairs}
 use Rattle.window_memory.specs.Memory.{pairAt, pairsAt, putPair, putPairs}

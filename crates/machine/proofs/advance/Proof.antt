@@ -2,7 +2,8 @@ use Prim.Native.Nat.{_+_, _*_}
 use mathlib.Core.Path.{refl}
 use native.Mathlib.Omega.{arith}
 use lib.ListN.{getD}
-use Rattle.machine.proofs.Entries.{past-all, goes-run, goes-from, adv-out, adv-fail, adv-big, adv-leaf, adv-op, adv-cmp, adv-cut, adv-call, adv-false, adv-true, adv-jump-false, adv-jump-true, adv-skip, adv-again, adv-begin, adv-ask, adv-store, adv-return, adv-returned}
+use Rattle.intervals.specs.Meaning.{ofWindow}
+use Rattle.machine.proofs.Entries.{past-all, goes-run, goes-from, adv-out, adv-fail, adv-big, adv-leaf, adv-op, adv-cmp, adv-cut, adv-call, adv-false, adv-true, adv-jump-false, adv-jump-true, adv-skip, adv-again, adv-begin, adv-ask, adv-own, adv-store, adv-return, adv-returned}
 use borrow.Author.Needs.{needs}
 use Rattle.machine.proofs.advance.Statement.{statement}
 use Rattle.machine.proofs.advance.Tie as tie
@@ -112,6 +113,12 @@ returns-3 c =
 leave-requires : tie.Need-leave-requires
 leave-requires c κs = search needs
 
+own-pair-requires : tie.Need-own-pair-requires
+own-pair-requires c κs = search needs
+
+ask-requires-2 : tie.Need-ask-requires-2
+ask-requires-2 c κs = search needs
+
 add-moved-4 : tie.Need-add-moved-4
 add-moved-4 c = search needs
 
@@ -132,8 +139,8 @@ operate-requires c κs =
 pair-requires : tie.Need-pair-requires
 pair-requires c κs = search needs
 
-add-t66 : tie.Need-add-t66
-add-t66 c = search needs
+add-t73 : tie.Need-add-t73
+add-t73 c = search needs
 
 same-length-2 : tie.Need-same-length-2
 same-length-2 c = search needs
@@ -196,9 +203,10 @@ same-length-3 c = search needs
 
 returns-12 : tie.Need-returns-12
 returns-12 c =
-    let a = c .before .before .before .before .before .before .before .before .before .before .before .before .before .args in
+    let s = c .before .before .before .before .before .before .before .before .before .before .before .before .before in
+    let a = s .args in
     adv-ask (a .code .now) (a .size) (a .mem .now) (a .run) (c .before .before .before .before .before .before .before .before .before .if1 .left)
-    (c .before .before .before .before .match .keys9) _ (a .k) _ (c .before .before .ask .ensures)
+    (c .before .before .before .before .match .keys9) (ofWindow (a .job)) (s .pre .5) _ (a .k) _ (c .before .before .ask .ensures)
 
 same-length-4 : tie.Need-same-length-4
 same-length-4 c = search needs
@@ -218,44 +226,54 @@ returns-14 c =
     goes-from (adv-return (a .code .now) (a .size) (a .mem .now) (a .run) (c .before .before .before .before .before .before .before .before .before .before .before .if1 .left)
     (c .before .before .before .before .before .before .match .keys11)) (c .before .before .leave .ensures)
 
+same-length-6 : tie.Need-same-length-6
+same-length-6 c = search needs
+
 returns-15 : tie.Need-returns-15
 returns-15 c =
+    let a = c .before .before .before .before .before .before .before .before .before .before .before .before .before .before .args in
+    let o = c .before .before .before .before .own-pair in
+    adv-own (a .code .now) (a .size) (a .mem .now) (a .run) (c .before .before .before .before .before .before .before .before .before .before .if1 .left)
+    (c .before .before .before .before .before .match .keys12) (ofWindow (a .job)) (ofWindow (o .result)) (o .ensures .0) (o .ensures .1) _ (a .k) _ (c .before .before .ask2 .ensures)
+
+returns-16 : tie.Need-returns-16
+returns-16 c =
     let s = c .before .before .before .before .before .before .before .before .before .before .before .before .before in
     let a = s .args in
     goes-run (c .moved6 .ensures) (adv-leaf (a .code .now) (a .size) (a .mem .now) (a .run) (c .before .before .before .before .before .before .before .before .before .if1 .left)
     (c .before .before .before .if4 .left) (c .before .before .if5 .taken) (s .pre .2))
-
-same-length-6 : tie.Need-same-length-6
-same-length-6 c = search needs
-
-returns-16 : tie.Need-returns-16
-returns-16 c =
-    let a = c .before .before .before .before .before .before .before .before .before .before .before .before .before .before .before .before .args in
-    goes-from (adv-op (a .code .now) (a .size) (a .mem .now) (a .run) (c .before .before .before .before .before .before .before .before .before .before .before .before .if1 .left)
-    (c .before .before .before .before .before .if5 .left) (c .before .before .before .before .if6 .taken)) (c .before .before .operate .ensures)
 
 same-length-7 : tie.Need-same-length-7
 same-length-7 c = search needs
 
 returns-17 : tie.Need-returns-17
 returns-17 c =
+    let a = c .before .before .before .before .before .before .before .before .before .before .before .before .before .before .before .before .args in
+    goes-from (adv-op (a .code .now) (a .size) (a .mem .now) (a .run) (c .before .before .before .before .before .before .before .before .before .before .before .before .if1 .left)
+    (c .before .before .before .before .before .if5 .left) (c .before .before .before .before .if6 .taken)) (c .before .before .operate .ensures)
+
+same-length-8 : tie.Need-same-length-8
+same-length-8 c = search needs
+
+returns-18 : tie.Need-returns-18
+returns-18 c =
     let s = c .before .before .before .before .before .before .before .before .before .before .before .before .before .before .before .before in
     let a = s .args in
     adv-cmp (a .code .now) (a .size) (a .mem .now) (a .run) (c .before .before .before .before .before .before .before .before .before .before .before .before .if1 .left)
     (c .before .before .before .before .if6 .left) (c .before .before .before .if7 .taken) (c .before .pair .result .left) (c .before .pair .result .right) (c .before .pair .result .top)
     (s .pre .2) (c .before .pair .ensures)
 
-returns-18 : tie.Need-returns-18
-returns-18 c =
+returns-19 : tie.Need-returns-19
+returns-19 c =
     let a = c .before .before .before .before .before .before .before .before .before .before .args in
     (adv-fail (a .code .now) (a .size) (a .mem .now) (a .run) (c .before .before .before .before .before .before .if1 .left) (c .if4 .taken), refl)
 
-returns-19 : tie.Need-returns-19
-returns-19 c =
+returns-20 : tie.Need-returns-20
+returns-20 c =
     let a = c .before .before .before .before .before .before .before .before .before .before .before .before .before .args in
     let r = c .before .before .before .before .match .rest in (
       adv-big (a .code .now) (a .size) (a .mem .now) (a .run) (c .before .before .before .before .before .before .before .before .before .if1 .left)
-          (past-all (getD (a .code .now) (2 * a .run .pc) 0) (c .if7 .left) (r .0 .0 .0 .0 .0 .0 .0 .0 .0 .0 .1) (r .0 .0 .0 .0 .0 .0 .0 .0 .0 .1)
+          (past-all (getD (a .code .now) (2 * a .run .pc) 0) (c .if7 .left) (r .0 .0 .0 .0 .0 .0 .0 .0 .0 .0 .0 .1) (r .0 .0 .0 .0 .0 .0 .0 .0 .0 .0 .1) (r .0 .0 .0 .0 .0 .0 .0 .0 .0 .1)
           (r .0 .0 .0 .0 .0 .0 .0 .0 .1) (r .0 .0 .0 .0 .0 .0 .0 .1) (r .0 .0 .0 .0 .0 .0 .1)
           (r .0 .0 .0 .0 .0 .1) (r .0 .0 .0 .0 .1) (r .0 .0 .0 .1) (r .0 .0 .1) (r .0 .1) (r .1)),
       refl,
@@ -295,11 +313,13 @@ advance-spec =
     same-length
     returns-3
     leave-requires
+    own-pair-requires
+    ask-requires-2
     add-moved-4
     moved-requires-6
     operate-requires
     pair-requires
-    add-t66
+    add-t73
     same-length-2
     returns-4
     returns-5
@@ -315,10 +335,12 @@ advance-spec =
     returns-13
     same-length-5
     returns-14
-    returns-15
     same-length-6
+    returns-15
     returns-16
     same-length-7
     returns-17
+    same-length-8
     returns-18
-    returns-19)
+    returns-19
+    returns-20)

@@ -6,7 +6,7 @@ use mir.Syntax.{w32}
 use mir.Val.{SFits}
 use mir.Facts.{toZ-ofZ}
 use borrow.Author.Needs.{needs}
-use Rattle.semantics.specs.Run.{Window}
+use Rattle.semantics.specs.Program.{Window}
 use Rattle.semantics.specs.Search.{mirrored, decided, clipped}
 use Rattle.ints.specs.Numbers.{numberOf, comparison}
 use Rattle.ints.proofs.Chosen.{comparison-number}

@@ -12,12 +12,12 @@ use Rattle.paths.proofs.after_free.Tie as tie
 returns : tie.Need-returns
 returns c =
     let s = c .before .before .before in
-    λ next e. free-cut (s .args .mem .now) (s .args .p) (ofWindow (s .args .job)) next (c .if1 .taken) (s .pre .0)
+    λ job o q next e. free-cut (s .args .mem .now) (s .args .p) job o next (c .if1 .taken) (s .pre .0)
 
 returns-2 : tie.Need-returns-2
 returns-2 c =
     let s = c .before .before .before .before .before in
-    λ next e. ninth-cut (s .args .mem .now) (s .args .p) (ofWindow (s .args .job)) next (c .if2 .taken) (s .pre .0)
+    λ job o q next e. ninth-cut (s .args .mem .now) (s .args .p) job o next (c .if2 .taken) (s .pre .0)
 
 reach-requires : tie.Need-reach-requires
 reach-requires c κs = search needs
@@ -31,7 +31,7 @@ write-range-requires c κs =
     let p = s .args .p in (
       omega (arith, c .before .before .before .before .before .before .before .if2 .left, s .pre .0 .tables .count),
       room-same (c .before .before .before .before .reach .kept .0) (subst (Room (s .args .mem .now)) (s .pre .2) (s .pre .1 .few)),
-      reached-ranging (s .args .mem .now) (c .before .before .before .before .reach .last .0) (ofWindow (s .args .job)) (p .windows) (p .run .nodes) (s .pre .0 .tables)
+      reached-ranging (s .args .mem .now) (c .before .before .before .before .reach .last .0) (ofWindow (s .args .w)) (p .windows) (p .run .nodes) (s .pre .0 .tables)
           (c .before .before .before .before .reach .ensures) (s .pre .4),
     )
 
@@ -48,12 +48,12 @@ same-length c = search needs
 returns-3 : tie.Need-returns-3
 returns-3 c =
     let s = c .before .before .before .before .before .before .before .before .before .before .before .before .before .before .before .before .before in
-    λ next e. free-on (s .args .mem .now) (s .args .p) (c .before .before .before .before .before .before .before .before .before .reach .last .0)
-    (c .before .before .before .before .write-range .last .0) (s .args .run) (ofWindow (s .args .job)) (c .declare .result) (s .pre .0) (s .pre .1) (s .pre .2) (s .pre .3) (s .pre .4)
+    λ job o q next e. free-on (s .args .mem .now) (s .args .p) (c .before .before .before .before .before .before .before .before .before .reach .last .0)
+    (c .before .before .before .before .write-range .last .0) (s .args .run) (ofWindow (s .args .w)) (c .declare .result) (s .pre .0) (s .pre .1) (s .pre .2) (s .pre .3) (s .pre .4)
     (omega (arith, c .before .before .before .before .before .before .before .before .before .before .before .before .before .before .if1 .left))
     (omega (arith, c .before .before .before .before .before .before .before .before .before .before .before .before .if2 .left, s .pre .0 .tables .count))
     (c .before .before .before .before .before .before .before .before .before .reach .kept .0) (c .before .before .before .before .write-range .kept .0)
-    (c .before .before .before .before .before .before .before .before .before .reach .ensures) (c .before .before .before .before .write-range .ensures) (c .declare .ensures) next e
+    (c .before .before .before .before .before .before .before .before .before .reach .ensures) (c .before .before .before .before .write-range .ensures) (c .declare .ensures) job o q next e
 
 pub after-free-spec : {M : Type 1} → statement M
 after-free-spec =

@@ -1,4 +1,4 @@
-use mathlib.Core.Path.{_∙_}
+use mathlib.Core.Path.{sym, _∙_}
 use Rattle.semantics.specs.Search.{known, work}
 use Rattle.simulation.specs.Machine.{Doing, advance}
 use Rattle.simulation.specs.Words.{codeIn}
@@ -34,7 +34,7 @@ after-step-requires c κs =
     let m₁ = c .before .before .before .before .before .before .advance .last .1 .1 .0 in
     let x = codeIn (s .args .code .now) (s .args .size) in
     let job = ofWindow (s .args .job) in
-    let g = done-as (advance known work x (machineAt m (p .run))) m (p .run .nodes) m₁ (p .windows) (c .before .before .before .before .before .before .advance .result)
+    let g = done-as (advance known work x (machineAt m (p .run))) job m (p .run .nodes) m₁ (p .windows) (c .before .before .before .before .before .before .advance .result)
     (Did.Step (c .before .before .r2 .given .0 .0)) (c .before .before .r2 .given .1) (c .before .before .before .before .before .before .advance .ensures) in
     (standing-kept p (g .kept) (c .before .before .before .before .before .before .advance .kept .1 .1 .0) (s .pre .2 .standing), g .ready, growing-kept g)
 
@@ -49,9 +49,9 @@ after-free-requires c κs =
     let m₁ = c .before .before .before .before .before .before .advance .last .1 .1 .0 in
     let x = codeIn (s .args .code .now) (s .args .size) in
     let job = ofWindow (s .args .job) in
-    let g = done-as (advance known work x (machineAt m (p .run))) m (p .run .nodes) m₁ (p .windows) (c .before .before .before .before .before .before .advance .result)
-    (Did.Free (c .before .before .r3 .given .0 .0)) (c .before .before .r3 .given .1) (c .before .before .before .before .before .before .advance .ensures) in
-    (standing-kept p (g .asked .kept) (c .before .before .before .before .before .before .advance .kept .1 .1 .0) (s .pre .2 .standing), g .asked .ready, g .asked .one, g .asked .node, s .pre .3)
+    let g = done-as (advance known work x (machineAt m (p .run))) job m (p .run .nodes) m₁ (p .windows) (c .before .before .before .before .before .before .advance .result)
+    (Did.Free (c .before .before .r3 .given .0 .0) (c .before .before .r3 .given .0 .1 .0)) (c .before .before .r3 .given .1) (c .before .before .before .before .before .before .advance .ensures) in
+    (standing-kept p (g .asked .kept) (c .before .before .before .before .before .before .advance .kept .1 .1 .0) (s .pre .2 .standing), g .asked .ready, g .asked .one, g .asked .node, g .filled)
 
 enum-known-c : tie.Need-enum-known-c
 enum-known-c c = search needs
@@ -64,7 +64,7 @@ after-test-requires c κs =
     let m₁ = c .before .before .before .before .before .before .advance .last .1 .1 .0 in
     let x = codeIn (s .args .code .now) (s .args .size) in
     let job = ofWindow (s .args .job) in
-    let g = done-as (advance known work x (machineAt m (p .run))) m (p .run .nodes) m₁ (p .windows) (c .before .before .before .before .before .before .advance .result)
+    let g = done-as (advance known work x (machineAt m (p .run))) job m (p .run .nodes) m₁ (p .windows) (c .before .before .before .before .before .before .advance .result)
     (Did.Test (c .before .before .c .given .0 .0) (c .before .before .c .given .0 .1 .0) (c .before .before .c .given .0 .1 .1 .0) (c .before .before .c .given .0 .1 .1 .1 .0))
     (c .before .before .c .given .1) (c .before .before .before .before .before .before .advance .ensures) in
     test-asked m p job x (s .pre .2) m₁ (c .before .before .c .given .0 .0) (c .before .before .c .given .0 .1 .0) (c .before .before .c .given .0 .1 .1 .0)
@@ -90,7 +90,7 @@ returns c =
     let m₁ = c .before .before .before .before .before .before .advance .last .1 .1 .0 in
     let x = codeIn (s .args .code .now) (s .args .size) in
     let job = ofWindow (s .args .job) in
-    let g = done-as (advance known work x (machineAt m (p .run))) m (p .run .nodes) m₁ (p .windows) (c .before .before .before .before .before .before .advance .result)
+    let g = done-as (advance known work x (machineAt m (p .run))) job m (p .run .nodes) m₁ (p .windows) (c .before .before .before .before .before .before .advance .result)
     (Did.Silent (c .before .before .r .given .0 .0)) (c .before .before .r .given .1) (c .before .before .before .before .before .before .advance .ensures) in
     let t = silent-on m p job x (s .pre .2 .standing) m₁ (c .before .before .r .given .0 .0) (c .proceed .result)
     (c .before .before .before .before .before .before .advance .kept .1 .1 .0) g (c .proceed .ensures) in
@@ -107,7 +107,7 @@ returns-2 c =
     let m₁ = c .before .before .before .before .before .before .before .before .before .advance .last .1 .1 .0 in
     let x = codeIn (s .args .code .now) (s .args .size) in
     let job = ofWindow (s .args .job) in
-    let g = done-as (advance known work x (machineAt m (p .run))) m (p .run .nodes) m₁ (p .windows) (c .before .before .before .before .before .before .before .before .before .advance .result)
+    let g = done-as (advance known work x (machineAt m (p .run))) job m (p .run .nodes) m₁ (p .windows) (c .before .before .before .before .before .before .before .before .before .advance .result)
     (Did.Step (c .before .before .before .before .before .r2 .given .0 .0)) (c .before .before .before .before .before .r2 .given .1)
     (c .before .before .before .before .before .before .before .before .before .advance .ensures) in
     turned m p job x (s .pre .2) m₁ (c .before .before .after-step .last .0) (c .before .before .after-step .result)
@@ -126,12 +126,12 @@ returns-3 c =
     let m₁ = c .before .before .before .before .before .before .before .before .before .advance .last .1 .1 .0 in
     let x = codeIn (s .args .code .now) (s .args .size) in
     let job = ofWindow (s .args .job) in
-    let g = done-as (advance known work x (machineAt m (p .run))) m (p .run .nodes) m₁ (p .windows) (c .before .before .before .before .before .before .before .before .before .advance .result)
-    (Did.Free (c .before .before .before .before .before .r3 .given .0 .0)) (c .before .before .before .before .before .r3 .given .1)
+    let g = done-as (advance known work x (machineAt m (p .run))) job m (p .run .nodes) m₁ (p .windows) (c .before .before .before .before .before .before .before .before .before .advance .result)
+    (Did.Free (c .before .before .before .before .before .r3 .given .0 .0) (c .before .before .before .before .before .r3 .given .0 .1 .0)) (c .before .before .before .before .before .r3 .given .1)
     (c .before .before .before .before .before .before .before .before .before .advance .ensures) in
-    turned m p job x (s .pre .2) m₁ (c .before .before .after-free .last .0) (c .before .before .after-free .result) (Doing.free (g .next)) (g .asked .kept)
+    turned m p job x (s .pre .2) m₁ (c .before .before .after-free .last .0) (c .before .before .after-free .result) (Doing.free (g .own) (g .next)) (g .asked .kept)
     (c .before .before .after-free .kept .0 ∙ c .before .before .before .before .before .before .before .before .before .advance .kept .1 .1 .0) (g .is)
-    (c .before .before .after-free .ensures (g .next) (g .asked .is))
+    (c .before .before .after-free .ensures job (g .own) (sym (g .pair)) (g .next) (g .asked .is))
 
 same-length-4 : tie.Need-same-length-4
 same-length-4 c = search needs
@@ -144,7 +144,7 @@ returns-4 c =
     let m₁ = c .before .before .before .before .before .before .before .before .before .advance .last .1 .1 .0 in
     let x = codeIn (s .args .code .now) (s .args .size) in
     let job = ofWindow (s .args .job) in
-    let g = done-as (advance known work x (machineAt m (p .run))) m (p .run .nodes) m₁ (p .windows) (c .before .before .before .before .before .before .before .before .before .advance .result)
+    let g = done-as (advance known work x (machineAt m (p .run))) job m (p .run .nodes) m₁ (p .windows) (c .before .before .before .before .before .before .before .before .before .advance .result)
     (Did.Test (c .before .before .before .before .before .c .given .0 .0) (c .before .before .before .before .before .c .given .0 .1 .0)
     (c .before .before .before .before .before .c .given .0 .1 .1 .0) (c .before .before .before .before .before .c .given .0 .1 .1 .1 .0))
     (c .before .before .before .before .before .c .given .1) (c .before .before .before .before .before .before .before .before .before .advance .ensures) in
@@ -164,7 +164,7 @@ returns-5 c =
     let m₁ = c .before .before .before .before .before .advance .last .1 .1 .0 in
     let x = codeIn (s .args .code .now) (s .args .size) in
     let job = ofWindow (s .args .job) in
-    let g = done-as (advance known work x (machineAt m (p .run))) m (p .run .nodes) m₁ (p .windows) (c .before .before .before .before .before .advance .result)
+    let g = done-as (advance known work x (machineAt m (p .run))) job m (p .run .nodes) m₁ (p .windows) (c .before .before .before .before .before .advance .result)
     (Did.Returned (c .before .v .given .0 .0)) (c .before .v .given .1) (c .before .before .before .before .before .advance .ensures) in
     (returned-stops m p job x (s .pre .2 .standing) m₁ (c .before .v .given .0 .0) g, tt)
 
@@ -179,7 +179,7 @@ returns-6 c =
     let m₁ = c .before .before .before .before .advance .last .1 .1 .0 in
     let x = codeIn (s .args .code .now) (s .args .size) in
     let job = ofWindow (s .args .job) in
-    let g = done-as (advance known work x (machineAt m (p .run))) m (p .run .nodes) m₁ (p .windows) (c .before .before .before .before .advance .result) (Did.Failed) (c .enum-told .given .1)
+    let g = done-as (advance known work x (machineAt m (p .run))) job m (p .run .nodes) m₁ (p .windows) (c .before .before .before .before .advance .result) (Did.Failed) (c .enum-told .given .1)
     (c .before .before .before .before .advance .ensures) in
     (failed-stops m p job x (s .pre .2 .standing) m₁ (g .0) (g .1), tt)
 
@@ -194,7 +194,7 @@ returns-7 c =
     let m₁ = c .before .before .before .before .advance .last .1 .1 .0 in
     let x = codeIn (s .args .code .now) (s .args .size) in
     let job = ofWindow (s .args .job) in
-    let g = done-as (advance known work x (machineAt m (p .run))) m (p .run .nodes) m₁ (p .windows) (c .before .before .before .before .advance .result) (Did.Cut) (c .enum-told2 .given .1)
+    let g = done-as (advance known work x (machineAt m (p .run))) job m (p .run .nodes) m₁ (p .windows) (c .before .before .before .before .advance .result) (Did.Cut) (c .enum-told2 .given .1)
     (c .before .before .before .before .advance .ensures) in
     (cut-stops m p job x (s .pre .2 .standing) m₁ (g .0) (g .1), tt)
 

@@ -6,7 +6,7 @@ use mir.Val.{toZ, ofZ, SFits}
 use mir.Facts.{toZ-ofZ}
 use borrow.Author.Needs.{needs}
 use Rattle.semantics.specs.Int.{Cmp}
-use Rattle.semantics.specs.Run.{Window}
+use Rattle.semantics.specs.Program.{Window}
 use Rattle.semantics.specs.Search.{to, decided, clip}
 use Rattle.ints.specs.Numbers.{comparison}
 use Rattle.ints.proofs.Chosen.{last-comparison}
