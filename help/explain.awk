@@ -82,7 +82,7 @@ function tokens(    i, n, words) {
         } else if (is_digit(byte[i])) {
             for (n = number_size(i); length(word[last]) < n;) word[last] = word[last] char[byte[i + length(word[last])]]
             kind[last] = "number"
-        } else if (index(" <= >= == != && || ", " " word[last] char[byte[i + 1]] " ")) {
+        } else if (index(" <= >= == != && || .. ", " " word[last] char[byte[i + 1]] " ")) {
             kind[last] = word[last] = word[last] char[byte[i + 1]]; n = 2
         }
     }
@@ -110,8 +110,19 @@ function details(number) {
     if (number == 8) return last == 1 ? "the text is empty" : kind[at] == "end" ? "the text has no `main`" : "`main` has parameters"
     if (number == 9) return "it is that of `" word[head()] "`"
     if (number == 17) return holding()
+    if (number == 18) return "`" pair() "`"
+    if (number == 19) return "`" pair() "` are " sprintf("%.0f", high_end - low_end + 1)
     if (number == 10) return head() == at ? "this is the 17th function" : nesting ? "this is the 17th declaration in `" word[head()] "`" : "this is the 5th parameter"
     return ""
+}
+
+# For 18 and 19: the pair whose low end begins at the place, in low_end and high_end its ends.
+function pair(    i, text) {
+    for (i = at; i < last && kind[i] != ";"; i++) text = text (text == "" || kind[i - 1] == "-" ? "" : " ") word[i]
+    i = index(text, "..")
+    low_end = substr(text, 1, i - 1); high_end = substr(text, i + 2)
+    gsub(/[_ ]/, "", low_end); gsub(/[_ ]/, "", high_end)
+    return text
 }
 
 # The character at the place, by its name where characters.txt has it.
@@ -221,7 +232,8 @@ function grammar(    operand, i, comparison) {
     rule("Statements", "}", "}"); rule("Statements", "; { if while int return fail" operand, "Statement Statements")
     rule("Statement", ";", ";"); rule("Statement", "{", "{ Statements"); rule("Statement", "fail", "fail ;")
     rule("Statement", "if", "if ( Condition ) Statement else Statement"); rule("Statement", "while", "while ( Condition ) Statement")
-    rule("Statement", "int", "int name Free ;"); rule("Free", "free", "free"); otherwise("Free", "")
+    rule("Statement", "int", "int name Free ;"); rule("Free", "free", "free Pair"); otherwise("Free", "")
+    rule("Pair", "number -", "End .. End"); otherwise("Pair", ""); rule("End", "number", "number"); rule("End", "-", "- number")
     rule("Statement", "return", "return Sum ;"); rule("Statement", "number - (", "Sum ;")
     rule("Statement", "name", "name Value ;"); rule("Value", "=", "= Sum"); otherwise("Value", "Call Factors Terms")
     rule("Sum", operand, "Product Terms"); rule("Terms", "+", "+ Product Terms"); rule("Terms", "-", "- Product Terms"); otherwise("Terms", "")
@@ -235,7 +247,7 @@ function grammar(    operand, i, comparison) {
     split("< <= > >= == !=", comparison, " ")
     for (i = 1; i in comparison; i++) rule("Comparison", comparison[i], comparison[i])
     named("Program", "a function `int name(..) { .. }` or the end"); named("Parameters", "`int` or `)`"); named("Parameter", "`,` or `)`")
-    named("Statements", "a statement or `}`"); named("Statement", "a statement"); named("Free", "`free`"); named("Value", "`=`")
+    named("Statements", "a statement or `}`"); named("Statement", "a statement"); named("Free", "`free`"); named("Pair", "a pair"); named("End", "a number or `-`"); named("Value", "`=`")
     named("Sum", "an expression"); named("Product", "an expression"); named("Operand", "an expression"); named("Factors", "an operation"); named("Terms", "")
     named("Call", "`(`"); named("Arguments", "an expression or `)`"); named("Argument", "`,` or `)`")
     named("Condition", "a condition"); named("Test", "a condition"); named("Tests", "`&&` or `||`"); named("Comparison", "a comparison")
@@ -288,7 +300,9 @@ function causes(i,    k, was, j) {
     if ("Free" in passed && k == "=") return "A declaration gives no value: write `int " word[i - 1] "; " word[i - 1] " = ..;`."
     if ("Free" in passed && k == ",") return "Declare each number by itself: `int a; int b;`."
     if ("Free" in passed && k == "(") return "A function can't stand within another: a `}` is missing before this."
-    if (k == "free" || was == "free" && k == "name") return "Write `int x free;`."
+    if (k == "free" || was == "free" && k == "name") return "Write `int x free;`, or `int x free 5 .. 400;`."
+    if (wanted == "..") return "Between the ends of a pair stands `..`, as in `int x free 5 .. 400;`."
+    if (k == ".." ) return "`..` stands only between the two ends of a pair, which are numbers: `int x free 5 .. 400;`."
     if (k == "+" && (was == "+" && touches(i - 1) || kind[i + 1] == "+" && touches(i))) return "There is no `++`: write `x = x + 1;`."
     if (was == "-" && (kind[i - 2] == "-" && touches(i - 2) || k == "-" && touches(i - 1))) return "There is no `--`: write `x = x - 1;`."
     if (k == "=" && was ~ /^[-+*]$/ && touches(i - 1)) return "There is no `" was "=`: write `x = x " was " ..;`."

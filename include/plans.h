@@ -7,7 +7,7 @@
  * may be called from several threads at once. They take every text, number and
  * length there is, and always return. 2 MiB of stack are enough, as measured.
  *
- * A refusal is a number, 1 to 17, and a place, a byte offset in the text from 0;
+ * A refusal is a number, 1 to 19, and a place, a byte offset in the text from 0;
  * README.md has what each number means. docs/CALLING.md shows how to call. */
 #ifndef PLANS_H
 #define PLANS_H
@@ -54,7 +54,8 @@ void plans_remarks(const uint8_t *text, size_t text_length,
                    uint32_t *answer, size_t answer_length);
 
 /* The plans of a rule.
- * Its free numbers are tried from low to high, each run within the given steps.
+ * Its free numbers are tried from low to high, those with a pair of their own in
+ * that pair, each run within the given steps.
  * Of the plan list the first `skip` rows are left out and the next ones written,
  * as many as rows has whole tens of words. The search stops when it has made
  * `budget` moves.

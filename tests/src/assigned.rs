@@ -68,7 +68,7 @@ impl<'a> Walk<'a> {
                 self.seen.push(name);
                 before
             }
-            StatementKind::DeclareFree(name) => {
+            StatementKind::DeclareFree(name, _) => {
                 self.seen.push(name);
                 assign(&mut before, Some(name.place));
                 before

@@ -215,6 +215,26 @@ pub fn examples() -> Vec<Example> {
             add("a variable that holds nothing", main_with(body).into(), job(low, high, steps));
         }
     }
+    // Pairs of their own: beside the job's, at the ends of 32 bits, in a loop and in a call, and some that are refused.
+    for body in [
+        "int x free 5 .. 6; int y free; return x + y;",
+        "int x free 3 .. 3; if (x == 3) return x; else fail;",
+        "int x free -1..1; if (x < 0) return 1; else if (x == 0) return 2; else return 3;",
+        "int y free; int x free 2 .. 4; if (x > y) if (y != 2) return x * y; else fail; else return y - x;",
+        "int i; i = 0; while (i < 3) { int a free 1 .. 2; i = i + a; } return i;",
+        "int a free 2147483645 .. 2147483647; if (a + 1 > a) return a; else return 0;",
+        "int a free -2147483647 .. -2147483645; if (a - 2 < a) return a; else return 1;",
+        "int a free 0 .. 1; int b free; int c free -2 .. -1; if (a < b) return a * b - c; else return c;",
+        "int a free 0 .. 4095; if (a == 17) return a; else fail;",
+        "int a free 0 .. 4096; return a;",
+        "int a free 2 .. 1; return a;",
+        "int a free 0 .. 5000; int b free -1 .. -2; return a;",
+        "int a free 0 .. -5000; int b free -1 .. 4095; return a;",
+    ] {
+        for (low, high, steps) in [(0, 1, 1_000), (-1, 2, 9), (7, 7, 100), (1, 0, 100), (0, 4_096, 100)] {
+            add("a pair of its own", main_with(body).into(), job(low, high, steps));
+        }
+    }
     let chain = "x = x + x; ".repeat(60);
     let chain = format!("int x free; {chain} if (x < 1) return 1; else return x;");
     add("a shared expression", main_with(&chain).into(), job(0, 3, 1_000));
@@ -362,6 +382,8 @@ pub fn endings() -> Vec<Example> {
         ("refusal 2", "int main() { return !; }", whole),
         ("refusal 9", "int main() { }", whole),
         ("refusal 17", "int main() { int x; return x; }", whole),
+        ("refusal 18", "int main() { int x free 6 .. 5; return x; }", whole),
+        ("refusal 19", "int main() { int x free 0 .. 4096; return x; }", whole),
         ("whole", A, whole),
         ("cut", endless, whole),
         ("full", A, Job { rows_len: 19, ..whole }),

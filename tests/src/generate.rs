@@ -42,6 +42,32 @@ fn program(random: &mut Random, mistakes: usize) -> Vec<String> {
     Writer::new(random, mistakes, room).program(functions)
 }
 
+/// The ends of a pair; a wrong one is reversed or too wide, or just not.
+fn own_pair(random: &mut Random, wrong: bool) -> (i64, i64) {
+    let greatest = 2_147_483_647;
+    if wrong {
+        let low = random.between(-3, 3);
+        return match random.below(4) {
+            0 => (low, low - random.between(0, 3)),
+            1 => (low, low + random.between(4_094, 4_098)),
+            2 => (greatest, -greatest),
+            _ => (-greatest, greatest),
+        };
+    }
+    match random.below(20) {
+        0 => (greatest - random.between(0, 3), greatest),
+        1 => (-greatest, random.between(0, 3) - greatest),
+        2 => {
+            let low = random.between(-5_000, 5_000);
+            (low, low + random.between(0, 40))
+        }
+        _ => {
+            let low = random.between(-3, 4);
+            (low, low + random.between(0, 3))
+        }
+    }
+}
+
 /// Tokens with blanks between them, at least where two words would join.
 fn layout(random: &mut Random, tokens: &[String]) -> Vec<u8> {
     let style = random.below(4);
@@ -263,8 +289,33 @@ impl Writer<'_> {
         if free {
             self.frees += 1;
             self.put(&["free"]);
+            self.pair();
         }
         self.put(&[";"]);
+    }
+
+    /// Three of ten free numbers have a pair of their own, mostly a small one.
+    fn pair(&mut self) {
+        if !self.random.chance(300) {
+            return;
+        }
+        let wrong = self.mistakes > 0 && self.random.chance(100);
+        let (low, high) = own_pair(self.random, wrong);
+        self.end_of_pair(low);
+        if !self.mistake() {
+            self.put(&[".."]);
+        }
+        self.end_of_pair(high);
+    }
+
+    fn end_of_pair(&mut self, end: i64) {
+        if end < 0 || end == 0 && self.random.chance(100) {
+            self.put(&["-"]);
+        }
+        self.put(&[&end.unsigned_abs().to_string()]);
+        if self.mistake() {
+            self.put_one_of(&["-", "1", "a", "..", "+"]);
+        }
     }
 
     /// A declaration; nine of ten are given a value at once, the others perhaps
@@ -764,10 +815,10 @@ impl Ways<'_> {
     }
 }
 
-const SPARE_TOKENS: [&str; 34] = [
+const SPARE_TOKENS: [&str; 37] = [
     "(", ")", "{", "}", ";", ",", "=", "<", ">", "<=", ">=", "==", "!=", "&&", "||", "+", "-", "*",
     "int", "free", "if", "else", "while", "return", "fail", "true", "false", "a", "f", "main", "0",
-    "7", "12ab", "!",
+    "7", "12ab", "!", "..", "..", ".",
 ];
 
 fn damaged(random: &mut Random) -> Vec<u8> {
@@ -797,7 +848,7 @@ fn damaged(random: &mut Random) -> Vec<u8> {
             let place = random.below(text.len());
             match random.below(4) {
                 0 => text[place] = random.below(256) as u8,
-                1 => text.insert(place, *random.pick(&[&b'!', &b'&', &b'|', &b'_', &b'=', &b'-'])),
+                1 => text.insert(place, *random.pick(&[&b'!', &b'&', &b'|', &b'_', &b'=', &b'-', &b'.'])),
                 2 => text.insert(place, random.below(256) as u8),
                 _ => {
                     text.remove(place);
@@ -816,7 +867,7 @@ fn noise(random: &mut Random) -> Vec<u8> {
     match random.below(3) {
         0 => (0..length).map(|_| random.below(256) as u8).collect(),
         1 => {
-            let bytes = b"ab12__ \t\n\r(){};,=<>!&|+-*if";
+            let bytes = b"ab12__ \t\n\r(){};,=<>!&|+-*.if";
             (0..length).map(|_| bytes[random.below(bytes.len())]).collect()
         }
         _ => {
@@ -829,7 +880,7 @@ fn noise(random: &mut Random) -> Vec<u8> {
 
 /// Texts at a limit and around it.
 fn at_limits(random: &mut Random) -> Vec<u8> {
-    match random.below(12) {
+    match random.below(13) {
         0 => long_name(random),
         1 => large_number(random),
         2 | 3 => deep(random),
@@ -839,6 +890,7 @@ fn at_limits(random: &mut Random) -> Vec<u8> {
         7 => mains(random),
         8 => ends(random),
         9 => shadows(random),
+        10 => pairs(random),
         _ => padded(random),
     }
 }
@@ -1051,6 +1103,25 @@ fn shadows(random: &mut Random) -> Vec<u8> {
     }
     text.push_str(&"} ".repeat(open));
     text.push_str("return 1; }");
+    text.into_bytes()
+}
+
+/// Own pairs at their limits, several in a text, some in functions that are not
+/// called, and now and then with too many declarations beside them.
+fn pairs(random: &mut Random) -> Vec<u8> {
+    let mut text = String::new();
+    for name in ["f", "main"] {
+        text.push_str(&format!("int {name}() {{ "));
+        let count = if random.chance(100) { 15 + random.below(4) } else { 1 + random.below(3) };
+        for number in 0..count {
+            let wrong = random.chance(400);
+            let (low, high) = own_pair(random, wrong);
+            let dots = random.pick(&["..", " .. ", ".. ", " ..", "...", ".", " . . "]);
+            let dots = if random.chance(900) { " .. " } else { dots };
+            text.push_str(&format!("int v{number} free {low}{dots}{high}; "));
+        }
+        text.push_str("return v0; } ");
+    }
     text.into_bytes()
 }
 

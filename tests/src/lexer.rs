@@ -8,7 +8,7 @@ pub const GREATEST_NUMBER: u64 = 2_147_483_647;
 
 const RESERVED: [&[u8]; 9] =
     [b"int", b"free", b"if", b"else", b"while", b"return", b"fail", b"true", b"false"];
-const DOUBLE_MARKS: [&[u8]; 6] = [b"<=", b">=", b"==", b"!=", b"&&", b"||"];
+const DOUBLE_MARKS: [&[u8]; 7] = [b"<=", b">=", b"==", b"!=", b"&&", b"||", b".."];
 const SINGLE_MARKS: &[u8] = b"(){};,=<>+-*";
 
 #[derive(Clone, Copy, PartialEq, Eq, Debug)]

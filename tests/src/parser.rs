@@ -33,7 +33,8 @@ pub struct Statement {
 pub enum StatementKind {
     Empty,
     Declare(Name),
-    DeclareFree(Name),
+    /// A free number, with a pair of its own or the job's.
+    DeclareFree(Name, Option<Pair>),
     Assign(Name, Expression),
     Work(Expression),
     Braces(Vec<Statement>),
@@ -41,6 +42,15 @@ pub enum StatementKind {
     While(Condition, Box<Statement>),
     Return(Expression),
     Fail,
+}
+
+/// The own pair of a free number.
+#[derive(Clone, Copy, Debug)]
+pub struct Pair {
+    /// The place of the low end's first token.
+    pub place: usize,
+    pub low: i32,
+    pub high: i32,
 }
 
 /// A sum: a term, then further terms with `+` or `-` before them.
@@ -218,7 +228,8 @@ impl Reader<'_, '_> {
         let kind = if self.takes("int") {
             let name = self.name()?;
             if self.takes("free") {
-                StatementKind::DeclareFree(name)
+                let pair = if self.sees(";") { None } else { Some(self.pair()?) };
+                StatementKind::DeclareFree(name, pair)
             } else {
                 StatementKind::Declare(name)
             }
@@ -235,6 +246,23 @@ impl Reader<'_, '_> {
         };
         self.expect(";")?;
         Ok(kind)
+    }
+
+    fn pair(&mut self) -> Read<Pair> {
+        let place = self.place();
+        let low = self.end_of_pair()?;
+        self.expect("..")?;
+        let high = self.end_of_pair()?;
+        Ok(Pair { place, low, high })
+    }
+
+    /// A number with or without a minus.
+    fn end_of_pair(&mut self) -> Read<i32> {
+        if self.takes("-") {
+            Ok(-self.number()?)
+        } else {
+            self.number()
+        }
     }
 
     fn assignment_ahead(&self) -> bool {

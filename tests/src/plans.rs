@@ -28,7 +28,8 @@ pub fn plans(program: &Program, low: i32, high: i32, steps: u32, most: usize) ->
     let mut cut = false;
     let mut runs = 0;
     // Choices still to be tried. One whose run wants a further value is
-    // replaced by those that go on with each value of the window.
+    // replaced by those that go on with each value of its own pair, or of the
+    // job's.
     let mut open: Vec<Vec<i32>> = vec![Vec::new()];
     while let Some(values) = open.pop() {
         runs += 1;
@@ -37,7 +38,8 @@ pub fn plans(program: &Program, low: i32, high: i32, steps: u32, most: usize) ->
         }
         let run = run(program, &values, steps);
         match run.end {
-            End::Wanting => {
+            End::Wanting(pair) => {
+                let (low, high) = pair.unwrap_or((low, high));
                 for value in low..=high {
                     let mut longer = values.clone();
                     longer.push(value);

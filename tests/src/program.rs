@@ -23,7 +23,8 @@ pub struct Body {
 pub enum Statement {
     Empty,
     Declare(usize),
-    DeclareFree(usize),
+    /// With its own pair, low and high, if it has one.
+    DeclareFree(usize, Option<(i32, i32)>),
     Assign(usize, Expression),
     Work(Expression),
     Braces(Vec<Statement>),
@@ -122,7 +123,10 @@ impl Names<'_> {
         match &statement.kind {
             StatementKind::Empty => Statement::Empty,
             StatementKind::Declare(name) => Statement::Declare(self.declare(name)),
-            StatementKind::DeclareFree(name) => Statement::DeclareFree(self.declare(name)),
+            StatementKind::DeclareFree(name, pair) => {
+                let pair = pair.map(|pair| (pair.low, pair.high));
+                Statement::DeclareFree(self.declare(name), pair)
+            }
             StatementKind::Assign(name, e) => {
                 Statement::Assign(self.number(name), self.expression(e))
             }

@@ -1,11 +1,13 @@
-//! The rules that a text must keep beside its grammar (refusals 5 to 10, and 17
-//! before 10), and the operations check and remarks.
+//! The rules that a text must keep beside its grammar (refusals 5 to 9, 17, 10,
+//! 18 and 19), and the operations check and remarks.
 
 use crate::assigned::unassigned;
 use crate::lexer::tokens;
 use crate::parser::{
-    parse, Condition, Expression, Function, Name, Operand, Statement, StatementKind, Term, Test,
+    parse, Condition, Expression, Function, Name, Operand, Pair, Statement, StatementKind, Term,
+    Test,
 };
+use crate::search::MOST_VALUES;
 use crate::Refusal;
 
 pub const DEEPEST: usize = 24;
@@ -47,7 +49,7 @@ pub fn remarks(text: &[u8], places: usize) -> Result<Vec<u16>, Refusal> {
 /// The functions of the text if it is accepted, else its refusal.
 pub fn accepted(text: &[u8]) -> Result<Vec<Function>, Refusal> {
     let functions = parse(&tokens(text)?)?;
-    let rules: [(u32, Vec<usize>); 7] = [
+    let rules: [(u32, Vec<usize>); 9] = [
         (5, too_deep(&functions)),
         (6, wrong_names(&functions)),
         (7, wrong_calls(&functions)),
@@ -55,6 +57,8 @@ pub fn accepted(text: &[u8]) -> Result<Vec<Function>, Refusal> {
         (9, open_ends(&functions)),
         (17, unassigned(&functions)),
         (10, too_many(&functions)),
+        (18, pairs_where(&functions, |low, high| low > high)),
+        (19, pairs_where(&functions, |low, high| high - low + 1 > MOST_VALUES)),
     ];
     // A rule is looked at only where those before it are kept, so that every
     // place of a broken rule means something; all are worked out here, since
@@ -76,6 +80,7 @@ struct Seen {
     depths: Vec<(usize, usize)>,
     calls: Vec<(Name, usize)>,
     declarations: Vec<Name>,
+    pairs: Vec<Pair>,
 }
 
 impl Seen {
@@ -89,8 +94,10 @@ impl Seen {
         self.depths.push((statement.place, depth));
         match &statement.kind {
             StatementKind::Empty | StatementKind::Fail => {}
-            StatementKind::Declare(name) | StatementKind::DeclareFree(name) => {
+            StatementKind::Declare(name) => self.declarations.push(name.clone()),
+            StatementKind::DeclareFree(name, pair) => {
                 self.declarations.push(name.clone());
+                self.pairs.extend(pair);
             }
             StatementKind::Assign(_, expression)
             | StatementKind::Work(expression)
@@ -213,7 +220,9 @@ impl Scope<'_> {
     fn statement(&mut self, statement: &Statement) {
         match &statement.kind {
             StatementKind::Empty | StatementKind::Fail => {}
-            StatementKind::Declare(name) | StatementKind::DeclareFree(name) => self.declare(name),
+            StatementKind::Declare(name) | StatementKind::DeclareFree(name, _) => {
+                self.declare(name);
+            }
             StatementKind::Assign(name, expression) => {
                 self.uses(name);
                 self.expression(expression);
@@ -313,4 +322,10 @@ fn too_many(functions: &[Function]) -> Vec<usize> {
         wrong.extend(parameters.iter().chain(&inner).nth(MOST_DECLARATIONS).map(|name| name.place));
     }
     wrong
+}
+
+/// 18 and 19: the low ends of the own pairs of which this is so.
+fn pairs_where(functions: &[Function], so: impl Fn(i64, i64) -> bool) -> Vec<usize> {
+    let pairs = functions.iter().flat_map(|f| seen(f).pairs);
+    pairs.filter(|pair| so(pair.low.into(), pair.high.into())).map(|pair| pair.place).collect()
 }

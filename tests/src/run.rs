@@ -14,8 +14,9 @@ pub enum End {
     Returned(i32),
     Failed,
     Cut,
-    /// The run reached a free declaration for which no value was given.
-    Wanting,
+    /// The run reached a free declaration for which no value was given; its own
+    /// pair, if it has one.
+    Wanting(Option<(i32, i32)>),
 }
 
 #[derive(Debug)]
@@ -94,7 +95,7 @@ impl Runner<'_> {
     }
 
     fn statement(&mut self, statement: &Statement, cells: &mut [Cell]) -> Worked<Option<i32>> {
-        if let Statement::DeclareFree(_) = statement {
+        if let Statement::DeclareFree(..) = statement {
             if self.run.reached == MOST_FREE {
                 return Err(End::Cut);
             }
@@ -103,9 +104,9 @@ impl Runner<'_> {
         match statement {
             Statement::Empty => {}
             Statement::Declare(variable) => cells[*variable] = None,
-            Statement::DeclareFree(variable) => {
+            Statement::DeclareFree(variable, pair) => {
                 let value = self.values.get(self.run.reached);
-                cells[*variable] = Some(*value.ok_or(End::Wanting)?);
+                cells[*variable] = Some(*value.ok_or(End::Wanting(*pair))?);
                 self.run.reached += 1;
             }
             Statement::Assign(variable, e) => {

@@ -403,7 +403,7 @@ impl<'a> Path<'a> {
     }
 
     fn statement(&mut self, statement: &Statement, base: usize) -> Worked<Option<Value>> {
-        if let Statement::DeclareFree(_) = statement {
+        if let Statement::DeclareFree(..) = statement {
             if self.windows.len() == MOST_FREE {
                 return Err(PathEnd::Cut);
             }
@@ -412,9 +412,10 @@ impl<'a> Path<'a> {
         match statement {
             Statement::Empty => {}
             Statement::Declare(variable) => self.cells[base + variable] = None,
-            Statement::DeclareFree(variable) => {
+            Statement::DeclareFree(variable, pair) => {
                 let unknown = self.node(Node::Free(self.windows.len()));
-                self.windows.push(self.job_window);
+                let own = |(low, high): (i32, i32)| Range { low: low.into(), high: high.into() };
+                self.windows.push(pair.map_or(self.job_window, own));
                 self.cells[base + variable] = Some(unknown);
             }
             Statement::Assign(variable, e) => {

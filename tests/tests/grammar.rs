@@ -10,7 +10,7 @@ use reference::with_room;
 
 /// Each rule: what it makes, and of what. Names of rules are in capitals, the
 /// words `name` and `number` stand for all such tokens.
-const GRAMMAR: [(&str, &str); 45] = [
+const GRAMMAR: [(&str, &str); 48] = [
     ("PROGRAM", ""),
     ("PROGRAM", "PROGRAM FUNCTION"),
     ("FUNCTION", "int name ( PARAMETERS ) { STATEMENTS }"),
@@ -23,6 +23,9 @@ const GRAMMAR: [(&str, &str); 45] = [
     ("STATEMENT", ";"),
     ("STATEMENT", "int name ;"),
     ("STATEMENT", "int name free ;"),
+    ("STATEMENT", "int name free END .. END ;"),
+    ("END", "number"),
+    ("END", "- number"),
     ("STATEMENT", "name = SUM ;"),
     ("STATEMENT", "SUM ;"),
     ("STATEMENT", "{ STATEMENTS }"),

@@ -630,6 +630,76 @@ fn counts() {
     refused(10, &(main + "int f(int a, int b) { " + &declarations(2, 17, 16) + "return 1; }"));
 }
 
+/// Slip 5: what an own pair may look like, and the refusals 18 and 19.
+#[test]
+fn own_pairs() {
+    for body in [
+        "int x free 5 .. 400; return x;",
+        "int x free 5..400; return x;",
+        "int x free -5..-1; return x;",
+        "int x free - 5 .. - 0; return x;",
+        "int x free 1_0 .. 2_0; return x;",
+        "int x free 0 .. 4095; return x;",
+        "int x free -4095 .. 0; return x;",
+        "int x free 2147483647 .. 2147483647; return x;",
+    ] {
+        assert_eq!(checked(&main_with(body)), Ok(()), "{body}");
+    }
+    for body in ["int x free 5..@.6; fail;", "int x free 5@.6; fail;", "int x free 5 @. . 6; fail;"] {
+        refused_main(2, body);
+    }
+    refused_main(3, "int x free -@2147483648 .. 0; fail;");
+    // 3 before 18, though it stands behind it.
+    refused_main(3, "int x free 6 .. 5; int y free @2147483648 .. 0; fail;");
+    for body in [
+        "int x free 5@; fail;",
+        "int x free @a .. 3; fail;",
+        "int x free - @- 5 .. 3; fail;",
+        "int x free @.. 3; fail;",
+        "int x free 5 .. @; fail;",
+        "int x free 5 .. 6 @.. 7; fail;",
+        "int x free 5 @+ 1 .. 6; fail;",
+        "int x free @(5) .. 6; fail;",
+        "int x @5 .. 6; fail;",
+        "return 5 @.. 6;",
+    ] {
+        refused_main(4, body);
+    }
+    refused_main(18, "int x free @6 .. 5; fail;");
+    refused_main(18, "int x free @-5 .. -6; fail;");
+    refused_main(18, "int x free 0 .. 4096; int y free @6 .. 5; fail;");
+    refused_main(18, "int x free @2147483647 .. -2147483647; fail;");
+    refused(18, "int f() { int x free @3 .. 2; fail; } int main() { fail; }");
+    refused_main(19, "int x free @0 .. 4096; int y free 0 .. 9999; fail;");
+    refused_main(19, "int x free @-1 .. 4095; fail;");
+    refused_main(19, "int x free @-2147483647 .. 2147483647; fail;");
+    // 9, 17 and 10 before them.
+    refused(9, "int main() { int x free 6 .. 5; @}");
+    refused_main(17, "int x free 6 .. 5; int y; return @y;");
+    let many: String = (0..16).map(|n| format!("int v{n}; ")).collect();
+    refused_main(10, &(String::from("int x free 6 .. 5; ") + &many.replace("v15", "@v15") + "fail;"));
+}
+
+/// Slip 5: a plain free takes the job's pair, another its own, also in a loop.
+#[test]
+fn lists_over_own_pairs() {
+    let text = main_with("int x free 5 .. 6; int y free; return x + y;");
+    let expected = [(5, vec![5, 0]), (6, vec![5, 1]), (6, vec![6, 0]), (7, vec![6, 1])];
+    assert_eq!(rows(&listed(&text, job(0, 1, 100))), expected);
+    let text = main_with("int y free 0 .. 3; if (y < 2) return y; else fail;");
+    assert_eq!(rows(&listed(&text, job(7, 7, 100))), [(0, vec![0]), (1, vec![1])]);
+    let text = main_with(
+        "int i; int s; i = 0; s = 0; \
+         while (i < 2) { int x free -1 .. 0; s = s * 10 + x; i = i + 1; } return s;",
+    );
+    let expected = [(-11, vec![-1, -1]), (-10, vec![-1, 0]), (-1, vec![0, -1]), (0, vec![0, 0])];
+    assert_eq!(rows(&listed(&text, job(3, 4, 100))), expected);
+    // 12 and 13 judge the job's pair, though no plain free stands there.
+    let text = main_with("int x free 5 .. 6; return x;");
+    assert_eq!(list(text.as_bytes(), &job(1, 0, 100)).err(), Some((12, 0)));
+    assert_eq!(list(text.as_bytes(), &job(0, 4_096, 100)).err(), Some((13, 0)));
+}
+
 #[test]
 fn unreached_functions() {
     let text = "int a() { return b(); } int b() { return a(); } int main() { return 1; c(); return 2; } \

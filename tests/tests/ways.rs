@@ -83,7 +83,7 @@ impl Code {
                 self.declare(name);
                 self.instructions.push(Instruction::Empty(name.place));
             }
-            StatementKind::DeclareFree(name) => {
+            StatementKind::DeclareFree(name, _) => {
                 self.declare(name);
                 self.instructions.push(Instruction::Give(name.place));
             }

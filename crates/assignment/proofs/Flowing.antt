@@ -8,7 +8,7 @@ use lib.Dec.{eqb}
 use Rattle.syntax.specs.declared.Node.{Node}
 use Rattle.syntax.specs.Fetch.{Fetched}
 use Rattle.syntax.specs.Ast.{Sort, Ast, cond}
-use Rattle.syntax.specs.Table.{At, nDeclareFree, nAssign, nEval, nBlock, nIfElse, nWhile, nReturn, nFail, nMoreStmts, nBraced, at-empty, at-declare, at-declare-free, at-assign, at-eval, at-block, at-if-else, at-while, at-return, at-fail, at-no-stmts, at-more-stmts, at-braced}
+use Rattle.syntax.specs.Table.{At, nDeclareFree, nDeclareOwn, nAssign, nEval, nBlock, nIfElse, nWhile, nReturn, nFail, nMoreStmts, nBraced, at-empty, at-declare, at-declare-free, at-declare-own, at-assign, at-eval, at-block, at-if-else, at-while, at-return, at-fail, at-no-stmts, at-more-stmts, at-braced}
 use Rattle.events.specs.Walk.{Rooted}
 use Rattle.events.proofs.Nodes.{moved}
 use Rattle.text_rules.specs.Answers.{leastWith}
@@ -58,11 +58,17 @@ more-last f R (at-more-stmts r p q c d) = child R statement (f .second ∙ r .se
 
 -- ---- after a node
 
+-- a free declaration, with a pair of its own or not
+pub data Free : ℕ → Type 0 where
+  plain : Free nDeclareFree
+  own : Free nDeclareOwn
+
 module _ (slots : List ℕ) (base : ℕ) (a : List Bool) where
-  pub free-passed : {l : List ℕ} {s : Sort} {i : ℕ} {t : Ast s} {n : Node} {w : ℕ} {b : List Bool} (p : Option ℕ) → Fetched l i n → At l s i nDeclareFree t → w ≡ slotAt slots (n .token + 1)
+  pub free-passed : {l : List ℕ} {s : Sort} {i k : ℕ} {t : Ast s} {n : Node} {w : ℕ} {b : List Bool} (p : Option ℕ) → Free k → Fetched l i n → At l s i k t → w ≡ slotAt slots (n .token + 1)
       → ((u : ℕ) → only base b u ≡ (eqb w u || only base a u)) → Passed slots base a p b p t
   unfolding after unset leastWith
-  free-passed p f (at-declare-free r) e h = record { set = λ v. h v ∙ ap (λ (x : ℕ). eqb x v || only base a v) (e ∙ ap (λ (j : ℕ). slotAt slots (j + 1)) (f .token ∙ r .token)); found = refl }
+  free-passed p plain f (at-declare-free r) e h = record { set = λ v. h v ∙ ap (λ (x : ℕ). eqb x v || only base a v) (e ∙ ap (λ (j : ℕ). slotAt slots (j + 1)) (f .token ∙ r .token)); found = refl }
+  free-passed p own f (at-declare-own r) e h = record { set = λ v. h v ∙ ap (λ (x : ℕ). eqb x v || only base a v) (e ∙ ap (λ (j : ℕ). slotAt slots (j + 1)) (f .token ∙ r .token)); found = refl }
 
   pub assign-passed : {l : List ℕ} {s : Sort} {i : ℕ} {t : Ast s} {n : Node} {w : ℕ} {b : List Bool} {p q : Option ℕ} → Fetched l i n → At l s i nAssign t → Read l (n .first) slots base a p q
       → w ≡ slotAt slots (n .token) → ((u : ℕ) → only base b u ≡ (eqb w u || only base a u)) → Passed slots base a p b q t
@@ -125,18 +131,19 @@ module _ (slots : List ℕ) (base : ℕ) (a : List Bool) where
       record { set = λ v. B .set v ∙ ap (after (slotAt slots) v y) (A .set v); found = then-with (unsetIn slots base a x) _ _ (A .found) (read-then slots y _ (A .set) (B .found)) }
 
   pub nothing-passed : {l : List ℕ} {s : Sort} {i k : ℕ} {t : Ast s} (p : Option ℕ) → OfStmt s → At l s i k t → (k ≡ nDeclareFree → ⊥) → (k ≡ nAssign → ⊥) → (k ≡ nEval → ⊥) → (k ≡ nBlock → ⊥)
-      → (k ≡ nIfElse → ⊥) → (k ≡ nWhile → ⊥) → (k ≡ nReturn → ⊥) → (k ≡ nFail → ⊥) → Passed slots base a p a p t
+      → (k ≡ nIfElse → ⊥) → (k ≡ nWhile → ⊥) → (k ≡ nReturn → ⊥) → (k ≡ nFail → ⊥) → (k ≡ nDeclareOwn → ⊥) → Passed slots base a p a p t
   unfolding after unset leastWith
-  nothing-passed p statement (at-empty r) _ _ _ _ _ _ _ _ = record { set = λ v. refl; found = refl }
-  nothing-passed p statement (at-declare r) _ _ _ _ _ _ _ _ = record { set = λ v. refl; found = refl }
-  nothing-passed p statement (at-declare-free r) x _ _ _ _ _ _ _ = absurd (x refl)
-  nothing-passed p statement (at-assign r o c) _ x _ _ _ _ _ _ = absurd (x refl)
-  nothing-passed p statement (at-eval r o c) _ _ x _ _ _ _ _ = absurd (x refl)
-  nothing-passed p statement (at-block r o c) _ _ _ x _ _ _ _ = absurd (x refl)
-  nothing-passed p statement (at-if-else r o u w c d e) _ _ _ _ x _ _ _ = absurd (x refl)
-  nothing-passed p statement (at-while r o u c d) _ _ _ _ _ x _ _ = absurd (x refl)
-  nothing-passed p statement (at-return r o c) _ _ _ _ _ _ x _ = absurd (x refl)
-  nothing-passed p statement (at-fail r) _ _ _ _ _ _ _ x = absurd (x refl)
+  nothing-passed p statement (at-empty r) _ _ _ _ _ _ _ _ _ = record { set = λ v. refl; found = refl }
+  nothing-passed p statement (at-declare r) _ _ _ _ _ _ _ _ _ = record { set = λ v. refl; found = refl }
+  nothing-passed p statement (at-declare-free r) x _ _ _ _ _ _ _ _ = absurd (x refl)
+  nothing-passed p statement (at-declare-own r) _ _ _ _ _ _ _ _ x = absurd (x refl)
+  nothing-passed p statement (at-assign r o c) _ x _ _ _ _ _ _ _ = absurd (x refl)
+  nothing-passed p statement (at-eval r o c) _ _ x _ _ _ _ _ _ = absurd (x refl)
+  nothing-passed p statement (at-block r o c) _ _ _ x _ _ _ _ _ = absurd (x refl)
+  nothing-passed p statement (at-if-else r o u w c d e) _ _ _ _ x _ _ _ _ = absurd (x refl)
+  nothing-passed p statement (at-while r o u c d) _ _ _ _ _ x _ _ _ = absurd (x refl)
+  nothing-passed p statement (at-return r o c) _ _ _ _ _ _ x _ _ = absurd (x refl)
+  nothing-passed p statement (at-fail r) _ _ _ _ _ _ _ x _ = absurd (x refl)
 
   pub no-more-passed : {l : List ℕ} {s : Sort} {i k : ℕ} {t : Ast s} (p : Option ℕ) → OfRow s → At l s i k t → (k ≡ nBraced → ⊥) → (k ≡ nMoreStmts → ⊥) → Passed slots base a p a p t
   unfolding after unset leastWith

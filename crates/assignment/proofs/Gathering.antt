@@ -53,6 +53,7 @@ module _ (means : ℕ → ℕ) where
   after-set v (A.empty i) = refl
   after-set v (A.declare i) = refl
   after-set v (A.declareFree i) = or-true (eqb (means (i + 1)) v)
+  after-set v (A.declareOwn i a b) = or-true (eqb (means (i + 1)) v)
   after-set v (A.assign i e) = or-true (eqb (means i) v)
   after-set v (A.eval e) = refl
   after-set v (A.block i l) = after-set v l
@@ -126,6 +127,7 @@ module _ (means : ℕ → ℕ) where
     group-unset (A.empty i) h f = refl
     group-unset (A.declare i) h f = refl
     group-unset (A.declareFree i) h f = refl
+    group-unset (A.declareOwn i a b) h f = refl
     group-unset (A.assign i e) h f = group-unset e (omega arith) f
     group-unset (A.eval e) h f = group-unset e (omega arith) f
     group-unset (A.block i l) h f = group-unset l (omega arith) f

@@ -262,6 +262,10 @@ fn flow(
             let set = all();
             After { set, best }
         }
+        kind::DECLARE_OWN => {
+            let set = assign(set, base, word(slots, node.token + 1));
+            After { set, best }
+        }
         _ => After { set, best },
     }
 }

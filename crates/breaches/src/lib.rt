@@ -4,3 +4,4 @@ pub mod counts;
 pub mod depth;
 pub mod ends;
 pub mod mains;
+pub mod pairs;

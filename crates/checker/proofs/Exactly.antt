@@ -37,7 +37,7 @@ module _ (text : List ℕ) where
   unfolding rulesOf
   kept ts l t m p f =
       let k = unbroken (rulesOf (sourceOf text ts) (ast t)) f in
-      record { tokens = ts; tree = t; lexes = l; grammar = Q.kept (kinds ts) (token-list text ts l) p; depth = k 5; names = k 6; calls = k 7; main = k 8; ends = k 9; assigned = k 17; counts = k 10 }
+      record { tokens = ts; tree = t; lexes = l; grammar = Q.kept (kinds ts) (token-list text ts l) p; depth = k 5; names = k 6; calls = k 7; main = k 8; ends = k 9; assigned = k 17; counts = k 10; upward = k 18; narrow = k 19 }
 
   to : checked text ≡ accepted → KeepsRules text
   unfolding checked checkedTokens
@@ -54,7 +54,7 @@ module _ (text : List ℕ) where
 
   kept-all : (k : KeepsRules text) → AllKept (rulesOf (sourceOf text (k .tokens)) (ast (k .tree)))
   unfolding rulesOf
-  kept-all k = also-kept (k .depth) (also-kept (k .names) (also-kept (k .calls) (also-kept (k .main) (also-kept (k .ends) (also-kept (k .assigned) (also-kept (k .counts) none-kept))))))
+  kept-all k = also-kept (k .depth) (also-kept (k .names) (also-kept (k .calls) (also-kept (k .main) (also-kept (k .ends) (also-kept (k .assigned) (also-kept (k .counts) (also-kept (k .upward) (also-kept (k .narrow) none-kept))))))))
 
   from : KeepsRules text → checked text ≡ accepted
   unfolding checked checkedTokens

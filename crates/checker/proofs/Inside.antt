@@ -10,7 +10,7 @@ use lib.Dec.{eqb, leb, ltb}
 use Rattle.syntax.specs.Token.{kEnd}
 use Rattle.syntax.specs.Tree.{Tree, prog, width}
 use Rattle.syntax.specs.Ast as A
-use Rattle.syntax.specs.Ast.{Sort, Ast}
+use Rattle.syntax.specs.Ast.{Sort, Ast, lowFirst}
 use Rattle.syntax.specs.Abstract.{ast}
 use Rattle.grammar.specs.Text as G
 use Rattle.events.specs.Event.{Event, function, parameter, thing, opens, closes, declares, uses, calls, ends, events}
@@ -23,7 +23,9 @@ use Rattle.text_rules.specs.Scan.{scan, on, when}
 use Rattle.text_rules.specs.Rules.{Head, heads, deep, wrong, arityOf, miscounted, mains, withParameters, badMain, unended, Tally, tally, counted, over, functionOf}
 use Rattle.text_rules.specs.Names.{Scope, nowhere as outside, entered, sought, misnamed, unlessFound, ifFound, uncalled, repeated, badNames}
 use Rattle.text_rules.specs.Assigned.{unset}
-use Rattle.checker.specs.Check.{Source, sameIn, mainIn, endOf, meansIn, Rule, rulesOf}
+use Rattle.text_rules.specs.Own.{Own, own, owns, pairAt, breaching, isReversed, isWide}
+use Rattle.semantics.specs.Program.{Window}
+use Rattle.checker.specs.Check.{Source, sameIn, mainIn, endOf, valueIn, meansIn, Rule, rulesOf}
 
 -- every number is below m
 pub data Low (m : ℕ) : List ℕ → Type 0 where
@@ -230,6 +232,7 @@ module _ (m : ℕ) where
   low-unset means (A.empty i) set h = nil
   low-unset means (A.declare i) set h = nil
   low-unset means (A.declareFree i) set h = nil
+  low-unset means (A.declareOwn i a b) set h = nil
   low-unset means (A.assign i e) set h = low-unset means e _ (h .1)
   low-unset means (A.eval e) set h = low-unset means e _ h
   low-unset means (A.block i l) set h = low-unset means l _ (h .1)
@@ -246,6 +249,60 @@ module _ (m : ℕ) where
   low-unset means A.noFuns set h = nil
   low-unset means (A.moreFuns p f) set h = low-append (low-unset means p _ (h .0)) (low-unset means f _ (h .1))
 
+  -- ---- rules 18 and 19
+
+  -- every low end begins below m
+  data LowOwns : List Own → Type 0 where
+    no-owns : LowOwns []
+    one-own : {o : Own} {os : List Own} → o .token < m → LowOwns os → LowOwns (o ∷ os)
+
+  owns-append : {os qs : List Own} → LowOwns os → LowOwns qs → LowOwns (os ++ qs)
+  owns-append no-owns l = l
+  owns-append (one-own h k) l = one-own h (owns-append k l)
+
+  low-owns : {s : Sort} (t : Ast s) → Below m t → LowOwns (owns t)
+  unfolding owns Below
+  low-owns (A.declareOwn i a b) h = one-own {o = own (lowFirst i) a b} (omega (arith, h)) no-owns
+  low-owns (A.block i l) h = low-owns l (h .1)
+  low-owns (A.ifElse i c s t) h = owns-append (low-owns s (h .1 .1 .0)) (low-owns t (h .1 .1 .1))
+  low-owns (A.while i c s) h = low-owns s (h .1 .1)
+  low-owns A.noStmts h = no-owns
+  low-owns (A.moreStmts l s) h = owns-append (low-owns l (h .0)) (low-owns s (h .1))
+  low-owns (A.braced l j) h = low-owns l (h .0)
+  low-owns (A.function i p l) h = low-owns l (h .1 .1)
+  low-owns A.noFuns h = no-owns
+  low-owns (A.moreFuns p f) h = owns-append (low-owns p (h .0)) (low-owns f (h .1))
+  low-owns (A.empty i) h = no-owns
+  low-owns (A.declare i) h = no-owns
+  low-owns (A.declareFree i) h = no-owns
+  low-owns (A.assign i e) h = no-owns
+  low-owns (A.eval e) h = no-owns
+  low-owns (A.return i e) h = no-owns
+  low-owns (A.fail i) h = no-owns
+  low-owns (A.number i) h = no-owns
+  low-owns (A.negative i) h = no-owns
+  low-owns (A.name i) h = no-owns
+  low-owns (A.call i a) h = no-owns
+  low-owns (A.bracket i e) h = no-owns
+  low-owns (A.times x y) h = no-owns
+  low-owns (A.plus x y) h = no-owns
+  low-owns (A.minus x y) h = no-owns
+  low-owns A.noArgs h = no-owns
+  low-owns (A.moreArgs l e) h = no-owns
+  low-owns (A.cmpMark o) h = no-owns
+  low-owns A.always h = no-owns
+  low-owns A.never h = no-owns
+  low-owns (A.compare x o y) h = no-owns
+  low-owns (A.both c d) h = no-owns
+  low-owns (A.either c d) h = no-owns
+  low-owns A.noParams h = no-owns
+  low-owns (A.moreParams l i) h = no-owns
+
+  low-breaching : (value : ℕ → ℕ) (p : Window → Bool) {os : List Own} → LowOwns os → Low m (breaching value p os)
+  unfolding breaching
+  low-breaching value p no-owns = nil
+  low-breaching value p (one-own {o = o} h l) = low-append (low-when (p (pairAt value (o .token) (o .low) (o .high))) h) (low-breaching value p l)
+
 -- ---- all rules
 
 pub data Lows (m : ℕ) : List Rule → Type 0 where
@@ -261,7 +318,9 @@ rules-low m s p e b l =
     (also (low-main m (mainIn s) e (low-mains m (mainIn s) (low-heads m l)))
     (also (low-on m unended (low-unended m) l)
     (also (low-unset m (meansIn s p) p _ b)
-    (also (low-scan m counted over (low-over m) (tally 0 0 0) l) done))))))
+    (also (low-scan m counted over (low-over m) (tally 0 0 0) l)
+    (also (low-breaching m (valueIn s) isReversed (low-owns m p b))
+    (also (low-breaching m (valueIn s) isWide (low-owns m p b)) done))))))))
 
 -- a tree and its events name tokens of its text
 tree-low : (ks : List ℕ) (t : Tree prog) → G.KeepsGrammar ks t → Below (length ks) (ast t)

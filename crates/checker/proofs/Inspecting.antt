@@ -32,6 +32,6 @@ module _ (s : Source) (nodes events heads slots : List ℕ) (root e : ℕ) where
       (accepts (sym f) (record { total = t; listed = l; functions = k .0; means = k .1 }))
 
   pub inspected : {out : List ℕ} (j : Judged) → Walked nodes root out events e
-      → Judges (Standing nodes root (stored events e)) s (rulesOf s) slots heads j
+      → Judges (Standing (s .kinds) nodes root (stored events e)) s (rulesOf s) slots heads j
       → Inspected s nodes events heads slots root (concluded (s .places) (length (s .kinds)) root e j)
-  inspected j w g = record { inspects = λ p h b. let k : Standing nodes root (stored events e) p = record { holds = h; below = b; listed = w .holds p h } in by-cases p (w .total p h) (w .holds p h) j (g .fault p k) (g .known p k) }
+  inspected j w g = record { inspects = λ p h b o. let k : Standing (s .kinds) nodes root (stored events e) p = record { holds = h; below = b; shown = o; listed = w .holds p h } in by-cases p (w .total p h) (w .holds p h) j (g .fault p k) (g .known p k) }

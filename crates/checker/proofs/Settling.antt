@@ -19,7 +19,11 @@ use Rattle.events.proofs.Widths.{onto-length}
 use Rattle.events.proofs.Enough.{ready}
 use Rattle.events.proofs.Tokens.{numbered-below}
 use Rattle.checker.specs.Check.{Verdict, Source, checkedTokens}
+use Rattle.text_rules.specs.Own.{owns}
+use Rattle.text_rules.specs.Answers.{ownsFrom}
+use Rattle.text_rules.proofs.OwnTokens.{text-owns}
 use Rattle.checker.specs.Sizes.{TOKENS, NODES}
+use Rattle.checker.specs.Judge.{Shown}
 use Rattle.checker.specs.Analysis.{Inspects, Inspected, Settles, Lent}
 use Rattle.checker.specs.Analysis as N
 use Rattle.checker.specs.declared.Analysed.{Analysed}
@@ -54,16 +58,22 @@ few-tokens {ks} h r =
     let w : length ks ≡ width (r .tree) + 1 = ap length (k .tokens) ∙ onto-length (r .tree) (kEnd ∷ []) in
     subst (λ (t : Tree T.prog). Below TOKENS (ast t)) (sym (k .numbers)) (numbered-below 0 TOKENS (r .tree) (omega (arith, w, h .few)))
 
+-- the own pairs that these show are its own
+pub own-tokens : {ks nodes l events heads scope slots : List ℕ} {root : ℕ} → Lent ks nodes events heads scope slots → (r : Read l root (parsed ks)) → Shown ks (ast (r .tree))
+own-tokens {ks} h r =
+    let k = kept ks (h .tokens) (r .is) in
+    ap (ownsFrom 0) (k .tokens) ∙ text-owns (r .tree) ∙ ap (λ (t : Tree T.prog). owns (ast t)) (sym (k .numbers))
+
 module _ (s : Source) (nodes events heads slots : List ℕ) where
   pub settles-bad : {m : ℕ} → parsed (s .kinds) ≡ bad m → Settles s nodes events heads slots (Refused 4 (getD (s .places) m 0)) (checkedTokens s)
   unfolding checkedTokens
   settles-bad e = rw (e, checkedTokens) N.refuses
 
-  pub settles-tree : {root : ℕ} {r : Analysed} → (h : Read nodes root (parsed (s .kinds))) → Below TOKENS (ast (h .tree)) → length nodes ≡ NODES
+  pub settles-tree : {root : ℕ} {r : Analysed} → (h : Read nodes root (parsed (s .kinds))) → Below TOKENS (ast (h .tree)) → Shown (s .kinds) (ast (h .tree)) → length nodes ≡ NODES
       → Inspected s nodes events heads slots root r
       → Settles s nodes events heads slots r (checkedTokens s)
   unfolding checkedTokens
-  settles-tree {root} {r} h b f g = rw (h .is, checkedTokens) (go (g .inspects (ast (h .tree)) (h .holds) b))
+  settles-tree {root} {r} h b o f g = rw (h .is, checkedTokens) (go (g .inspects (ast (h .tree)) (h .holds) b o))
     where
       go : {r : Analysed} {v : Verdict} → Inspects s events heads slots root (ast (h .tree)) r v → Settles s nodes events heads slots r v
       go N.Inspects.refuses = N.refuses

@@ -14,7 +14,7 @@ use Rattle.semantics.specs.Demand.{_∈_}
 use Rattle.checker.specs.Check.{Source, Rule, rulesOf, Fault, orElse, firstBroken}
 
 -- THEOREM. The order of checking: two rules that change places fail here.
-pub rule-numbers : (s : Source) (p : Ast A.prog) → map (λ r. r .number) (rulesOf s p) ≡ 5 ∷ 6 ∷ 7 ∷ 8 ∷ 9 ∷ 17 ∷ 10 ∷ []
+pub rule-numbers : (s : Source) (p : Ast A.prog) → map (λ r. r .number) (rulesOf s p) ≡ 5 ∷ 6 ∷ 7 ∷ 8 ∷ 9 ∷ 17 ∷ 10 ∷ 18 ∷ 19 ∷ []
 unfolding rulesOf
 rule-numbers s p = refl
 

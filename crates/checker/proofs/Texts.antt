@@ -4,13 +4,15 @@ use mathlib.Core.Path.{_≡_, refl}
 use mathlib.Core.List.{List, [], _∷_, map}
 use Rattle.lexer.specs.Lex.{bytes, lexed, noneLarge, scan, front, valueOf, decimal, digitsOf, longestWithin, kindOf, grouped, kindIn, same, all}
 use Rattle.syntax.specs.Abstract.{ast}
-use Rattle.grammar.specs.Parse.{readText, moreProg, readFun, readParams, moreParams, readStmt, readDecl, readBlock, readEnded, readFail, readGuard, readNamed, readIf, readWhile, moreBody, readCond, moreCond, readConj, moreConj, readAtom, readCmp, readSum, moreSum, readTerm, moreTerm, readOperand, readBracket, readCall, readArgs, moreArgs}
+use Rattle.grammar.specs.Parse.{readText, moreProg, readFun, readParams, moreParams, readStmt, readOwn, readDecl, readBlock, readEnded, readFail, readGuard, readNamed, readIf, readWhile, moreBody, readCond, moreCond, readConj, moreConj, readAtom, readCmp, readSum, moreSum, readTerm, moreTerm, readOperand, readBracket, readCall, readArgs, moreArgs}
 use Rattle.events.specs.Event.{events, eventsAt, stops, count, first}
 use Rattle.text_rules.specs.Scan as R
 use Rattle.text_rules.specs.Scan.{on, least, lesser}
 use Rattle.text_rules.specs.Rules.{deep, parameters, heads, functionOf, arityOf, wrong, miscounted, mains, withParameters, badMain, unended, counted, over}
 use Rattle.text_rules.specs.Names.{declared, outer, entered, inBlock, sought, misnamed, uncalled, repeated, named, meant}
 use Rattle.text_rules.specs.Assigned.{parameterCount, atEnd, after, unset}
+use Rattle.text_rules.specs.Own.{owns, breaching}
+use Rattle.semantics.specs.Run.{numbers, counting, clamp}
 use Rattle.checker.specs.Check.{Verdict, accepted, refused, rulesOf, firstBroken, checkedTokens, checked}
 
 pub record Case : Type 0 where
@@ -31,11 +33,14 @@ table =
     ∷ case "int main() { int x; if (1 < 2) x = 1; else ; return x; }" (refused 17 52)
     ∷ case "int main() { int x; if (true || x < 1) x = 1; else ; return x; }" accepted
     ∷ case "int main() { int x; while (true) ; return x; }" accepted
+    ∷ case "int main() { int x free -5..-4; return x; }" accepted
+    ∷ case "int main() { int x free 5; return x; }" (refused 4 25)
+    ∷ case "int main() { int x free 0 .. 9; int y free -5 .. -6; return x; }" (refused 18 43)
     ∷ []
 
 unfoldable pub given : Case → Verdict
 given c = checked (bytes (c .text))
 
 pub right : map given table ≡ map (λ c. c .answer) table
-unfolding given checked lexed noneLarge scan front valueOf decimal digitsOf longestWithin kindOf grouped kindIn same all ast readText moreProg readFun readParams moreParams readStmt readDecl readBlock readEnded readFail readGuard readNamed readIf readWhile moreBody readCond moreCond readConj moreConj readAtom readCmp readSum moreSum readTerm moreTerm readOperand readBracket readCall readArgs moreArgs events eventsAt stops count first on R.scan least lesser deep parameters heads functionOf arityOf wrong miscounted mains withParameters badMain unended counted over declared outer entered inBlock sought misnamed uncalled repeated named meant parameterCount atEnd after unset rulesOf firstBroken checkedTokens
+unfolding given checked lexed noneLarge scan front valueOf decimal digitsOf longestWithin kindOf grouped kindIn same all ast readText moreProg readFun readParams moreParams readStmt readOwn readDecl readBlock readEnded readFail readGuard readNamed readIf readWhile moreBody readCond moreCond readConj moreConj readAtom readCmp readSum moreSum readTerm moreTerm readOperand readBracket readCall readArgs moreArgs events eventsAt stops count first on R.scan least lesser deep parameters heads functionOf arityOf wrong miscounted mains withParameters badMain unended counted over declared outer entered inBlock sought misnamed uncalled repeated named meant parameterCount atEnd after unset owns breaching numbers counting clamp rulesOf firstBroken checkedTokens
 right = refl

@@ -14,7 +14,8 @@ use Rattle.text_rules.specs.Spelling.{sameName, isMain}
 use Rattle.text_rules.specs.Rules.{tooDeep, miscalls, mainless, openEnds, tooMany}
 use Rattle.text_rules.specs.Names.{badNames}
 use Rattle.text_rules.specs.Assigned.{unassigned}
-use Rattle.checker.specs.Check.{kinds, places, values, sourceOf, meansIn}
+use Rattle.text_rules.specs.Own.{reversed, tooWide}
+use Rattle.checker.specs.Check.{kinds, places, values, sourceOf, valueIn, meansIn}
 
 -- "a text is accepted exactly if it keeps the grammar and every other rule": it has tokens, they are the tokens of a tree, and nothing in the tree breaks a rule
 pub record KeepsRules (text : List ℕ) : Type 0 where
@@ -30,3 +31,5 @@ pub record KeepsRules (text : List ℕ) : Type 0 where
   pub ends : openEnds (events (ast tree)) ≡ []
   pub assigned : unassigned (meansIn (sourceOf text tokens) (ast tree)) (ast tree) ≡ []
   pub counts : tooMany (events (ast tree)) ≡ []
+  pub upward : reversed (valueIn (sourceOf text tokens)) (ast tree) ≡ []
+  pub narrow : tooWide (valueIn (sourceOf text tokens)) (ast tree) ≡ []

@@ -19,7 +19,7 @@ use Rattle.events.specs.Walk.{Below}
 use Rattle.text_rules.specs.Rules as R
 use Rattle.text_rules.specs.Answers.{storedHeads}
 use Rattle.checker.specs.Check.{Verdict, accepted, refused, Source, source, rulesOf, firstBroken, verdict}
-use Rattle.checker.specs.Judge.{Meant}
+use Rattle.checker.specs.Judge.{Meant, Shown}
 use Rattle.checker.specs.Sizes.{TOKENS, NODES, EVENTS, HEADS, SCOPE}
 use Rattle.checker.specs.declared.Judged.{Judged}
 use Rattle.checker.specs.declared.Judged.the-variants.{Broken, Kept}
@@ -74,7 +74,7 @@ pub data Inspects (s : Source) (events heads slots : List ℕ) (root : ℕ) (p :
   accepts : {e h : ℕ} → firstBroken (rulesOf s p) ≡ none → Kept′ s events heads slots p e h → Inspects s events heads slots root p (Fine (length (s .kinds)) root e h) accepted
 
 pub record Inspected (s : Source) (nodes events heads slots : List ℕ) (root : ℕ) (r : Analysed) : Type 0 where
-  pub inspects : (p : Ast A.prog) → Holds nodes root p → Below TOKENS p → Inspects s events heads slots root p r (verdict (s .places) (firstBroken (rulesOf s p)))
+  pub inspects : (p : Ast A.prog) → Holds nodes root p → Below TOKENS p → Shown (s .kinds) p → Inspects s events heads slots root p r (verdict (s .places) (firstBroken (rulesOf s p)))
 
 -- what is lent for a text's tokens ks: a token list, room for the tree, its events, its functions, its scope and what its names mean, which is nothing yet
 pub record Lent (ks nodes events heads scope slots : List ℕ) : Type 0 where

@@ -17,6 +17,7 @@ use Rattle.text_rules.specs.Spelling.{sameName, isMain}
 use Rattle.text_rules.specs.Rules.{heads, tooDeep, miscalls, mainless, openEnds, tooMany}
 use Rattle.text_rules.specs.Names.{badNames, meanings, meant}
 use Rattle.text_rules.specs.Assigned.{unassigned}
+use Rattle.text_rules.specs.Own.{reversed, tooWide}
 use Rattle.text_rules.specs.Resolve.{resolved}
 use Rattle.semantics.specs.Program.{Program}
 
@@ -58,6 +59,10 @@ mainIn s = isMain (s .text) (s .places) (s .values)
 abbrev pub endOf : Source → ℕ
 endOf s = length (s .kinds) - 1
 
+-- the value of a token
+abbrev pub valueIn : Source → ℕ → ℕ
+valueIn s i = getD (s .values) i 0
+
 -- what the name at a token means, in a text with the tree p: the slot of a variable, or the number of a function
 abbrev pub meansIn : Source → Ast A.prog → ℕ → ℕ
 meansIn s p = meant (λ i. 0) (meanings (sameIn s) (events p))
@@ -81,6 +86,8 @@ rulesOf s p =
     ∷ rule 9 (openEnds es)
     ∷ rule 17 (unassigned (meansIn s p) p)
     ∷ rule 10 (tooMany es)
+    ∷ rule 18 (reversed (valueIn s) p)
+    ∷ rule 19 (tooWide (valueIn s) p)
     ∷ []
 
 -- a rule that is broken: its number, and the first token that breaks it
@@ -118,4 +125,4 @@ checked text = elim (lexed text) [ L.refused n p ↦ refused n p | L.tokens ts �
 unfoldable pub programOf : List ℕ → List Token → Tree prog → Program
 programOf text ts t =
     let s = sourceOf text ts in
-    resolved (λ i. getD (values ts) i 0) (meansIn s (ast t)) (mainIn s) (heads (events (ast t))) (ast t)
+    resolved (valueIn s) (meansIn s (ast t)) (mainIn s) (heads (events (ast t))) (ast t)

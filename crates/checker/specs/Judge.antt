@@ -12,7 +12,8 @@ use Rattle.events.specs.Walk.{Below}
 use Rattle.syntax.specs.Table.{Holds}
 use Rattle.text_rules.specs.Rules as R
 use Rattle.text_rules.specs.Assigned.{unassigned}
-use Rattle.text_rules.specs.Answers.{headWords, storedHeads}
+use Rattle.text_rules.specs.Own.{owns}
+use Rattle.text_rules.specs.Answers.{headWords, storedHeads, ownsFrom}
 use Rattle.scopes.specs.Memory.{scopeWords}
 use Rattle.checker.specs.Check.{Source, meansIn, Rule, rulesOf, Fault, fault, firstBroken}
 use Rattle.checker.specs.Sizes.{TOKENS}
@@ -32,6 +33,7 @@ lastRules s p = drop 5 (rulesOf s p)
 -- what is lent for n events: a token at least, room for as many functions and as many names that can be seen, and no name means anything yet
 pub record Judgeable (kinds events : List ℕ) (n : ℕ) (heads scope slots : List ℕ) : Type 0 where
   pub tokens : 0 < length kinds
+  pub short : length kinds ≤ TOKENS
   pub listed : eventWords * n ≤ length events
   pub functions : headWords * n ≤ length heads
   pub names : scopeWords * n ≤ length scope
@@ -57,20 +59,26 @@ abbrev pub Understands : Source → Ast A.prog → (slots heads : List ℕ) → 
 Understands s p slots heads (Broken n i) = Unit
 Understands s p slots heads (Kept h) = (storedHeads heads h ≡ R.heads (events p)) × Meant s p slots
 
+-- the declarations with their own pair that the tokens show are those of a program p
+abbrev pub Shown : List ℕ → Ast A.prog → Type 0
+Shown kinds p = ownsFrom 0 kinds ≡ owns p
+
 -- what is known of a program p: its events are these
 abbrev pub Listed : List Event → Ast A.prog → Type 0
 Listed es p = es ≡ events p
 
 -- it stands at node `root`, and its tokens are among those of a text
-pub record Standing (nodes : List ℕ) (root : ℕ) (es : List Event) (p : Ast A.prog) : Type 0 where
+pub record Standing (kinds nodes : List ℕ) (root : ℕ) (es : List Event) (p : Ast A.prog) : Type 0 where
   pub holds : Holds nodes root p
   pub below : Below TOKENS p
+  pub shown : Shown kinds p
   pub listed : Listed es p
 
 -- it stands at node `root`, and rule 17 finds the same whether these words or the definition say what its names mean
 pub record Readable (s : Source) (nodes : List ℕ) (root : ℕ) (slots : List ℕ) (es : List Event) (p : Ast A.prog) : Type 0 where
   pub holds : Holds nodes root p
   pub means : unassigned (λ i. getD slots i 0) p ≡ unassigned (meansIn s p) p
+  pub shown : Shown (s .kinds) p
   pub listed : Listed es p
 
 -- what the rules `of` say of every program of which this is known, where h functions are there

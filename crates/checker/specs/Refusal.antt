@@ -40,7 +40,7 @@ pub data Refusal (text : List ℕ) : (number place : ℕ) → Type 0 where
   too-large : {ts : List Token} {p : ℕ} → length text ≤ 2048 → Scans text 0 (found ts) → FirstLarge ts p → Refusal text 3 p
   -- "4 the first token that no program could have there, the end being a token at the text's length"
   no-program : {ts : List Token} {m : ℕ} → lexed text ≡ L.tokens ts → First-bad (kinds ts) m → Refusal text 4 (getD (places ts) m 0)
-  -- the numbers of the table, 5 to 10 and 17: the text keeps the grammar, its tokens being those of a tree, which breaks one of the rules
+  -- the numbers of the table, 5 to 10 and 17 to 19: the text keeps the grammar, its tokens being those of a tree, which breaks one of the rules
   breaks-rule : {ts : List Token} {t : Tree prog} {n p : ℕ} → lexed text ≡ L.tokens ts → G.KeepsGrammar (kinds ts) t
       → Breaks ts (rulesOf (sourceOf text ts) (ast t)) n p
       → Refusal text n p

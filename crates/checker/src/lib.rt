@@ -2,6 +2,8 @@
 ghost use mathlib.Core.Path.{_≡_};
 ghost use Prim.Native.Nat.{_*_, _≤_, _<_};
 ghost use lib.ListN.{length, replicate};
+ghost use mathlib.Core.List.{List};
+ghost use Prim.Native.Nat.{ℕ};
 ghost use Rattle.events.specs.Stored.{eventWords, stored};
 ghost use Rattle.syntax.specs.Ast.{prog};
 ghost use Rattle.events.specs.Walk.{Ready, Rooted};
@@ -9,7 +11,7 @@ ghost use Rattle.text_rules.specs.Rules as R;
 ghost use Rattle.text_rules.specs.Answers.{headWords, storedHeads};
 ghost use Rattle.checker.specs.Sizes.{TOKENS, EVENTS, HEADS, SCOPE};
 ghost use Rattle.checker.specs.Judge.{firstRules, functionRules, lastRules, Judgeable, Listed, Standing, Readable, Judges, JudgesPart};
-ghost use Rattle.checker.specs.Check.{Source, source, rulesOf, checkedTokens, checked};
+ghost use Rattle.checker.specs.Check.{source, rulesOf, checkedTokens, checked};
 ghost use Rattle.checker.specs.Analysis.{concluded, Inspected, Lent, Settles, Slices, Analyses, verdictOf};
 use grammar::Parsed;
 use lexer::Lexed;
@@ -85,8 +87,10 @@ fn judge_first(
     judge_functions(text, kinds, places, values, events, n, heads, h)
 }
 
-// The rules after 9, of n events of a text with h functions that keeps the rules 5 to 9, whose tree stands at node `root` and whose names mean `slots`.
+// The rules after 9, of the tokens and n events of a text with h functions that keeps the rules 5 to 9, whose tree stands at node `root` and whose names mean `slots`.
 fn judge_last(
+    kinds: &[u8],
+    values: &[u32],
     nodes: &[u32],
     root: usize,
     slots: &[u32],
@@ -94,14 +98,22 @@ fn judge_last(
     n: usize,
     h: usize,
 ) -> Judged
-    requires { ⌜ Rooted prog (now nodes) root × (eventWords * n ≤ length (now events)) ⌝ }
-    ensures { λ r. ⌜ ((s : Source) → JudgesPart (Readable s (now (nodes .entry)) root (now (slots .entry)) (stored (now (events .entry)) n)) (lastRules s) h r) ⌝ }
+    requires { ⌜ (length (now kinds) ≤ TOKENS) × Rooted prog (now nodes) root × (eventWords * n ≤ length (now events)) ⌝ }
+    ensures { λ r. ⌜ ((text places : List ℕ)
+        → JudgesPart (Readable (source text (now (kinds .entry)) places (now (values .entry))) (now (nodes .entry)) root (now (slots .entry)) (stored (now (events .entry)) n))
+        (lastRules (source text (now (kinds .entry)) places (now (values .entry)))) h r) ⌝ }
 {
     if let Broken::At(i) = assignment::unassigned(nodes, root, slots) {
         return Judged::Broken(17, i);
     }
     if let Broken::At(i) = breaches::counts::too_many(events, n) {
         return Judged::Broken(10, i);
+    }
+    if let Broken::At(i) = breaches::pairs::bad_pair(kinds, values, false) {
+        return Judged::Broken(18, i);
+    }
+    if let Broken::At(i) = breaches::pairs::bad_pair(kinds, values, true) {
+        return Judged::Broken(19, i);
     }
     Judged::Kept(h)
 }
@@ -121,7 +133,7 @@ fn judge(
     slots: &mut [u32],
 ) -> Judged
     requires { ⌜ Rooted prog (now nodes) root × Judgeable (now kinds) (now events) n (now heads) (now scope) (now slots) ⌝ }
-    ensures { λ r. ⌜ Judges (Standing (now (nodes .entry)) root (stored (now (events .entry)) n))
+    ensures { λ r. ⌜ Judges (Standing (now (kinds .entry)) (now (nodes .entry)) root (stored (now (events .entry)) n))
         (source (now (text .entry)) (now (kinds .entry)) (now (places .entry)) (now (values .entry)))
         (rulesOf (source (now (text .entry)) (now (kinds .entry)) (now (places .entry)) (now (values .entry)))) (now (slots .exit)) (now (heads .exit)) r ⌝ }
 {
@@ -129,7 +141,7 @@ fn judge(
     let Judged::Kept(h) = first else {
         return first;
     };
-    judge_last(nodes, root, slots, events, n, h)
+    judge_last(kinds, values, nodes, root, slots, events, n, h)
 }
 
 // What an analysis answers: a refusal's number and place, or the count of tokens, the root of the tree, the count of events and the count of functions.
@@ -178,7 +190,7 @@ fn inspect(
     slots: &mut [u32],
 ) -> Analysed
     requires { ⌜ Ready (now nodes) root (now events) × (length (now events) ≡ EVENTS)
-        × (HEADS ≤ length (now heads)) × (SCOPE ≤ length (now scope)) × (0 < length (now kinds)) × (now slots ≡ replicate TOKENS 0) ⌝ }
+        × (HEADS ≤ length (now heads)) × (SCOPE ≤ length (now scope)) × (0 < length (now kinds)) × (length (now kinds) ≤ TOKENS) × (now slots ≡ replicate TOKENS 0) ⌝ }
     ensures { λ r. ⌜ Inspected (source (now (text .entry)) (now (kinds .entry)) (now (places .entry)) (now (values .entry)))
         (now (nodes .entry)) (now (events .exit)) (now (heads .exit)) (now (slots .exit)) root r ⌝ }
 {

@@ -1,15 +1,19 @@
 -- What stands in slices for the values and meanings of tokens need only agree with them below the count of tokens: then the tree is as sound, and its program is the same.
 use Prim.Native.Nat.{ℕ, suc, _+_, _<_}
-use mathlib.Core.Path.{_≡_, refl, ap, ap₂, _∙_}
+use mathlib.Core.Path.{_≡_, refl, ap, ap₂, _∙_, subst}
+use mathlib.Core.Bool.{Bool}
 use mathlib.Core.Option.{Option}
 use mathlib.Core.List.{List, _∷_}
 use native.Mathlib.Omega.{arith}
 use lib.IntN.{pos, _-ℤ_}
-use Rattle.syntax.specs.Ast.{Sort, Ast, prog}
+use lib.Dec.{T}
+use lib.Signed.{leZ}
+use Rattle.syntax.specs.Ast.{Sort, Ast, prog, lowFirst, lowNumber, highNumber}
 use Rattle.syntax.specs.Ast as A
 use Rattle.semantics.specs.Int.{add, sub, mul}
 use Rattle.semantics.specs.Program as P
 use Rattle.semantics.specs.Program.{Expr, Exprs, Cond, Stmt, Stmts, slot}
+use Rattle.text_rules.specs.Own.{signed, pairAt}
 use Rattle.text_rules.specs.Resolve.{Part, part, comparison}
 use Rattle.compiler.specs.Sound.{Sound}
 use Rattle.events.specs.Walk.{Below}
@@ -30,6 +34,10 @@ SameAs A.body x y = x ≡ y
 SameAs A.params x y = x ≡ y
 SameAs A.fun x y = x ≡ y
 SameAs A.prog f g = (bs : List Stmts) → f bs ≡ g bs
+
+-- ends with the same numbers go upward alike
+ends-same : (a b : Bool) {x x′ y y′ : ℕ} → x ≡ x′ → y ≡ y′ → T (leZ (signed a x) (signed b y)) → T (leZ (signed a x′) (signed b y′))
+ends-same a b {x′ = x′} {y = y} p q h = subst (λ (z : ℕ). T (leZ (signed a x′) (signed b z))) q (subst (λ (z : ℕ). T (leZ (signed a z) (signed b y))) p h)
 
 module _ (m : ℕ) (value means value′ means′ : ℕ → ℕ) (v : Agree m value value′) (n : Agree m means means′) where
   pub sound-same : {s : Sort} (t : Ast s) → Sound m value means t → Sound m value′ means′ t
@@ -53,6 +61,10 @@ module _ (m : ℕ) (value means value′ means′ : ℕ → ℕ) (v : Agree m va
   sound-same (A.empty i) h = tt
   sound-same (A.declare i) h = tt
   sound-same (A.declareFree i) h = (h .0, omega (arith, h .1, n .at (i + 1) (h .0)))
+  sound-same (A.declareOwn i a b) h =
+      let l = v .at (lowNumber (lowFirst i) a) (omega (arith, h .0)) in
+      let r = v .at (highNumber (lowFirst i) a b) (h .0) in
+      (h .0, omega (arith, h .1, n .at (i + 1) (omega (arith, h .0))), omega (arith, h .2, l), omega (arith, h .3, r), ends-same a b l r (h .4))
   sound-same (A.assign i e) h = (h .0, omega (arith, h .1, n .at (i) (h .0)), sound-same e (h .2))
   sound-same (A.eval e) h = sound-same e h
   sound-same (A.block i b) h = sound-same b h
@@ -90,6 +102,9 @@ module _ (m : ℕ) (value means value′ means′ : ℕ → ℕ) (v : Agree m va
   part-same (A.empty i) w = refl
   part-same (A.declare i) w = ap (λ (k : ℕ). P.declare (slot k)) (n .at (i + 1) w)
   part-same (A.declareFree i) w = ap (λ (k : ℕ). P.unknown (slot k) Option.none) (n .at (i + 1) w)
+  part-same (A.declareOwn i a b) w =
+      ap (λ (k : ℕ). P.unknown (slot k) (Option.some (pairAt value (lowFirst i) a b))) (n .at (i + 1) (omega (arith, w)))
+      ∙ ap₂ (λ (x y : ℕ). P.unknown (slot (means′ (i + 1))) (Option.some (record { low = signed a x; high = signed b y }))) (v .at (lowNumber (lowFirst i) a) (omega (arith, w))) (v .at (highNumber (lowFirst i) a b) w)
   part-same (A.assign i e) w = ap₂ (λ (k : ℕ) (x : Expr). P.assign (slot k) x) (n .at i (w .0)) (part-same e (w .1))
   part-same (A.eval e) w = ap (λ (x : Expr). P.eval x) (part-same e w)
   part-same (A.block i b) w = ap (λ (x : Stmts). P.block x) (part-same b (w .1))

@@ -7,7 +7,7 @@ use native.Mathlib.Omega.{arith}
 use lib.ListN.{length, length-map}
 use Rattle.syntax.specs.Tree.{Tree, width, numbered}
 use Rattle.syntax.specs.Tree as T
-use Rattle.syntax.specs.Ast.{Sort, Ast, prog}
+use Rattle.syntax.specs.Ast.{Sort, Ast, prog, lowFirst, lowNumber, highNumber}
 use Rattle.syntax.specs.Ast as A
 use Rattle.syntax.specs.Abstract.{ast}
 use Rattle.syntax.specs.Table.{nodeWords, Holds}
@@ -17,6 +17,7 @@ use Rattle.events.proofs.Rising.{text-rises}
 use Rattle.events.proofs.Tokens.{numbered-below}
 use Rattle.text_rules.specs.Rules.{heads, miscalls, mainless, tooMany}
 use Rattle.text_rules.specs.Names.{badNames, meant, meanings}
+use Rattle.text_rules.specs.Own.{owns}
 use Rattle.text_rules.specs.Resolve.{part, mainOf, resolved}
 use Rattle.semantics.specs.Program.{Stmts}
 use Rattle.simulation.specs.Code.{codeOf}
@@ -29,8 +30,25 @@ use Rattle.compiler.proofs.Agreeing.{sound-same, part-same}
 use Rattle.compiler.proofs.Lengths.{code-short}
 use Rattle.compiler.proofs.Meanings.{AllGood, good}
 use Rattle.compiler.proofs.Placing.{fits-program, placed-code}
+use Rattle.simulation.proofs.Placed.{Upward}
+use Rattle.text_rules.proofs.Pairs.{Each, each-front, each-back}
 use Rattle.text_rules.proofs.Counts.{few-functions, main-lt}
 use Rattle.text_rules.proofs.Programs.{functions, headOf, heads-are, bodies-are}
+
+-- ---- own pairs that go upward
+
+-- those of what is a statement or holds some; nothing else has any
+abbrev Upwards : (value : ℕ → ℕ) (s : Sort) → Ast s → Type 0
+Upwards value A.expr t = Unit {0}
+Upwards value A.args t = Unit {0}
+Upwards value A.mark t = Unit {0}
+Upwards value A.cond t = Unit {0}
+Upwards value A.params t = Unit {0}
+Upwards value A.stmt t = Each Upward value (owns t)
+Upwards value A.stmts t = Each Upward value (owns t)
+Upwards value A.body t = Each Upward value (owns t)
+Upwards value A.fun t = Each Upward value (owns t)
+Upwards value A.prog t = Each Upward value (owns t)
 
 -- ---- good events
 
@@ -49,55 +67,56 @@ module _ (means : ℕ → ℕ) where
   -- ---- a tree whose events are good is sound
 
   module _ (m : ℕ) (value : ℕ → ℕ) (small : (i : ℕ) → i < m → value i < 2147483648) where
-    pub sound : {s : Sort} (d : ℕ) (t : Ast s) → Below m t → All (eventsAt d t) → Sound m value means t
-    unfolding eventsAt Below Sound
-    sound d (A.number i) w h = (w, small i w)
-    sound d (A.negative i) w h = (w, small (i + 1) w)
-    sound d (A.name i) w h = (w, h .0)
-    sound d (A.call i a) w h = (w .0, h .0 .0, h .0 .1, sound (suc d) a (w .1) (h .1))
-    sound d (A.bracket i e) w h = sound (suc d) e (w .1) (h .1)
-    sound d (A.times a b) w h = (sound d a (w .0) (front (eventsAt d a) (eventsAt d b) h), sound d b (w .1) (back (eventsAt d a) (eventsAt d b) h))
-    sound d (A.plus a b) w h = (sound d a (w .0) (front (eventsAt d a) (eventsAt d b) h), sound d b (w .1) (back (eventsAt d a) (eventsAt d b) h))
-    sound d (A.minus a b) w h = (sound d a (w .0) (front (eventsAt d a) (eventsAt d b) h), sound d b (w .1) (back (eventsAt d a) (eventsAt d b) h))
-    sound d A.noArgs w h = tt
-    sound d (A.moreArgs l e) w h = (sound d l (w .0) (front (eventsAt d l) (thing d (first e) ∷ eventsAt d e) h), sound d e (w .1) (back (eventsAt d l) (thing d (first e) ∷ eventsAt d e) h .1))
-    sound d (A.cmpMark o) w h = tt
-    sound d A.always w h = tt
-    sound d A.never w h = tt
-    sound d (A.compare a o b) w h = (sound d a (w .0) (front (eventsAt d a) (eventsAt d b) h), sound d b (w .1) (back (eventsAt d a) (eventsAt d b) h))
-    sound d (A.both a b) w h = (sound d a (w .0) (front (eventsAt d a) (eventsAt d b) h), sound d b (w .1) (back (eventsAt d a) (eventsAt d b) h))
-    sound d (A.either a b) w h = (sound d a (w .0) (front (eventsAt d a) (eventsAt d b) h), sound d b (w .1) (back (eventsAt d a) (eventsAt d b) h))
-    sound d (A.empty i) w h = tt
-    sound d (A.declare i) w h = tt
-    sound d (A.declareFree i) w h = (w, h .1 .0)
-    sound d (A.assign i e) w h = (w .0, h .1 .0, sound d e (w .1) (h .1 .1))
-    sound d (A.eval e) w h = sound d e w (h .1)
-    sound d (A.block i b) w h = sound (suc d) b (w .1) (h .1)
-    sound d (A.ifElse i c s t) w h =
+    pub sound : {s : Sort} (d : ℕ) (t : Ast s) → Below m t → All (eventsAt d t) → Upwards value s t → Sound m value means t
+    unfolding eventsAt Below Sound owns Each
+    sound d (A.number i) w h y = (w, small i w)
+    sound d (A.negative i) w h y = (w, small (i + 1) w)
+    sound d (A.name i) w h y = (w, h .0)
+    sound d (A.call i a) w h y = (w .0, h .0 .0, h .0 .1, sound (suc d) a (w .1) (h .1) tt)
+    sound d (A.bracket i e) w h y = sound (suc d) e (w .1) (h .1) tt
+    sound d (A.times a b) w h y = (sound d a (w .0) (front (eventsAt d a) (eventsAt d b) h) tt, sound d b (w .1) (back (eventsAt d a) (eventsAt d b) h) tt)
+    sound d (A.plus a b) w h y = (sound d a (w .0) (front (eventsAt d a) (eventsAt d b) h) tt, sound d b (w .1) (back (eventsAt d a) (eventsAt d b) h) tt)
+    sound d (A.minus a b) w h y = (sound d a (w .0) (front (eventsAt d a) (eventsAt d b) h) tt, sound d b (w .1) (back (eventsAt d a) (eventsAt d b) h) tt)
+    sound d A.noArgs w h y = tt
+    sound d (A.moreArgs l e) w h y = (sound d l (w .0) (front (eventsAt d l) (thing d (first e) ∷ eventsAt d e) h) tt, sound d e (w .1) (back (eventsAt d l) (thing d (first e) ∷ eventsAt d e) h .1) tt)
+    sound d (A.cmpMark o) w h y = tt
+    sound d A.always w h y = tt
+    sound d A.never w h y = tt
+    sound d (A.compare a o b) w h y = (sound d a (w .0) (front (eventsAt d a) (eventsAt d b) h) tt, sound d b (w .1) (back (eventsAt d a) (eventsAt d b) h) tt)
+    sound d (A.both a b) w h y = (sound d a (w .0) (front (eventsAt d a) (eventsAt d b) h) tt, sound d b (w .1) (back (eventsAt d a) (eventsAt d b) h) tt)
+    sound d (A.either a b) w h y = (sound d a (w .0) (front (eventsAt d a) (eventsAt d b) h) tt, sound d b (w .1) (back (eventsAt d a) (eventsAt d b) h) tt)
+    sound d (A.empty i) w h y = tt
+    sound d (A.declare i) w h y = tt
+    sound d (A.declareFree i) w h y = (w, h .1 .0)
+    sound d (A.declareOwn i a b) w h y = (w, h .1 .0, small (lowNumber (lowFirst i) a) (omega (arith, w)), small (highNumber (lowFirst i) a b) w, y .0)
+    sound d (A.assign i e) w h y = (w .0, h .1 .0, sound d e (w .1) (h .1 .1) tt)
+    sound d (A.eval e) w h y = sound d e w (h .1) tt
+    sound d (A.block i b) w h y = sound (suc d) b (w .1) (h .1) y
+    sound d (A.ifElse i c s t) w h y =
         let xs = thing d i ∷ eventsAt d c in
         let ys = opens ∷ eventsAt (suc d) s in
         let zs = closes ∷ opens ∷ eventsAt (suc d) t in
         let u = front ((xs ++ ys) ++ zs) (closes ∷ []) h in
         let v = front (xs ++ ys) zs u in
-        (sound d c (w .1 .0) (front xs ys v .1), sound (suc d) s (w .1 .1 .0) (back xs ys v .1), sound (suc d) t (w .1 .1 .1) (back (xs ++ ys) zs u .1 .1))
-    sound d (A.while i c s) w h =
+        (sound d c (w .1 .0) (front xs ys v .1) tt, sound (suc d) s (w .1 .1 .0) (back xs ys v .1) (each-front Upward value (owns s) (owns t) y), sound (suc d) t (w .1 .1 .1) (back (xs ++ ys) zs u .1 .1) (each-back Upward value (owns s) (owns t) y))
+    sound d (A.while i c s) w h y =
         let xs = thing d i ∷ eventsAt d c in
         let ys = opens ∷ eventsAt (suc d) s in
         let u = front (xs ++ ys) (closes ∷ []) h in
-        (sound d c (w .1 .0) (front xs ys u .1), sound (suc d) s (w .1 .1) (back xs ys u .1))
-    sound d (A.return i e) w h = sound d e (w .1) (h .1)
-    sound d (A.fail i) w h = tt
-    sound d A.noStmts w h = tt
-    sound d (A.moreStmts l s) w h = (sound d l (w .0) (front (eventsAt d l) (eventsAt d s) h), sound d s (w .1) (back (eventsAt d l) (eventsAt d s) h))
-    sound d (A.braced l j) w h = sound d l (w .0) (front (opens ∷ eventsAt d l) (closes ∷ []) h .1)
-    sound d A.noParams w h = tt
-    sound d (A.moreParams l i) w h = tt
-    sound d (A.function i p b) w h =
+        (sound d c (w .1 .0) (front xs ys u .1) tt, sound (suc d) s (w .1 .1) (back xs ys u .1) y)
+    sound d (A.return i e) w h y = sound d e (w .1) (h .1) tt
+    sound d (A.fail i) w h y = tt
+    sound d A.noStmts w h y = tt
+    sound d (A.moreStmts l s) w h y = (sound d l (w .0) (front (eventsAt d l) (eventsAt d s) h) (each-front Upward value (owns l) (owns s) y), sound d s (w .1) (back (eventsAt d l) (eventsAt d s) h) (each-back Upward value (owns l) (owns s) y))
+    sound d (A.braced l j) w h y = sound d l (w .0) (front (opens ∷ eventsAt d l) (closes ∷ []) h .1) y
+    sound d A.noParams w h y = tt
+    sound d (A.moreParams l i) w h y = tt
+    sound d (A.function i p b) w h y =
         let xs = function i ∷ eventsAt d p in
         let u = front (xs ++ eventsAt d b) (ends (closing b) (not (stops b)) ∷ []) h in
-        sound d b (w .1 .1) (back xs (eventsAt d b) u)
-    sound d A.noFuns w h = tt
-    sound d (A.moreFuns l f) w h = (sound d l (w .0) (front (eventsAt d l) (eventsAt d f) h), sound d f (w .1) (back (eventsAt d l) (eventsAt d f) h))
+        sound d b (w .1 .1) (back xs (eventsAt d b) u) y
+    sound d A.noFuns w h y = tt
+    sound d (A.moreFuns l f) w h y = (sound d l (w .0) (front (eventsAt d l) (eventsAt d f) h) (each-front Upward value (owns l) (owns f) y), sound d f (w .1) (back (eventsAt d l) (eventsAt d f) h) (each-back Upward value (owns l) (owns f) y))
 
 -- ---- a body for each function
 
@@ -115,18 +134,19 @@ module _ (same : ℕ → ℕ → Bool) (t : Tree T.prog) (f : ℕ → ℕ) where
   abbrev pub meaningOf : ℕ → ℕ
   meaningOf i = meant f (meanings same (events tree)) i
 
-  -- it keeps the rules 6, 7 and 10
-  pub record Keeps : Type 0 where
+  -- it keeps the rules 6, 7, 10 and 18
+  pub record Keeps (value : ℕ → ℕ) : Type 0 where
     pub six : badNames same (events tree) ≡ []
     pub seven : miscalls same (events tree) ≡ []
     pub ten : tooMany (events tree) ≡ []
+    pub eighteen : Each Upward value (owns tree)
 
   pub accepted-below : (m : ℕ) → t ≡ numbered 0 t → width t ≤ m → Below m tree
   accepted-below m e h = subst (λ (u : Tree T.prog). Below m (ast u)) (sym e) (numbered-below 0 m t (omega arith))
 
-  accepted-sound : (m : ℕ) → t ≡ numbered 0 t → Below m tree → (value : ℕ → ℕ) → ((i : ℕ) → i < m → value i < 2147483648) → Keeps → Sound m value meaningOf tree
+  accepted-sound : (m : ℕ) → t ≡ numbered 0 t → Below m tree → (value : ℕ → ℕ) → ((i : ℕ) → i < m → value i < 2147483648) → Keeps value → Sound m value meaningOf tree
   unfolding events
-  accepted-sound m e h value small k = sound meaningOf m value small 1 tree h (good same f (text-rises t e) (k .six) (k .seven) (k .ten))
+  accepted-sound m e h value small k = sound meaningOf m value small 1 tree h (good same f (text-rises t e) (k .six) (k .seven) (k .ten)) (k .eighteen)
 
   -- the tree stands at node i, the slices hold the values and the meanings of the text's m tokens, and there is room for two words a token
   pub record Given (l : List ℕ) (i : ℕ) (values slots : List ℕ) (g : ℕ) (code : List ℕ) (m : ℕ) : Type 0 where
@@ -142,7 +162,7 @@ module _ (same : ℕ → ℕ → Bool) (t : Tree T.prog) (f : ℕ → ℕ) where
     pub less : 3 + width t < 65536
     pub space : entryWords * (3 + width t) + 16 ≤ length code
 
-  module _ {l : List ℕ} {i : ℕ} {values slots : List ℕ} {g : ℕ} {code : List ℕ} {m : ℕ} (given : Given l i values slots g code m) (k : Keeps) where
+  module _ {l : List ℕ} {i : ℕ} {values slots : List ℕ} {g : ℕ} {code : List ℕ} {m : ℕ} (given : Given l i values slots g code m) (k : Keeps (word values)) where
     within : Below m tree
     within = accepted-below m (given .numbers) (given .wide)
 
@@ -184,5 +204,5 @@ module _ (same : ℕ → ℕ → Bool) (t : Tree T.prog) (f : ℕ → ℕ) where
       accepted-few = omega (arith, c .total tree (given .holds), size, given .less)
 
   -- where rule 8 is kept too, main's number is below 16
-  pub accepted-main : (isMain : ℕ → Bool) (end : ℕ) → mainless isMain end (events tree) ≡ [] → Keeps → mainOf isMain (heads (events tree)) < 16
-  accepted-main isMain end eight k = omega (arith, main-lt isMain end (heads (events tree)) eight, few-functions (events tree) (k .ten))
+  pub accepted-main : (isMain : ℕ → Bool) (end : ℕ) → mainless isMain end (events tree) ≡ [] → tooMany (events tree) ≡ [] → mainOf isMain (heads (events tree)) < 16
+  accepted-main isMain end eight ten = omega (arith, main-lt isMain end (heads (events tree)) eight, few-functions (events tree) ten)

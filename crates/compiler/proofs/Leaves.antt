@@ -1,7 +1,7 @@
 -- The number that is written for a negated one; the count of a program's functions; the kind of a comparison.
 use Prim.Native.Nat.{ℕ, zero, suc, _+_, _-_, _%_, _^_, _<_}
-use mathlib.Core.Path.{_≡_, refl, ap, _∙_}
-use mathlib.Core.Bool.{Bool, cond}
+use mathlib.Core.Path.{_≡_, refl, sym, ap, _∙_}
+use mathlib.Core.Bool.{Bool, true, false, cond}
 use mathlib.Core.List.{List}
 use native.Mathlib.Omega.{arith}
 use borrow.Author.Tests.{lt-ltb, ne-eqb}
@@ -9,11 +9,13 @@ use lib.IntN.{pos, negsuc, _-ℤ_}
 use Rattle.semantics.specs.Int.{low32}
 use Rattle.syntax.specs.declared.Node.{Node}
 use Rattle.syntax.specs.Fetch.{Fetched}
-use Rattle.syntax.specs.Ast.{Ast, prog}
+use Rattle.syntax.specs.Ast.{Ast, prog, bit}
+use Rattle.text_rules.specs.Own.{signed}
 use Rattle.syntax.specs.Table.{At, nTimes, nPlus, nMinus, nMoreArgs, nMoreFuns, at-no-funs, at-more-funs}
 use Rattle.events.proofs.Nodes.{moved}
 use Rattle.events.proofs.Counting.{Rest, Counts}
-use Rattle.compiler.specs.Pass.{operationOf}
+use Rattle.compiler.specs.Pass.{operationOf, EndWord}
+use Rattle.compiler.specs.Coded.{word}
 use Rattle.compiler.proofs.Parts.{funs}
 use Rattle.simulation.specs.Words.{cCompare}
 
@@ -49,3 +51,20 @@ compared {k} c a b d e = rw (ne-eqb k nTimes a, ne-eqb k nPlus b, ne-eqb k nMinu
 pub low-small : {w : ℕ} (v : ℕ) → w ≡ v → w < 2 ^ 32 → low32 (pos v) ≡ w
 unfolding low32
 low-small v e h = omega arith
+
+-- ---- the ends of an own pair
+
+-- a number without a minus, and one behind a minus
+pub end-plain : {values : List ℕ} {i minus r : ℕ} → r ≡ word values i → r < 2 ^ 32 → minus ≡ 0 → EndWord values i minus r
+end-plain {values} {i} {minus} {r} e h z = record { is = go; small = h }
+  where
+    go : (a : Bool) → minus ≡ bit a → r ≡ low32 (signed a (word values (i + bit a)))
+    go true q = absurd (omega arith)
+    go false q = let k : i ≡ i + 0 = omega arith in sym (low-small (word values (i + 0)) (e ∙ ap (word values) k) h)
+
+pub end-signed : {values : List ℕ} {i minus r : ℕ} → r ≡ low32 (pos 0 -ℤ pos (word values (i + minus))) → r < 2 ^ 32 → (minus ≡ 0 → ⊥) → EndWord values i minus r
+end-signed {values} {i} {minus} {r} e h z = record { is = go; small = h }
+  where
+    go : (a : Bool) → minus ≡ bit a → r ≡ low32 (signed a (word values (i + bit a)))
+    go true q = e ∙ ap (λ (k : ℕ). low32 (pos 0 -ℤ pos (word values (i + k)))) q
+    go false q = absurd (z q)

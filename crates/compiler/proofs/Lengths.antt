@@ -1,5 +1,6 @@
 -- The code of a syntax tree is no longer than its text.
 use Prim.Native.Nat.{ℕ, _+_, _≤_}
+use mathlib.Core.Bool.{true, false}
 use mathlib.Core.List.{List, [], _∷_}
 use native.Mathlib.Omega.{arith}
 use Rattle.syntax.specs.Token.{kMinus, kClose, kComma, kTimes, kPlus, kAnd, kOr, kSemi, kLbrace, kRbrace, kElse}
@@ -63,6 +64,10 @@ module _ (value means : ℕ → ℕ) where
   short (T.empty i) = omega arith
   short (T.declare i) = omega arith
   short (T.declareFree i) = omega arith
+  short (T.declareOwn i true true) = omega arith
+  short (T.declareOwn i true false) = omega arith
+  short (T.declareOwn i false true) = omega arith
+  short (T.declareOwn i false false) = omega arith
   short (T.assign i e) = omega (arith, short e, onto-length e (kSemi ∷ []))
   short (T.eval e) = omega (arith, short e, onto-length e (kSemi ∷ []))
   short (T.block i b) = omega (arith, short b)

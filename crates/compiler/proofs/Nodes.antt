@@ -14,7 +14,7 @@ use Rattle.syntax.specs.declared.Node.{Node}
 use Rattle.syntax.specs.Fetch.{Fetched}
 use Rattle.syntax.specs.Tree as T
 use Rattle.syntax.specs.Ast.{Sort, Ast, expr, args, cond}
-use Rattle.syntax.specs.Table.{At, Holds, cmpNumber, nNumber, nNegative, nName, nCall, nBracket, nTimes, nPlus, nMinus, nNoArgs, nMoreArgs, nAlways, nNever, nCompare, nBoth, nEither, nEmpty, at-number, at-negative, at-name, at-call, at-bracket, at-times, at-plus, at-minus, at-no-args, at-more-args, at-always, at-never, at-compare, at-both, at-either, at-empty, at-declare, at-declare-free, at-assign, at-eval, at-block, at-if-else, at-while, at-return, at-fail, at-no-stmts, at-more-stmts, at-braced, at-no-params, at-more-params, at-function, at-no-funs, at-more-funs}
+use Rattle.syntax.specs.Table.{At, Holds, cmpNumber, nNumber, nNegative, nName, nCall, nBracket, nTimes, nPlus, nMinus, nNoArgs, nMoreArgs, nAlways, nNever, nCompare, nBoth, nEither, nEmpty, at-number, at-negative, at-name, at-call, at-bracket, at-times, at-plus, at-minus, at-no-args, at-more-args, at-always, at-never, at-compare, at-both, at-either, at-empty, at-declare, at-declare-free, at-declare-own, at-assign, at-eval, at-block, at-if-else, at-while, at-return, at-fail, at-no-stmts, at-more-stmts, at-braced, at-no-params, at-more-params, at-function, at-no-funs, at-more-funs}
 use Rattle.events.specs.Event.{count}
 use Rattle.events.specs.Visit.{level}
 use Rattle.events.proofs.Nodes.{at-kind, moved, two-of}
@@ -297,6 +297,7 @@ module _ (value means : ℕ → ℕ) (m : ℕ) where
   operation-left h (at-empty r) _ _ _ _ _ _ _ _ _ = absurd (omega (arith, h))
   operation-left h (at-declare r) _ _ _ _ _ _ _ _ _ = absurd (omega (arith, h))
   operation-left h (at-declare-free r) _ _ _ _ _ _ _ _ _ = absurd (omega (arith, h))
+  operation-left h (at-declare-own r) _ _ _ _ _ _ _ _ _ = absurd (omega (arith, h))
   operation-left h (at-assign r p x) _ _ _ _ _ _ _ _ _ = absurd (omega (arith, h))
   operation-left h (at-eval r p x) _ _ _ _ _ _ _ _ _ = absurd (omega (arith, h))
   operation-left h (at-block r p x) _ _ _ _ _ _ _ _ _ = absurd (omega (arith, h))

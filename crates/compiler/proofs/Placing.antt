@@ -1,7 +1,7 @@
 -- The program of a sound tree fits into words; so the words that the compiler writes are a code in which the program is placed.
 use Prim.Native.Nat.{ℕ, zero, suc, _+_, _-_, _*_, _%_, _^_, _≤_, _<_}
 use mathlib.Core.Path.{_≡_, sym, ap, _∙_}
-use mathlib.Core.Bool.{Bool, cond}
+use mathlib.Core.Bool.{Bool, true, false, cond}
 use mathlib.Core.List.{List, [], _∷_, _++_}
 use native.Mathlib.Nat.{zero-add}
 use native.Mathlib.Omega.{arith}
@@ -15,10 +15,12 @@ use Rattle.semantics.specs.Int.{low32}
 use Rattle.semantics.specs.Program.{Exprs, Stmts, Program}
 use Rattle.semantics.specs.Does.{frame}
 use Rattle.semantics.proofs.Frames.{length-frame}
-use Rattle.syntax.specs.Ast.{Sort, Ast, prog}
+use Rattle.syntax.specs.Ast.{Sort, Ast, prog, lowFirst, lowNumber, highNumber}
 use Rattle.syntax.specs.Ast as A
 use Rattle.syntax.specs.Table.{Holds}
+use Rattle.text_rules.specs.Own.{signed}
 use Rattle.text_rules.specs.Resolve.{Part, part}
+use Rattle.text_rules.proofs.OwnRules.{negated-is}
 use Rattle.simulation.specs.Code.{codeOf}
 use Rattle.simulation.specs.Words.{entryWords, codeIn, wordsOf, wordsIn, FitsE, FitsEs, FitsC, FitsS, FitsSs, FitsBs, Fits}
 use Rattle.simulation.specs.Placed.{Placed}
@@ -38,11 +40,6 @@ number-fits v h =
     let e : v % 2 ^ 32 ≡ v = omega arith in
     ap (toZ w32) e ∙ low-number v h
 
-negated-is : (n : ℕ) → pos 0 -ℤ pos (suc n) ≡ negsuc n
-negated-is n =
-    let e : suc n - 1 ≡ n = omega arith in
-    ap (λ (b : Bool). cond b (negsuc (suc n - 1)) (pos (0 - suc n))) (lt-ltb 0 (suc n) (omega arith)) ∙ ap negsuc e
-
 high-number : (n : ℕ) → n < 2147483648 → toZ w32 (low32 (negsuc n)) ≡ negsuc n
 unfolding low32
 high-number n h =
@@ -54,6 +51,11 @@ high-number n h =
 pub negative-fits : (v : ℕ) → v < 2147483648 → toZ w32 (low32 (pos 0 -ℤ pos v)) ≡ pos 0 -ℤ pos v
 negative-fits zero h = number-fits 0 (omega arith)
 negative-fits (suc n) h = ap (λ (z : ℤ). toZ w32 (low32 z)) (negated-is n) ∙ high-number n (omega arith) ∙ sym (negated-is n)
+
+-- an end of a pair
+end-fits : (a : Bool) (v : ℕ) → v < 2147483648 → toZ w32 (low32 (signed a v)) ≡ signed a v
+end-fits true v h = negative-fits v h
+end-fits false v h = number-fits v h
 
 -- ---- a sound tree's program fits
 
@@ -91,6 +93,7 @@ module _ (m : ℕ) (value means : ℕ → ℕ) where
   fits (A.empty i) h = tt
   fits (A.declare i) h = tt
   fits (A.declareFree i) h = (h .1, tt)
+  fits (A.declareOwn i a b) h = (h .1, (end-fits a (value (lowNumber (lowFirst i) a)) (h .2), end-fits b (value (highNumber (lowFirst i) a b)) (h .3), h .4))
   fits (A.assign i e) h = (h .1, fits e (h .2))
   fits (A.eval e) h = fits e h
   fits (A.block i b) h = fits b h

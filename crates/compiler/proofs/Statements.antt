@@ -1,21 +1,22 @@
 -- What the kind of a node says of the tree that stands there, and of its code: statements.
 use Prim.Native.Nat.{ℕ, suc, _+_, _<_}
 use mathlib.Core.Path.{_≡_, refl, ap, _∙_}
-use mathlib.Core.Bool.{false}
+use mathlib.Core.Bool.{Bool, false}
 use mathlib.Core.List.{List, [], _∷_, _++_, append-nil}
 use native.Mathlib.Omega.{arith}
 use lib.ListN.{length}
 use Rattle.semantics.specs.Program.{slot, Stmts}
 use Rattle.syntax.specs.declared.Node.{Node}
 use Rattle.syntax.specs.Fetch.{Fetched}
-use Rattle.syntax.specs.Ast.{Sort, Ast, expr, cond, stmt, stmts, body}
-use Rattle.syntax.specs.Table.{nNoStmts, At, Holds, nEmpty, nDeclare, nDeclareFree, nAssign, nEval, nBlock, nIfElse, nWhile, nReturn, nFail, nMoreStmts, nBraced, at-number, at-negative, at-name, at-call, at-bracket, at-times, at-plus, at-minus, at-no-args, at-more-args, at-always, at-never, at-compare, at-both, at-either, at-empty, at-declare, at-declare-free, at-assign, at-eval, at-block, at-if-else, at-while, at-return, at-fail, at-no-stmts, at-more-stmts, at-braced, at-no-params, at-more-params, at-function, at-no-funs, at-more-funs}
+use Rattle.syntax.specs.Ast.{Sort, Ast, expr, cond, stmt, stmts, body, bit, lowFirst, highNumber}
+use Rattle.syntax.specs.Table.{nNoStmts, At, Holds, nEmpty, nDeclare, nDeclareFree, nDeclareOwn, nAssign, nEval, nBlock, nIfElse, nWhile, nReturn, nFail, nMoreStmts, nBraced, at-number, at-negative, at-name, at-call, at-bracket, at-times, at-plus, at-minus, at-no-args, at-more-args, at-always, at-never, at-compare, at-both, at-either, at-empty, at-declare, at-declare-free, at-declare-own, at-assign, at-eval, at-block, at-if-else, at-while, at-return, at-fail, at-no-stmts, at-more-stmts, at-braced, at-no-params, at-more-params, at-function, at-no-funs, at-more-funs}
 use Rattle.events.specs.Visit.{level}
 use Rattle.events.proofs.Nodes.{at-kind, moved}
 use Rattle.text_rules.specs.Resolve.{part}
 use Rattle.simulation.specs.Code.{Entry, jump, skip, again, begin, ask, store, return, fail, act, codeS}
 use Rattle.compiler.specs.Coded.{coded}
 use Rattle.compiler.specs.Sound.{Sound}
+use Rattle.compiler.specs.Pass.{ownCode}
 use Rattle.compiler.proofs.Parts.{stmts-code}
 use Rattle.compiler.proofs.Nodes.{None, One, Two, Three}
 
@@ -52,6 +53,29 @@ module _ (value means : ℕ → ℕ) (m : ℕ) where
 
   pub free-node : {l : List ℕ} {s : Sort} {i : ℕ} {n : Node} {t : Ast s} → Fetched l i n → n .kind ≡ nDeclareFree → Holds l i t → None value means m t (act (ask (slot (means (n .token + 1)))) ∷ []) (n .token + 1 < m)
   free-node f e h = free-at f (at-kind nDeclareFree f e h)
+
+  -- the words of the node say which of the ends have a minus
+  pub record OwnNode (n : Node) {s : Sort} (t : Ast s) : Type 0 where
+    pub low : Bool
+    pub high : Bool
+    pub first : n .first ≡ bit low
+    pub second : n .second ≡ bit high
+    pub code : coded value means t ≡ ownCode value means (n .token) low high
+    pub inside : Sound m value means t → highNumber (lowFirst (n .token)) low high < m
+
+  own-at : {l : List ℕ} {s : Sort} {i : ℕ} {n : Node} {t : Ast s} → Fetched l i n → At l s i nDeclareOwn t → OwnNode n t
+  unfolding part codeS Sound
+  own-at f (at-declare-own {a = a} {b = b} r) = record {
+    low = a;
+    high = b;
+    first = f .first ∙ r .first;
+    second = f .second ∙ r .second;
+    code = rw (f .token ∙ r .token);
+    inside = λ s. rw (f .token ∙ r .token) (s .0);
+  }
+
+  pub own-node : {l : List ℕ} {s : Sort} {i : ℕ} {n : Node} {t : Ast s} → Fetched l i n → n .kind ≡ nDeclareOwn → Holds l i t → OwnNode n t
+  own-node f e h = own-at f (at-kind nDeclareOwn f e h)
 
   -- ---- one child
 
@@ -115,40 +139,41 @@ module _ (value means : ℕ → ℕ) (m : ℕ) where
 
   -- ---- the kind that is left
 
-  pub silent : {l : List ℕ} {s : Sort} {i k : ℕ} {t : Ast s} → level s ≡ 1 → At l s i k t → (k ≡ nEmpty → ⊥) → (k ≡ nDeclare → ⊥) → (k ≡ nDeclareFree → ⊥) → (k ≡ nAssign → ⊥) → (k ≡ nEval → ⊥) → (k ≡ nBlock → ⊥) → (k ≡ nIfElse → ⊥) → (k ≡ nWhile → ⊥) → (k ≡ nReturn → ⊥) → (k ≡ nFail → ⊥) → (k ≡ nMoreStmts → ⊥) → (k ≡ nBraced → ⊥) → k ≡ nNoStmts
-  silent h (at-number r) _ _ _ _ _ _ _ _ _ _ _ _ = absurd (omega (arith, h))
-  silent h (at-negative r) _ _ _ _ _ _ _ _ _ _ _ _ = absurd (omega (arith, h))
-  silent h (at-name r) _ _ _ _ _ _ _ _ _ _ _ _ = absurd (omega (arith, h))
-  silent h (at-call r p x) _ _ _ _ _ _ _ _ _ _ _ _ = absurd (omega (arith, h))
-  silent h (at-bracket r p x) _ _ _ _ _ _ _ _ _ _ _ _ = absurd (omega (arith, h))
-  silent h (at-times r p q x y) _ _ _ _ _ _ _ _ _ _ _ _ = absurd (omega (arith, h))
-  silent h (at-plus r p q x y) _ _ _ _ _ _ _ _ _ _ _ _ = absurd (omega (arith, h))
-  silent h (at-minus r p q x y) _ _ _ _ _ _ _ _ _ _ _ _ = absurd (omega (arith, h))
-  silent h (at-no-args r) _ _ _ _ _ _ _ _ _ _ _ _ = absurd (omega (arith, h))
-  silent h (at-more-args r p q x y) _ _ _ _ _ _ _ _ _ _ _ _ = absurd (omega (arith, h))
-  silent h (at-always r) _ _ _ _ _ _ _ _ _ _ _ _ = absurd (omega (arith, h))
-  silent h (at-never r) _ _ _ _ _ _ _ _ _ _ _ _ = absurd (omega (arith, h))
-  silent h (at-compare r p q x y) _ _ _ _ _ _ _ _ _ _ _ _ = absurd (omega (arith, h))
-  silent h (at-both r p q x y) _ _ _ _ _ _ _ _ _ _ _ _ = absurd (omega (arith, h))
-  silent h (at-either r p q x y) _ _ _ _ _ _ _ _ _ _ _ _ = absurd (omega (arith, h))
-  silent h (at-empty r) n _ _ _ _ _ _ _ _ _ _ _ = absurd (n refl)
-  silent h (at-declare r) _ n _ _ _ _ _ _ _ _ _ _ = absurd (n refl)
-  silent h (at-declare-free r) _ _ n _ _ _ _ _ _ _ _ _ = absurd (n refl)
-  silent h (at-assign r p x) _ _ _ n _ _ _ _ _ _ _ _ = absurd (n refl)
-  silent h (at-eval r p x) _ _ _ _ n _ _ _ _ _ _ _ = absurd (n refl)
-  silent h (at-block r p x) _ _ _ _ _ n _ _ _ _ _ _ = absurd (n refl)
-  silent h (at-if-else r p q o x y z) _ _ _ _ _ _ n _ _ _ _ _ = absurd (n refl)
-  silent h (at-while r p q x y) _ _ _ _ _ _ _ n _ _ _ _ = absurd (n refl)
-  silent h (at-return r p x) _ _ _ _ _ _ _ _ n _ _ _ = absurd (n refl)
-  silent h (at-fail r) _ _ _ _ _ _ _ _ _ n _ _ = absurd (n refl)
-  silent h (at-no-stmts r) _ _ _ _ _ _ _ _ _ _ _ _ = refl
-  silent h (at-more-stmts r p q x y) _ _ _ _ _ _ _ _ _ _ n _ = absurd (n refl)
-  silent h (at-braced r p x) _ _ _ _ _ _ _ _ _ _ _ n = absurd (n refl)
-  silent h (at-no-params r) _ _ _ _ _ _ _ _ _ _ _ _ = absurd (omega (arith, h))
-  silent h (at-more-params r p x) _ _ _ _ _ _ _ _ _ _ _ _ = absurd (omega (arith, h))
-  silent h (at-function r p q x y) _ _ _ _ _ _ _ _ _ _ _ _ = absurd (omega (arith, h))
-  silent h (at-no-funs r) _ _ _ _ _ _ _ _ _ _ _ _ = absurd (omega (arith, h))
-  silent h (at-more-funs r p q x y) _ _ _ _ _ _ _ _ _ _ _ _ = absurd (omega (arith, h))
+  pub silent : {l : List ℕ} {s : Sort} {i k : ℕ} {t : Ast s} → level s ≡ 1 → At l s i k t → (k ≡ nEmpty → ⊥) → (k ≡ nDeclare → ⊥) → (k ≡ nDeclareFree → ⊥) → (k ≡ nAssign → ⊥) → (k ≡ nEval → ⊥) → (k ≡ nBlock → ⊥) → (k ≡ nIfElse → ⊥) → (k ≡ nWhile → ⊥) → (k ≡ nReturn → ⊥) → (k ≡ nFail → ⊥) → (k ≡ nMoreStmts → ⊥) → (k ≡ nBraced → ⊥) → (k ≡ nDeclareOwn → ⊥) → k ≡ nNoStmts
+  silent h (at-number r) _ _ _ _ _ _ _ _ _ _ _ _ _ = absurd (omega (arith, h))
+  silent h (at-negative r) _ _ _ _ _ _ _ _ _ _ _ _ _ = absurd (omega (arith, h))
+  silent h (at-name r) _ _ _ _ _ _ _ _ _ _ _ _ _ = absurd (omega (arith, h))
+  silent h (at-call r p x) _ _ _ _ _ _ _ _ _ _ _ _ _ = absurd (omega (arith, h))
+  silent h (at-bracket r p x) _ _ _ _ _ _ _ _ _ _ _ _ _ = absurd (omega (arith, h))
+  silent h (at-times r p q x y) _ _ _ _ _ _ _ _ _ _ _ _ _ = absurd (omega (arith, h))
+  silent h (at-plus r p q x y) _ _ _ _ _ _ _ _ _ _ _ _ _ = absurd (omega (arith, h))
+  silent h (at-minus r p q x y) _ _ _ _ _ _ _ _ _ _ _ _ _ = absurd (omega (arith, h))
+  silent h (at-no-args r) _ _ _ _ _ _ _ _ _ _ _ _ _ = absurd (omega (arith, h))
+  silent h (at-more-args r p q x y) _ _ _ _ _ _ _ _ _ _ _ _ _ = absurd (omega (arith, h))
+  silent h (at-always r) _ _ _ _ _ _ _ _ _ _ _ _ _ = absurd (omega (arith, h))
+  silent h (at-never r) _ _ _ _ _ _ _ _ _ _ _ _ _ = absurd (omega (arith, h))
+  silent h (at-compare r p q x y) _ _ _ _ _ _ _ _ _ _ _ _ _ = absurd (omega (arith, h))
+  silent h (at-both r p q x y) _ _ _ _ _ _ _ _ _ _ _ _ _ = absurd (omega (arith, h))
+  silent h (at-either r p q x y) _ _ _ _ _ _ _ _ _ _ _ _ _ = absurd (omega (arith, h))
+  silent h (at-empty r) n _ _ _ _ _ _ _ _ _ _ _ _ = absurd (n refl)
+  silent h (at-declare r) _ n _ _ _ _ _ _ _ _ _ _ _ = absurd (n refl)
+  silent h (at-declare-free r) _ _ n _ _ _ _ _ _ _ _ _ _ = absurd (n refl)
+  silent h (at-declare-own r) _ _ _ _ _ _ _ _ _ _ _ _ n = absurd (n refl)
+  silent h (at-assign r p x) _ _ _ n _ _ _ _ _ _ _ _ _ = absurd (n refl)
+  silent h (at-eval r p x) _ _ _ _ n _ _ _ _ _ _ _ _ = absurd (n refl)
+  silent h (at-block r p x) _ _ _ _ _ n _ _ _ _ _ _ _ = absurd (n refl)
+  silent h (at-if-else r p q o x y z) _ _ _ _ _ _ n _ _ _ _ _ _ = absurd (n refl)
+  silent h (at-while r p q x y) _ _ _ _ _ _ _ n _ _ _ _ _ = absurd (n refl)
+  silent h (at-return r p x) _ _ _ _ _ _ _ _ n _ _ _ _ = absurd (n refl)
+  silent h (at-fail r) _ _ _ _ _ _ _ _ _ n _ _ _ = absurd (n refl)
+  silent h (at-no-stmts r) _ _ _ _ _ _ _ _ _ _ _ _ _ = refl
+  silent h (at-more-stmts r p q x y) _ _ _ _ _ _ _ _ _ _ n _ _ = absurd (n refl)
+  silent h (at-braced r p x) _ _ _ _ _ _ _ _ _ _ _ n _ = absurd (n refl)
+  silent h (at-no-params r) _ _ _ _ _ _ _ _ _ _ _ _ _ = absurd (omega (arith, h))
+  silent h (at-more-params r p x) _ _ _ _ _ _ _ _ _ _ _ _ _ = absurd (omega (arith, h))
+  silent h (at-function r p q x y) _ _ _ _ _ _ _ _ _ _ _ _ _ = absurd (omega (arith, h))
+  silent h (at-no-funs r) _ _ _ _ _ _ _ _ _ _ _ _ _ = absurd (omega (arith, h))
+  silent h (at-more-funs r p q x y) _ _ _ _ _ _ _ _ _ _ _ _ _ = absurd (omega (arith, h))
 
   no-stmts-at : {l : List ℕ} {s : Sort} {i : ℕ} {t : Ast s} → At l s i nNoStmts t → coded value means t ≡ []
   unfolding part codeS

@@ -1,17 +1,20 @@
 -- What the functions of the pass ask and answer, each of a node of the table.
-use Prim.Native.Nat.{ℕ, _+_, _-_, _*_, _≤_, _<_}
+use Prim.Native.Nat.{ℕ, _+_, _-_, _*_, _^_, _≤_, _<_}
 use mathlib.Core.Path.{_≡_}
-use mathlib.Core.Bool.{cond}
+use mathlib.Core.Bool.{Bool, cond}
 use mathlib.Core.List.{List, [], _∷_}
 use lib.Dec.{eqb}
 use lib.ListN.{length, set}
 use lib.Seq.{sets}
-use Rattle.syntax.specs.Ast.{Sort, Ast, prog}
+use Rattle.syntax.specs.Ast.{Sort, Ast, prog, bit, lowFirst, lowNumber, highNumber}
 use Rattle.syntax.specs.Table.{Holds, nTimes, nPlus, nMinus, nMoreArgs, nBoth}
 use Rattle.events.specs.Walk.{Rooted}
 use Rattle.events.specs.Visit.{level}
+use Rattle.semantics.specs.Int.{low32}
+use Rattle.semantics.specs.Program.{slot}
+use Rattle.text_rules.specs.Own.{signed}
 use Rattle.text_rules.specs.Resolve.{part}
-use Rattle.simulation.specs.Code.{Entry, entriesOf, startsOf}
+use Rattle.simulation.specs.Code.{number, own, Entry, leaf, act, entriesOf, startsOf}
 use Rattle.simulation.specs.Words.{wordsOf, cMul, cAdd, cSub, cArgument, cCompare, cJump, cJumpTrue, entryWords, entryNumber}
 use Rattle.compiler.specs.Coded.{word, coded}
 use Rattle.compiler.specs.Sound.{Sound}
@@ -78,3 +81,26 @@ pub record Written (l : List ℕ) (i : ℕ) (values slots before after : List �
 pub record Built (l : List ℕ) (i : ℕ) (values slots before after : List ℕ) (n r : ℕ) (table table′ : List ℕ) : Type 0 where
   pub code : (p : Ast prog) → Holds l i p → Grown before after n r (entriesOf (part (word values) (word slots) p []))
   pub starts : (p : Ast prog) → Holds l i p → table′ ≡ sets table 0 (startsOf n (part (word values) (word slots) p []))
+
+-- ---- a free declaration with its own pair
+
+-- its code, where its first token is i, and its ends have a minus or not
+abbrev pub ownCode : (value means : ℕ → ℕ) → ℕ → Bool → Bool → List Entry
+ownCode value means i a b = leaf (number (signed a (value (lowNumber (lowFirst i) a)))) ∷ leaf (number (signed b (value (highNumber (lowFirst i) a b)))) ∷ act (own (slot (means (i + 1)))) ∷ []
+
+-- its tokens are among those of both slices, and there is room for its code
+pub record OwnRoom (values slots code : List ℕ) (n i low high : ℕ) : Type 0 where
+  pub inside : i + 5 + low + high < length values
+  pub named : i + 1 < length slots
+  pub tokens : i + 5 + low + high < 65536
+  pub few : n + 3 < 65536
+  pub space : entryWords * (n + 3) ≤ length code
+
+-- r are the low bits of the end whose first token is i
+pub record EndWord (values : List ℕ) (i minus r : ℕ) : Type 0 where
+  pub is : (a : Bool) → minus ≡ bit a → r ≡ low32 (signed a (word values (i + bit a)))
+  pub small : r < 2 ^ 32
+
+-- its code is written
+pub record OwnWritten (values slots before after : List ℕ) (n r i low high : ℕ) : Type 0 where
+  pub is : (a b : Bool) → low ≡ bit a → high ≡ bit b → Grown before after n r (ownCode (word values) (word slots) i a b)

@@ -1,8 +1,11 @@
--- What the tree of an accepted text keeps: its tokens are below m, its numbers below 2 ^ 31, each of its names means a variable or a function among 16, and no call has more than 4 arguments.
+-- What the tree of an accepted text keeps: its tokens are below m, its numbers below 2 ^ 31, each of its names means a variable or a function among 16, no call has more than 4 arguments, and own pairs go upward.
 use Prim.Native.Nat.{ℕ, _+_, _^_, _≤_, _<_}
-use Rattle.syntax.specs.Ast.{Sort, Ast}
+use lib.Dec.{T}
+use lib.Signed.{leZ}
+use Rattle.syntax.specs.Ast.{Sort, Ast, lowFirst, lowNumber, highNumber}
 use Rattle.syntax.specs.Ast as A
 use Rattle.events.specs.Event.{count}
+use Rattle.text_rules.specs.Own.{signed}
 
 unfoldable pub Sound : {s : Sort} → ℕ → (value means : ℕ → ℕ) → Ast s → Type 0
 Sound m value means (A.number i) = (i < m) × (value i < 2 ^ 31)
@@ -24,6 +27,8 @@ Sound m value means (A.either a b) = Sound m value means a × Sound m value mean
 Sound m value means (A.empty i) = Unit
 Sound m value means (A.declare i) = Unit
 Sound m value means (A.declareFree i) = (i + 1 < m) × (means (i + 1) < 16)
+Sound m value means (A.declareOwn i a b) =
+    (highNumber (lowFirst i) a b < m) × (means (i + 1) < 16) × (value (lowNumber (lowFirst i) a) < 2 ^ 31) × (value (highNumber (lowFirst i) a b) < 2 ^ 31) × T (leZ (signed a (value (lowNumber (lowFirst i) a))) (signed b (value (highNumber (lowFirst i) a b))))
 Sound m value means (A.assign i e) = (i < m) × (means i < 16) × Sound m value means e
 Sound m value means (A.eval e) = Sound m value means e
 Sound m value means (A.block i b) = Sound m value means b

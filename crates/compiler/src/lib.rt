@@ -8,7 +8,7 @@ ghost use Rattle.semantics.specs.Int.{low32};
 ghost use Rattle.syntax.specs.Ast.{prog};
 ghost use Rattle.events.specs.Walk.{Rooted};
 ghost use Rattle.compiler.specs.Compile.{Ready, Compiled};
-ghost use Rattle.compiler.specs.Pass.{operationOf, jumpOf, Functions, Emitted, Aimed, Room, Written, RoomP, Built};
+ghost use Rattle.compiler.specs.Pass.{operationOf, jumpOf, Functions, EndWord, Emitted, Aimed, Room, Written, OwnRoom, OwnWritten, RoomP, Built};
 ghost use Rattle.simulation.specs.Words.{entryWords};
 use code::Address;
 use code::entry;
@@ -46,6 +46,17 @@ fn negated(words: &[u32], i: usize) -> usize
     ensures { λ r. ⌜ (r ≡ low32 (pos 0 -ℤ pos (getD (now (words .entry)) i 0))) × (r < 2 ^ 32) ⌝ }
 {
     negative(words[i])
+}
+
+// The low 32 bits of an end of a pair whose first token is i: its number, or the one behind its minus, negated.
+fn end_word(values: &[u32], i: usize, minus: usize) -> usize
+    requires { ⌜ (i + minus < length (now values)) × (i + minus < 2 ^ 32) ⌝ }
+    ensures { λ r. ⌜ EndWord (now (values .entry)) i minus r ⌝ }
+{
+    if minus == 0 {
+        return word(values, i);
+    }
+    negated(values, i + minus)
 }
 
 // Writes entry n and answers n + 1.
@@ -168,6 +179,27 @@ fn expression(
     }
 }
 
+// The code of a free declaration with its own pair, whose first token is `token`: the two ends, with or without a minus, and then the declaration.
+fn own(
+    values: &[u32],
+    slots: &[u32],
+    code: &mut [u32],
+    n: usize,
+    token: usize,
+    low: usize,
+    high: usize,
+) -> usize
+    requires { ⌜ OwnRoom (now values) (now slots) (now code) n token low high ⌝ }
+    ensures { λ r. ⌜ OwnWritten (now (values .entry)) (now (slots .entry)) (now (code .entry)) (now (code .exit)) n r token low high ⌝ }
+{
+    let l = end_word(values, token + 3, low);
+    let h = end_word(values, token + 5 + low, high);
+    let a = address(slots, token + 1);
+    let m = emit(code, n, entry::NUMBER, l);
+    let q = emit(code, m, entry::NUMBER, h);
+    emit_address(code, q, entry::OWN, a)
+}
+
 // The code of a statement, of statements, or of these in braces.
 fn statement(
     nodes: &[u32],
@@ -237,6 +269,7 @@ fn statement(
             statement(nodes, node.second, values, slots, code, m)
         }
         kind::BRACED => statement(nodes, node.first, values, slots, code, n),
+        kind::DECLARE_OWN => { own(values, slots, code, n, node.token, node.first, node.second) }
         _ => n,
     }
 }

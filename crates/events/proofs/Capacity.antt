@@ -1,7 +1,7 @@
 -- A text has at most two events for each token.
 use Prim.Native.Nat.{ℕ, suc, _+_, _*_, _≤_}
 use mathlib.Core.Path.{_≡_}
-use mathlib.Core.Bool.{not}
+use mathlib.Core.Bool.{true, false, not}
 use mathlib.Core.List.{List, [], _∷_, _++_}
 use native.Mathlib.Omega.{arith}
 use lib.ListN.{length, length-append}
@@ -64,6 +64,10 @@ fits d (T.either b c) ks = omega (arith, fits d b (kOr ∷ onto c ks), fits d c 
 fits d (T.empty i) ks = omega arith
 fits d (T.declare i) ks = omega arith
 fits d (T.declareFree i) ks = omega arith
+fits d (T.declareOwn i true true) ks = omega arith
+fits d (T.declareOwn i true false) ks = omega arith
+fits d (T.declareOwn i false true) ks = omega arith
+fits d (T.declareOwn i false false) ks = omega arith
 fits d (T.assign i e) ks = omega (arith, fits d e (kSemi ∷ ks))
 fits d (T.eval e) ks = omega (arith, fits d e (kSemi ∷ ks))
 fits d (T.block i b) ks = omega (arith, fits (suc d) b ks)

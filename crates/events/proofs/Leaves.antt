@@ -8,11 +8,11 @@ use native.Mathlib.Omega.{arith}
 use Rattle.syntax.specs.declared.Node.{Node}
 use Rattle.syntax.specs.Fetch.{Fetched}
 use Rattle.syntax.specs.Ast.{Sort, Ast, body}
-use Rattle.syntax.specs.Table.{nAlways, nAssign, nBlock, nBraced, nBracket, nCall, nDeclare, nDeclareFree, nEmpty, nEval, nFail, nFunction, nIfElse, nMoreArgs, nMoreFuns, nMoreParams, nMoreStmts, nNegative, nNever, nNoArgs, nNoFuns, nNoParams, nNoStmts, nNumber, nReturn, nWhile, At, Holds, nName, at-number, at-negative, at-name, at-call, at-bracket, at-times, at-plus, at-minus, at-no-args, at-more-args, at-always, at-never, at-compare, at-both, at-either, at-empty, at-declare, at-declare-free, at-assign, at-eval, at-block, at-if-else, at-while, at-return, at-fail, at-no-stmts, at-more-stmts, at-braced, at-no-params, at-more-params, at-function, at-no-funs, at-more-funs}
+use Rattle.syntax.specs.Table.{nAlways, nAssign, nBlock, nBraced, nBracket, nCall, nDeclare, nDeclareFree, nDeclareOwn, nEmpty, nEval, nFail, nFunction, nIfElse, nMoreArgs, nMoreFuns, nMoreParams, nMoreStmts, nNegative, nNever, nNoArgs, nNoFuns, nNoParams, nNoStmts, nNumber, nReturn, nWhile, At, Holds, nName, at-number, at-negative, at-name, at-call, at-bracket, at-times, at-plus, at-minus, at-no-args, at-more-args, at-always, at-never, at-compare, at-both, at-either, at-empty, at-declare, at-declare-free, at-declare-own, at-assign, at-eval, at-block, at-if-else, at-while, at-return, at-fail, at-no-stmts, at-more-stmts, at-braced, at-no-params, at-more-params, at-function, at-no-funs, at-more-funs}
 use Rattle.events.specs.Event.{thing, declares, uses, ends, closing, eventsAt}
 use Rattle.events.specs.Walk.{Below}
 use Rattle.events.specs.Visit.{level}
-use Rattle.events.proofs.Nodes.{two-of, at-kind, Joint, times, plus, minus, compare, both, either}
+use Rattle.events.proofs.Nodes.{three-of, at-kind, Joint, times, plus, minus, compare, both, either}
 
 name-alone : {l : List ℕ} {s : Sort} {i : ℕ} {n : Node} {t : Ast s} (d : ℕ) → Fetched l i n → At l s i nName t → eventsAt d t ≡ uses (n .token) ∷ []
 unfolding eventsAt
@@ -41,23 +41,27 @@ plain-node {n = n} d k f h = plain-alone d k f (at-kind (n .kind) f refl h)
 pub data Declaring : ℕ → Type 0 where
   declare : Declaring nDeclare
   declare-free : Declaring nDeclareFree
+  declare-own : Declaring nDeclareOwn
 
 pub above-empty : {k : ℕ} → nEmpty ≤ k → (k ≡ nEmpty → ⊥) → nDeclare ≤ k
 above-empty h p = omega (arith, h, p)
 
 pub declaring : {k : ℕ} → nDeclare ≤ k → k < nAssign → Declaring k
-declaring {k} lo hi = two-of Declaring nDeclare k lo hi declare declare-free
+declaring {k} lo hi = three-of Declaring nDeclare k lo hi declare declare-free declare-own
 
 pub not-declaring : {k : ℕ} → (k < nDeclare) ⊎ (nAssign ≤ k) → Declaring k → ⊥
 not-declaring (inl h) declare = omega arith
 not-declaring (inl h) declare-free = omega arith
+not-declaring (inl h) declare-own = omega arith
 not-declaring (inr h) declare = omega arith
 not-declaring (inr h) declare-free = omega arith
+not-declaring (inr h) declare-own = omega arith
 
 declare-alone : {l : List ℕ} {s : Sort} {i k : ℕ} {n : Node} {t : Ast s} (d : ℕ) → Declaring k → Fetched l i n → At l s i k t → eventsAt d t ≡ thing d (n .token) ∷ (declares (n .token + 1) ∷ [])
 unfolding eventsAt
 declare-alone d declare f (at-declare r) = rw (f .token ∙ r .token)
 declare-alone d declare-free f (at-declare-free r) = rw (f .token ∙ r .token)
+declare-alone d declare-own f (at-declare-own r) = rw (f .token ∙ r .token)
 
 pub declare-node : {l : List ℕ} {s : Sort} {i : ℕ} {n : Node} {t : Ast s} (d : ℕ) → Declaring (n .kind) → Fetched l i n → Holds l i t → eventsAt d t ≡ thing d (n .token) ∷ (declares (n .token + 1) ∷ [])
 declare-node {n = n} d k f h = declare-alone d k f (at-kind (n .kind) f refl h)
@@ -66,6 +70,7 @@ declare-token : {l : List ℕ} {s : Sort} {i k : ℕ} {n : Node} {t : Ast s} →
 unfolding Below
 declare-token declare f (at-declare r) b = omega (arith, f .token, r .token)
 declare-token declare-free f (at-declare-free r) b = omega (arith, f .token, r .token)
+declare-token declare-own f (at-declare-own r) b = omega (arith, f .token, r .token)
 
 pub declare-below : {l : List ℕ} {s : Sort} {i : ℕ} {n : Node} {t : Ast s} → Declaring (n .kind) → Fetched l i n → Holds l i t → Below 65536 t → n .token + 1 < 65536
 declare-below {n = n} k f h b = declare-token k f (at-kind (n .kind) f refl h) b
@@ -115,6 +120,7 @@ silent-expression h (at-either r p q x y) _ _ _ n3 _ = absurd (n3 either)
 silent-expression h (at-empty r) _ _ _ _ _ = absurd (omega (arith, h))
 silent-expression h (at-declare r) _ _ _ _ _ = absurd (omega (arith, h))
 silent-expression h (at-declare-free r) _ _ _ _ _ = absurd (omega (arith, h))
+silent-expression h (at-declare-own r) _ _ _ _ _ = absurd (omega (arith, h))
 silent-expression h (at-assign r p x) _ _ _ _ _ = absurd (omega (arith, h))
 silent-expression h (at-eval r p x) _ _ _ _ _ = absurd (omega (arith, h))
 silent-expression h (at-block r p x) _ _ _ _ _ = absurd (omega (arith, h))
@@ -150,6 +156,7 @@ silent-statement h (at-either r p q x y) _ _ _ _ _ _ _ _ _ _ = absurd (omega (ar
 silent-statement h (at-empty r) n0 _ _ _ _ _ _ _ _ _ = absurd (n0 (inl refl))
 silent-statement h (at-declare r) _ n1 _ _ _ _ _ _ _ _ = absurd (n1 declare)
 silent-statement h (at-declare-free r) _ n1 _ _ _ _ _ _ _ _ = absurd (n1 declare-free)
+silent-statement h (at-declare-own r) _ n1 _ _ _ _ _ _ _ _ = absurd (n1 declare-own)
 silent-statement h (at-assign r p x) _ _ n2 _ _ _ _ _ _ _ = absurd (n2 refl)
 silent-statement h (at-eval r p x) _ _ _ n3 _ _ _ _ _ _ = absurd (n3 refl)
 silent-statement h (at-block r p x) _ _ _ _ n4 _ _ _ _ _ = absurd (n4 refl)
@@ -185,6 +192,7 @@ silent-program h (at-either r p q x y) _ _ _ = absurd (omega (arith, h))
 silent-program h (at-empty r) _ _ _ = absurd (omega (arith, h))
 silent-program h (at-declare r) _ _ _ = absurd (omega (arith, h))
 silent-program h (at-declare-free r) _ _ _ = absurd (omega (arith, h))
+silent-program h (at-declare-own r) _ _ _ = absurd (omega (arith, h))
 silent-program h (at-assign r p x) _ _ _ = absurd (omega (arith, h))
 silent-program h (at-eval r p x) _ _ _ = absurd (omega (arith, h))
 silent-program h (at-block r p x) _ _ _ = absurd (omega (arith, h))

@@ -12,7 +12,7 @@ use Rattle.syntax.specs.declared.Node.{Node}
 use Rattle.syntax.specs.Fetch.{Fetched}
 use Rattle.syntax.specs.Ast.{Sort, Ast, expr, args, cond, stmt, stmts, body, params}
 use Rattle.syntax.specs.Ast as A
-use Rattle.syntax.specs.Table.{nEmpty, nNoArgs, nBoth, nCompare, nEither, nMinus, nName, nPlus, nTimes, nodeToken, nodeWords, At, Holds, nCall, nBracket, nMoreArgs, nAssign, nEval, nBlock, nIfElse, nWhile, nReturn, nMoreStmts, nBraced, nMoreParams, nFunction, nMoreFuns, at-number, at-negative, at-name, at-call, at-bracket, at-times, at-plus, at-minus, at-no-args, at-more-args, at-always, at-never, at-compare, at-both, at-either, at-empty, at-declare, at-declare-free, at-assign, at-eval, at-block, at-if-else, at-while, at-return, at-fail, at-no-stmts, at-more-stmts, at-braced, at-no-params, at-more-params, at-function, at-no-funs, at-more-funs}
+use Rattle.syntax.specs.Table.{nEmpty, nNoArgs, nBoth, nCompare, nEither, nMinus, nName, nPlus, nTimes, nodeToken, nodeWords, At, Holds, nCall, nBracket, nMoreArgs, nAssign, nEval, nBlock, nIfElse, nWhile, nReturn, nMoreStmts, nBraced, nMoreParams, nFunction, nMoreFuns, at-number, at-negative, at-name, at-call, at-bracket, at-times, at-plus, at-minus, at-no-args, at-more-args, at-always, at-never, at-compare, at-both, at-either, at-empty, at-declare, at-declare-free, at-declare-own, at-assign, at-eval, at-block, at-if-else, at-while, at-return, at-fail, at-no-stmts, at-more-stmts, at-braced, at-no-params, at-more-params, at-function, at-no-funs, at-more-funs}
 use Rattle.events.specs.Event.{Event, function, parameter, thing, opens, closes, uses, calls, ends, first, count, stops, closing, eventsAt}
 use Rattle.events.specs.Walk.{Below}
 use Rattle.events.specs.Visit.{level}
@@ -43,6 +43,7 @@ kind-of (at-either r p q x y) = r .kind
 kind-of (at-empty r) = r .kind
 kind-of (at-declare r) = r .kind
 kind-of (at-declare-free r) = r .kind
+kind-of (at-declare-own r) = r .kind
 kind-of (at-assign r p x) = r .kind
 kind-of (at-eval r p x) = r .kind
 kind-of (at-block r p x) = r .kind
@@ -84,6 +85,7 @@ token-at m pos (at-either r p q x y) b = omega (arith, r .token)
 token-at m pos (at-empty r) b = omega (arith, r .token, b)
 token-at m pos (at-declare r) b = omega (arith, r .token, b)
 token-at m pos (at-declare-free r) b = omega (arith, r .token, b)
+token-at m pos (at-declare-own r) b = omega (arith, r .token, b)
 token-at m pos (at-assign r p x) b = omega (arith, r .token, b .0)
 token-at m pos (at-eval r p x) b = omega (arith, r .token)
 token-at m pos (at-block r p x) b = omega (arith, r .token, b .0)

@@ -90,6 +90,7 @@ names-rise d p hi (T.either b c) h = then (names-rise d p (p + width b + 1) b (o
 names-rise d p hi (T.empty i) h = more p p _ (still p) (none p hi (omega arith))
 names-rise d p hi (T.declare i) h = more p p _ (still p) (more p (p + 1 + 1) _ (own p (p + 1) 0 (up p 1)) (none (p + 1 + 1) hi (omega arith)))
 names-rise d p hi (T.declareFree i) h = more p p _ (still p) (more p (p + 1 + 1) _ (own p (p + 1) 0 (up p 1)) (none (p + 1 + 1) hi (omega arith)))
+names-rise d p hi (T.declareOwn i a b) h = more p p _ (still p) (more p (p + 1 + 1) _ (own p (p + 1) 0 (up p 1)) (none (p + 1 + 1) hi (omega arith)))
 names-rise d p hi (T.assign i e) h = more p p _ (still p) (more p (p + 2) _ (own p p 1 (still p)) (names-rise d (p + 2) hi e (omega (arith, onto-length e (kSemi ∷ [])))))
 names-rise d p hi (T.eval e) h = more p p _ (still p) (names-rise d p hi e (omega (arith, onto-length e (kSemi ∷ []))))
 names-rise d p hi (T.block i b) h = more p (p + 1) _ (up p 1) (names-rise (suc d) (p + 1) hi b (omega (arith, onto-length b [])))

@@ -9,7 +9,7 @@ use Rattle.syntax.specs.declared.Node.{Node}
 use Rattle.syntax.specs.Fetch.{Fetched}
 use Rattle.syntax.specs.Ast.{Sort, Ast, expr, args}
 use Rattle.syntax.specs.Ast as A
-use Rattle.syntax.specs.Table.{nNoStmts, nBlock, nBraced, nFail, nMinus, nPlus, nReturn, nTimes, At, Holds, nMoreArgs, nMoreStmts, nIfElse, at-number, at-negative, at-name, at-call, at-bracket, at-times, at-plus, at-minus, at-no-args, at-more-args, at-always, at-never, at-compare, at-both, at-either, at-empty, at-declare, at-declare-free, at-assign, at-eval, at-block, at-if-else, at-while, at-return, at-fail, at-no-stmts, at-more-stmts, at-braced, at-no-params, at-more-params, at-function, at-no-funs, at-more-funs}
+use Rattle.syntax.specs.Table.{nNoStmts, nBlock, nBraced, nFail, nMinus, nPlus, nReturn, nTimes, At, Holds, nMoreArgs, nMoreStmts, nIfElse, at-number, at-negative, at-name, at-call, at-bracket, at-times, at-plus, at-minus, at-no-args, at-more-args, at-always, at-never, at-compare, at-both, at-either, at-empty, at-declare, at-declare-free, at-declare-own, at-assign, at-eval, at-block, at-if-else, at-while, at-return, at-fail, at-no-stmts, at-more-stmts, at-braced, at-no-params, at-more-params, at-function, at-no-funs, at-more-funs}
 use Rattle.events.specs.Event.{first, count, stops}
 use Rattle.events.proofs.Nodes.{at-kind, moved, two-of, three-of}
 use Rattle.events.proofs.Counting.{Rest, Counts}
@@ -167,6 +167,7 @@ goes-on a b c d (at-either r p q x y) = refl
 goes-on a b c d (at-empty r) = refl
 goes-on a b c d (at-declare r) = refl
 goes-on a b c d (at-declare-free r) = refl
+goes-on a b c d (at-declare-own r) = refl
 goes-on a b c d (at-assign r p x) = refl
 goes-on a b c d (at-eval r p x) = refl
 goes-on a b c d (at-block r p x) = absurd (a (inl refl))

@@ -1,6 +1,7 @@
 -- The tokens that a tree names are its own.
 use Prim.Native.Nat.{ℕ, suc, _+_, _≤_, _<_}
 use mathlib.Core.Path.{_≡_, refl}
+use mathlib.Core.Bool.{true, false}
 use mathlib.Core.List.{List, [], _∷_, _++_}
 use native.Mathlib.Omega.{arith}
 use Rattle.syntax.specs.Token.{kMinus, kName, kClose, kComma, kTimes, kPlus, kAnd, kOr, kSemi, kInt, kLbrace, kRbrace, kElse}
@@ -48,6 +49,10 @@ numbered-below p m (T.either b c) h = (numbered-below p m b (omega (arith, h, on
 numbered-below p m (T.empty i) h = omega arith
 numbered-below p m (T.declare i) h = omega arith
 numbered-below p m (T.declareFree i) h = omega arith
+numbered-below p m (T.declareOwn i true true) h = omega arith
+numbered-below p m (T.declareOwn i true false) h = omega arith
+numbered-below p m (T.declareOwn i false true) h = omega arith
+numbered-below p m (T.declareOwn i false false) h = omega arith
 numbered-below p m (T.assign i e) h = (omega (arith, h, onto-length e (kSemi ∷ [])), numbered-below (p + 2) m e (omega (arith, h, onto-length e (kSemi ∷ []))))
 numbered-below p m (T.eval e) h = numbered-below p m e (omega (arith, h, onto-length e (kSemi ∷ [])))
 numbered-below p m (T.block i b) h = (omega (arith, h, onto-length b []), numbered-below (p + 1) m b (omega (arith, h, onto-length b [])))
@@ -113,6 +118,7 @@ events-within m d (A.either x y) b = each-append (events-within m d x (b .0)) (e
 events-within m d (A.empty i) b = more b none
 events-within m d (A.declare i) b = more {e = thing d i} (omega arith) (more b none)
 events-within m d (A.declareFree i) b = more {e = thing d i} (omega arith) (more b none)
+events-within m d (A.declareOwn i x y) b = more {e = thing d i} (omega arith) (more {e = declares (i + 1)} (omega arith) none)
 events-within m d (A.assign i e) b = more (b .0) (more (b .0) (events-within m d e (b .1)))
 events-within m d (A.eval e) b = more (first-below m e b) (events-within m d e b)
 events-within m d (A.block i x) b = more (b .0) (events-within m (suc d) x (b .1))

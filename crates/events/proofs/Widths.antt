@@ -1,6 +1,7 @@
 -- The tokens of a concrete tree, counted.
 use Prim.Native.Nat.{ℕ, _+_}
 use mathlib.Core.Path.{_≡_, refl, ap, _∙_}
+use mathlib.Core.Bool.{true, false}
 use mathlib.Core.List.{List, [], _∷_}
 use native.Mathlib.Omega.{arith}
 use lib.ListN.{length}
@@ -36,6 +37,10 @@ onto-length (T.either b c) ks = omega (arith, onto-length b (kOr ∷ onto c ks),
 onto-length (T.empty i) ks = omega arith
 onto-length (T.declare i) ks = omega arith
 onto-length (T.declareFree i) ks = omega arith
+onto-length (T.declareOwn i true true) ks = omega arith
+onto-length (T.declareOwn i true false) ks = omega arith
+onto-length (T.declareOwn i false true) ks = omega arith
+onto-length (T.declareOwn i false false) ks = omega arith
 onto-length (T.assign i e) ks = omega (arith, onto-length e (kSemi ∷ ks), onto-length e (kSemi ∷ []))
 onto-length (T.eval e) ks = omega (arith, onto-length e (kSemi ∷ ks), onto-length e (kSemi ∷ []))
 onto-length (T.block i b) ks = omega (arith, onto-length b ks, onto-length b [])
@@ -82,6 +87,7 @@ onto-numbered p (T.either b c) ks = onto-numbered p b (kOr ∷ onto (numbered (p
 onto-numbered p (T.empty i) ks = refl
 onto-numbered p (T.declare i) ks = refl
 onto-numbered p (T.declareFree i) ks = refl
+onto-numbered p (T.declareOwn i a b) ks = refl
 onto-numbered p (T.assign i e) ks = ap (λ (x : List ℕ). kName ∷ kAssign ∷ x) (onto-numbered (p + 2) e (kSemi ∷ ks))
 onto-numbered p (T.eval e) ks = onto-numbered p e (kSemi ∷ ks)
 onto-numbered p (T.block i b) ks = ap (λ (x : List ℕ). kLbrace ∷ x) (onto-numbered (p + 1) b ks)

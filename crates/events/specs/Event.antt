@@ -13,7 +13,7 @@ pub data Event : Type 0 where
   thing : ℕ → ℕ → Event
   -- a block begins, a block ends
   opens closes : Event
-  -- `int x` or `int x free`: the name; a variable that is read or assigned: the name
+  -- `int x` or `int x free`, with a pair of its own or not: the name; a variable that is read or assigned: the name
   declares : ℕ → Event
   uses : ℕ → Event
   -- a call: the called name, and the count of its arguments
@@ -50,6 +50,7 @@ stops (A.ifElse i c s t) = stops s && stops t
 stops (A.empty i) = false
 stops (A.declare i) = false
 stops (A.declareFree i) = false
+stops (A.declareOwn i a b) = false
 stops (A.assign i e) = false
 stops (A.eval e) = false
 stops (A.while i c s) = false
@@ -103,6 +104,7 @@ eventsAt d (A.either a b) = eventsAt d a ++ eventsAt d b
 eventsAt d (A.empty i) = thing d i ∷ []
 eventsAt d (A.declare i) = thing d i ∷ declares (i + 1) ∷ []
 eventsAt d (A.declareFree i) = thing d i ∷ declares (i + 1) ∷ []
+eventsAt d (A.declareOwn i a b) = thing d i ∷ declares (i + 1) ∷ []
 eventsAt d (A.assign i e) = thing d i ∷ uses i ∷ eventsAt d e
 eventsAt d (A.eval e) = thing d (first e) ∷ eventsAt d e
 eventsAt d (A.block i b) = thing d i ∷ eventsAt (suc d) b

@@ -3,13 +3,13 @@ use Prim.Native.Nat.{ℕ, _+_, _*_, _≤_, _<_}
 use mathlib.Core.Path.{_≡_}
 use mathlib.Core.List.{List}
 use lib.ListN.{length, getD}
-use Rattle.syntax.specs.Ast.{Sort, Ast, prog}
+use Rattle.syntax.specs.Ast.{Sort, Ast, prog, lowFirst, highNumber}
 use Rattle.syntax.specs.Ast as A
 use Rattle.syntax.specs.Table.{nodeWords, Holds}
 use Rattle.events.specs.Event.{events}
 use Rattle.events.specs.Stored.{eventWords, stored}
 
--- the tokens that a tree names are below m (a declaration and a negative number name the token after their first, too)
+-- the tokens that a tree names are below m (a declaration and a negative number name the token after their first, too, and one with its own pair the numbers of both ends)
 unfoldable pub Below : {s : Sort} → ℕ → Ast s → Type 0
 Below m (A.number i) = i < m
 Below m (A.negative i) = i + 1 < m
@@ -30,6 +30,7 @@ Below m (A.either a b) = Below m a × Below m b
 Below m (A.empty i) = i < m
 Below m (A.declare i) = i + 1 < m
 Below m (A.declareFree i) = i + 1 < m
+Below m (A.declareOwn i a b) = highNumber (lowFirst i) a b < m
 Below m (A.assign i e) = (i < m) × Below m e
 Below m (A.eval e) = Below m e
 Below m (A.block i b) = (i < m) × Below m b

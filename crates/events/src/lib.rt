@@ -132,7 +132,7 @@ fn statement(nodes: &[u32], i: usize, depth: usize, out: &mut [u32], n: usize) -
     let k = node.kind;
     match k {
         kind::EMPTY | kind::FAIL => emit(out, n, event::THING, node.token, depth),
-        kind::DECLARE | kind::DECLARE_FREE => {
+        kind::DECLARE | kind::DECLARE_FREE | kind::DECLARE_OWN => {
             let m = emit(out, n, event::THING, node.token, depth);
             emit(out, m, event::DECLARES, node.token + 1, 0)
         }

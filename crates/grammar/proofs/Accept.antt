@@ -1,13 +1,13 @@
 -- The machine takes the tokens of every tree.
 use Prim.Native.Nat.{ℕ}
 use mathlib.Core.Path.{_≡_, refl, sym, _∙_, subst}
-use mathlib.Core.Bool.{false}
+use mathlib.Core.Bool.{true, false}
 use mathlib.Core.List.{List, [], _∷_}
 use lib.Dec.{eqb}
 use Rattle.syntax.specs.Token.{kName, kNumber, kOpen, kClose, kComma, kPlus, kMinus, kTimes, kTrue, kFalse, kAnd, kOr, kSemi, kAssign, kLbrace, kRbrace, kInt, kIf, kElse, kWhile, kReturn, kFail}
 use Rattle.syntax.specs.Tree.{Cat, Tree, Cmp, cmpKind, onto}
 use Rattle.syntax.specs.Tree.{operand, term, sum, args, argList, cmp, atom, conj, cond, less, equal, lessEq, greater, greaterEq, unequal, stmt, stmts, body, params, paramList, fun, prog}
-use Rattle.syntax.specs.Tree.{number, negative, name, call, bracket, noArgs, someArgs, firstArg, nextArg, factor, times, addend, plus, minus, cmpMark, always, never, compare, oneAtom, both, oneConj, either, empty, declare, declareFree, assign, eval, block, ifElse, while, return, fail, noStmts, moreStmts, braced, noParams, someParams, firstParam, nextParam, function, noFuns, moreFuns}
+use Rattle.syntax.specs.Tree.{number, negative, name, call, bracket, noArgs, someArgs, firstArg, nextArg, factor, times, addend, plus, minus, cmpMark, always, never, compare, oneAtom, both, oneConj, either, empty, declare, declareFree, declareOwn, assign, eval, block, ifElse, while, return, fail, noStmts, moreStmts, braced, noParams, someParams, firstParam, nextParam, function, noFuns, moreFuns}
 use Rattle.grammar.proofs.Machine.{Stack, step, run}
 use Rattle.grammar.proofs.Machine.{tok, sOperand, sTerm, sTerms, sSum, sSums, sArgs, sMore, sCmp, sAtom, sConj, sConjs, sCond, sConds, sStmt, sBody, sParams, sParamMore, sFuns}
 
@@ -137,6 +137,7 @@ begins (either b c) r = begins b (kOr ∷ onto c r)
 begins (empty i) r = record { one = kSemi; more = _; is = refl; first = refl }
 begins (declare i) r = record { one = kInt; more = _; is = refl; first = refl }
 begins (declareFree i) r = record { one = kInt; more = _; is = refl; first = refl }
+begins (declareOwn i a b) r = record { one = kInt; more = _; is = refl; first = refl }
 begins (assign i e) r = record { one = kName; more = _; is = refl; first = refl }
 begins (eval e) r = let b = begins e (kSemi ∷ r) in record { one = b .one; more = b .more; is = b .is; first = b .first .3 }
 begins (block i b) r = record { one = kLbrace; more = _; is = refl; first = refl }
@@ -216,6 +217,7 @@ starts (either b c) k r e = tt
 starts (empty i) k r e = tt
 starts (declare i) k r e = tt
 starts (declareFree i) k r e = tt
+starts (declareOwn i a b) k r e = tt
 starts (assign i t) k r e = tt
 starts (eval t) k r e = tt
 starts (block i b) k r e = tt
@@ -324,6 +326,10 @@ accept (either b c) ss k r q = accept b ss kOr (onto c (k ∷ r)) (refl, refl, r
 accept (empty i) ss k r q = refl
 accept (declare i) ss k r q = refl
 accept (declareFree i) ss k r q = refl
+accept (declareOwn i true true) ss k r q = refl
+accept (declareOwn i true false) ss k r q = refl
+accept (declareOwn i false true) ss k r q = refl
+accept (declareOwn i false false) ss k r q = refl
 accept (assign i e) ss k r q = accept e (tok kSemi ∷ ss) kSemi (k ∷ r) (refl, refl)
 accept (eval e) ss k r q = stmt-sum ss (starts e kSemi (k ∷ r) refl) ∙ accept e (tok kSemi ∷ ss) kSemi (k ∷ r) (refl, refl)
 accept (block i b) ss k r q = accept b ss k r tt

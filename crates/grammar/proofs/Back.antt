@@ -1,18 +1,20 @@
 -- Every tree is read back from its tokens, with the numbers that its tokens have. So the tree of a token list is the only one, and its numbers are right.
 use Prim.Native.Nat.{ℕ, _+_, _*_, _≤_}
 use mathlib.Core.Path.{_≡_, refl, sym, ap, _∙_, subst}
+use mathlib.Core.Bool.{Bool, true, false}
 use mathlib.Core.List.{List, [], _∷_}
 use native.Mathlib.Omega.{arith}
-use lib.ListN.{length, drop}
-use Rattle.syntax.specs.Token.{kEnd, kName, kOpen, kClose, kComma, kPlus, kMinus, kTimes, kAnd, kOr, kSemi, kLbrace, kRbrace, kInt, kElse}
-use Rattle.syntax.specs.Tree.{Cat, Tree, cmpKind, onto, width, numbered}
+use lib.ListN.{length, drop, getD}
+use Rattle.syntax.specs.Token.{kEnd, kName, kOpen, kClose, kComma, kPlus, kMinus, kTimes, kAnd, kOr, kSemi, kLbrace, kRbrace, kInt, kElse, kDotDot}
+use Rattle.syntax.specs.Tree.{Cat, Tree, cmpKind, endOnto, onto, width, numbered}
 use Rattle.syntax.specs.Tree.{operand, term, sum, args, argList, cmp, atom, conj, cond, stmt, stmts, body, params, paramList, fun, prog}
-use Rattle.syntax.specs.Tree.{number, negative, name, call, bracket, noArgs, someArgs, firstArg, nextArg, factor, times, addend, plus, minus, cmpMark, always, never, compare, oneAtom, both, oneConj, either, empty, declare, declareFree, assign, eval, block, ifElse, while, return, fail, noStmts, moreStmts, braced, noParams, someParams, firstParam, nextParam, function, noFuns, moreFuns}
+use Rattle.syntax.specs.Tree.{number, negative, name, call, bracket, noArgs, someArgs, firstArg, nextArg, factor, times, addend, plus, minus, cmpMark, always, never, compare, oneAtom, both, oneConj, either, empty, declare, declareFree, declareOwn, assign, eval, block, ifElse, while, return, fail, noStmts, moreStmts, braced, noParams, someParams, firstParam, nextParam, function, noFuns, moreFuns}
+use Rattle.syntax.specs.Ast.{bit}
 use Rattle.grammar.specs.Parse.{ok, readCmp, moreProg, readText}
 use Rattle.grammar.proofs.Lengths.{onto-length, operand-longer, term-longer, longer, atom-longer, conj-longer, stmt-longer, params-longer}
 use Rattle.grammar.proofs.Accept.{Quiet, begins, starts, cmp-quiet}
 use Rattle.grammar.proofs.Steps.{clash}
-use Rattle.grammar.proofs.Readings.{yes, no, then-ok, ahead, past, ends, Operand, Args, ArgList, Term, Sum, Atom, Conj, Cond, Stmt, Stmts, Body, Params, ParamList, Fun, Prog, number-step, negative-step, name-step, call-step, bracket-step, no-args-step, some-args-step, first-arg-step, next-arg-step, factor-step, times-step, addend-step, plus-step, minus-step, sum-done, cmp-step, always-step, never-step, compare-step, one-atom-step, both-step, one-conj-step, either-step, guard-step, empty-step, declare-step, free-step, assign-step, return-step, fail-step, block-step, while-step, if-step, eval-step, no-stmts-step, more-stmts-step, braced-step, no-params-step, some-params-step, first-param-step, next-param-step, function-step, no-funs-step, more-funs-step}
+use Rattle.grammar.proofs.Readings.{yes, no, then-ok, ahead, past, ends, Operand, Args, ArgList, Term, Sum, Atom, Conj, Cond, Stmt, Stmts, Body, Params, ParamList, Fun, Prog, number-step, negative-step, name-step, call-step, bracket-step, no-args-step, some-args-step, first-arg-step, next-arg-step, factor-step, times-step, addend-step, plus-step, minus-step, sum-done, cmp-step, always-step, never-step, compare-step, one-atom-step, both-step, one-conj-step, either-step, guard-step, empty-step, declare-step, free-step, EndAt, signed, plain, own-step, assign-step, return-step, fail-step, block-step, while-step, if-step, eval-step, no-stmts-step, more-stmts-step, braced-step, no-params-step, some-params-step, first-param-step, next-param-step, function-step, no-funs-step, more-funs-step}
 
 module _ (ks : List ℕ) where
   -- where the numbers of a tree are counted in another way
@@ -21,6 +23,24 @@ module _ (ks : List ℕ) where
 
   three : (x : ℕ) → x + 1 + 1 + 1 ≡ x + 3
   three x = omega arith
+
+  -- the tokens of an end of a pair stand at p, and the rest r after them
+  record Passed (p : ℕ) (a : Bool) (r : List ℕ) : Type 0 where
+    next : ℕ
+    counts : next ≡ p + 1 + bit a
+    stands : EndAt ks p a next
+    rest : drop next ks ≡ r
+
+  end-ahead : (a : Bool) (p : ℕ) {r : List ℕ} → drop p ks ≡ endOnto a r → Passed p a r
+  end-ahead true p e = let m = ahead ks p e in let n = ahead ks (p + 1) (m .next) in record { next = p + 1 + 1; counts = refl; stands = signed (m .here) (n .here); rest = n .next }
+  end-ahead false p e = let n = ahead ks p e in record { next = p + 1; counts = omega arith; stands = plain (n .here); rest = n .next }
+
+  own-width : (i : ℕ) (a b : Bool) → width (declareOwn i a b) ≡ 7 + bit a + bit b
+  unfolding onto
+  own-width i true true = refl
+  own-width i true false = refl
+  own-width i false true = refl
+  own-width i false false = refl
 
   abbrev Back : (c : Cat) → Tree c → ℕ → ℕ → Type 0
   Back operand t p q = Operand ks t p q
@@ -91,6 +111,11 @@ module _ (ks : List ℕ) where
   back (empty i) p q k r e w z = let a = ahead ks p e in empty-step ks p q (a .here) (a .inside) w
   back (declare i) p q k r e w z = let a = ahead ks p e in let b = ahead ks (p + 1) (a .next) in let c = ahead ks (p + 1 + 1) (b .next) in declare-step ks p q (a .here) (a .inside) (b .here) (c .here) (omega (arith, w))
   back (declareFree i) p q k r e w z = let a = ahead ks p e in let b = ahead ks (p + 1) (a .next) in let c = ahead ks (p + 1 + 1) (b .next) in let d = ahead ks (p + 1 + 1 + 1) (c .next) in free-step ks p q (a .here) (a .inside) (b .here) (c .here) (d .here) (omega (arith, w))
+  back (declareOwn i a b) p q k r e w z =
+      let x = ahead ks p e in let y = ahead ks (p + 1) (x .next) in let v = ahead ks (p + 1 + 1) (y .next) in
+      let l = end-ahead a (p + 1 + 1 + 1) (v .next) in let o = ahead ks (l .next) (l .rest) in
+      let h = end-ahead b (l .next + 1) (o .next) in let s = ahead ks (h .next) (h .rest) in
+      own-step ks p q (l .next) (h .next) a b (x .here) (x .inside) (y .here) (v .here) (l .stands) (o .here) (h .stands) (s .here) (omega (arith, w, own-width i a b, l .counts, h .counts))
   back (assign i s) p q k r e w z =
       let a = ahead ks p e in let b = ahead ks (p + 1) (a .next) in let x = ends ks s (p + 1 + 1) (b .next) refl in
       subst (λ (v : ℕ). Stmt ks (assign p (numbered v s)) p q) (two p)

@@ -1,13 +1,14 @@
 -- The tokens of a tree, and how many they are.
 use Prim.Native.Nat.{ℕ, _+_, _<_}
 use mathlib.Core.Path.{_≡_, refl, ap, _∙_}
+use mathlib.Core.Bool.{Bool, true, false}
 use mathlib.Core.List.{List, [], _∷_, _++_}
 use native.Mathlib.Omega.{arith}
 use lib.ListN.{length, length-append}
 use Rattle.syntax.specs.Token.{kName, kOpen, kClose, kComma, kPlus, kMinus, kTimes, kAnd, kOr, kSemi, kAssign, kLbrace, kRbrace, kInt, kIf, kElse, kWhile, kReturn}
 use Rattle.syntax.specs.Tree.{Cat, Tree, onto, width}
 use Rattle.syntax.specs.Tree.{operand, term, sum, atom, conj, stmt, params}
-use Rattle.syntax.specs.Tree.{number, negative, name, call, bracket, noArgs, someArgs, firstArg, nextArg, factor, times, addend, plus, minus, cmpMark, always, never, compare, oneAtom, both, oneConj, either, empty, declare, declareFree, assign, eval, block, ifElse, while, return, fail, noStmts, moreStmts, braced, noParams, someParams, firstParam, nextParam, function, noFuns, moreFuns}
+use Rattle.syntax.specs.Tree.{number, negative, name, call, bracket, noArgs, someArgs, firstArg, nextArg, factor, times, addend, plus, minus, cmpMark, always, never, compare, oneAtom, both, oneConj, either, empty, declare, declareFree, declareOwn, assign, eval, block, ifElse, while, return, fail, noStmts, moreStmts, braced, noParams, someParams, firstParam, nextParam, function, noFuns, moreFuns}
 
 pub onto-append : {c : Cat} (t : Tree c) (r s : List ℕ) → onto t (r ++ s) ≡ onto t r ++ s
 unfolding onto
@@ -36,6 +37,10 @@ onto-append (either b c) r s = ap (λ (x : List ℕ). onto b (kOr ∷ x)) (onto-
 onto-append (empty i) r s = refl
 onto-append (declare i) r s = refl
 onto-append (declareFree i) r s = refl
+onto-append (declareOwn i true true) r s = refl
+onto-append (declareOwn i true false) r s = refl
+onto-append (declareOwn i false true) r s = refl
+onto-append (declareOwn i false false) r s = refl
 onto-append (assign i e) r s = ap (λ (l : List ℕ). kName ∷ kAssign ∷ l) (onto-append e (kSemi ∷ r) s)
 onto-append (eval e) r s = onto-append e (kSemi ∷ r) s
 onto-append (block i b) r s = ap (λ (l : List ℕ). kLbrace ∷ l) (onto-append b r s)
@@ -93,6 +98,7 @@ unfolding onto
 stmt-longer (empty i) = omega arith
 stmt-longer (declare i) = omega arith
 stmt-longer (declareFree i) = omega arith
+stmt-longer (declareOwn i a b) = omega arith
 stmt-longer (assign i e) = omega arith
 stmt-longer (eval e) = omega (arith, longer e, onto-length e (kSemi ∷ []))
 stmt-longer (block i b) = omega arith

@@ -10,5 +10,6 @@ pub mod Back
 pub mod Grammar
 pub mod Examples
 pub mod Steps
+pub mod Ends
 pub mod Marks
 pub mod Whole

@@ -4,11 +4,11 @@ use mathlib.Core.Bool.{Bool, true, false}
 use mathlib.Core.List.{List, [], _∷_}
 use mathlib.Core.Option.{Option, none, some}
 use lib.Dec.{eqb}
-use Rattle.syntax.specs.Token.{kName, kNumber, kOpen, kClose, kComma, kPlus, kMinus, kTimes, kTrue, kFalse, kAnd, kOr, kLess, kEqual, kLessEq, kGreater, kGreaterEq, kUnequal, kSemi, kAssign, kLbrace, kRbrace, kInt, kFree, kIf, kElse, kWhile, kReturn, kFail}
+use Rattle.syntax.specs.Token.{kName, kNumber, kOpen, kClose, kComma, kPlus, kMinus, kTimes, kTrue, kFalse, kAnd, kOr, kLess, kEqual, kLessEq, kGreater, kGreaterEq, kUnequal, kSemi, kAssign, kLbrace, kRbrace, kInt, kFree, kIf, kElse, kWhile, kReturn, kFail, kDotDot}
 
 pub data Sym : Type 0 where
   tok : ℕ → Sym
-  sOperand sTerm sTerms sSum sSums sCall sArgs sMore sCmp sAtom sConj sConjs sCond sConds sStmt sDecl sNamed sBody sParams sParamMore sFuns : Sym
+  sOperand sTerm sTerms sSum sSums sCall sArgs sMore sCmp sAtom sConj sConjs sCond sConds sStmt sDecl sFree sEnd sNamed sBody sParams sParamMore sFuns : Sym
 
 abbrev pub Stack : Type 0
 Stack = List Sym
@@ -43,6 +43,10 @@ stmtBy k ss =
     (on (eqb k kFail) (some (tok kSemi ∷ ss))
     (sumBy k (tok kSemi ∷ ss)))))))))
 
+-- what may begin an end of a pair
+abbrev pub endBy : ℕ → Stack → Option Stack
+endBy k ss = on (eqb k kMinus) (some (tok kNumber ∷ ss)) (on (eqb k kNumber) (some ss) none)
+
 unfoldable pub step : ℕ → Stack → Option Stack
 step k [] = none
 step k (tok j ∷ ss) = on (eqb k j) (some ss) none
@@ -61,7 +65,9 @@ step k (sConjs ∷ ss) = on (eqb k kAnd) (some (sAtom ∷ sConjs ∷ ss)) (step 
 step k (sCond ∷ ss) = atomBy k (sConjs ∷ sConds ∷ ss)
 step k (sConds ∷ ss) = on (eqb k kOr) (some (sConj ∷ sConds ∷ ss)) (step k ss)
 step k (sStmt ∷ ss) = stmtBy k ss
-step k (sDecl ∷ ss) = on (eqb k kSemi) (some ss) (on (eqb k kFree) (some (tok kSemi ∷ ss)) none)
+step k (sDecl ∷ ss) = on (eqb k kSemi) (some ss) (on (eqb k kFree) (some (sFree ∷ ss)) none)
+step k (sFree ∷ ss) = on (eqb k kSemi) (some ss) (endBy k (tok kDotDot ∷ sEnd ∷ tok kSemi ∷ ss))
+step k (sEnd ∷ ss) = endBy k ss
 step k (sNamed ∷ ss) =
     on (eqb k kAssign) (some (sSum ∷ tok kSemi ∷ ss))
     (on (eqb k kOpen) (some (sArgs ∷ sTerms ∷ sSums ∷ tok kSemi ∷ ss))

@@ -9,11 +9,11 @@ use lib.ListN.{length, getD, drop, length-drop}
 use lib.Seq.{drop-cons, drop-drop, drop-append-seam}
 use lib.Dec.{eqb}
 use borrow.Author.Tests.{eq-eqb, ne-eqb}
-use Rattle.syntax.specs.Token.{kName, kNumber, kOpen, kClose, kComma, kPlus, kMinus, kTimes, kTrue, kFalse, kAnd, kOr, kSemi, kAssign, kLbrace, kRbrace, kInt, kFree, kIf, kElse, kWhile, kReturn, kFail}
+use Rattle.syntax.specs.Token.{kName, kNumber, kOpen, kClose, kComma, kPlus, kMinus, kTimes, kTrue, kFalse, kAnd, kOr, kSemi, kAssign, kLbrace, kRbrace, kInt, kFree, kIf, kElse, kWhile, kReturn, kFail, kDotDot}
 use Rattle.syntax.specs.Tree.{Cat, Tree, Cmp, cmpKind, onto, width}
 use Rattle.syntax.specs.Tree.{operand, term, sum, args, argList, atom, conj, cond, less, equal, lessEq, greater, greaterEq, unequal, stmt, stmts, body, params, paramList, fun, prog}
-use Rattle.syntax.specs.Tree.{number, negative, name, call, bracket, noArgs, someArgs, firstArg, nextArg, factor, times, addend, plus, minus, cmpMark, always, never, compare, oneAtom, both, oneConj, either, empty, declare, declareFree, assign, eval, block, ifElse, while, return, fail, noStmts, moreStmts, braced, noParams, someParams, firstParam, nextParam, function, noFuns, moreFuns}
-use Rattle.grammar.specs.Parse.{Res, ok, andThen, readOperand, readArgs, moreArgs, readTerm, moreTerm, readSum, moreSum, readCmp, readAtom, moreConj, readConj, moreCond, readCond, readGuard, readEnded, readNamed, readDecl, readFail, readStmt, moreBody, moreParams, readParams, readFun, moreProg}
+use Rattle.syntax.specs.Tree.{number, negative, name, call, bracket, noArgs, someArgs, firstArg, nextArg, factor, times, addend, plus, minus, cmpMark, always, never, compare, oneAtom, both, oneConj, either, empty, declare, declareFree, declareOwn, assign, eval, block, ifElse, while, return, fail, noStmts, moreStmts, braced, noParams, someParams, firstParam, nextParam, function, noFuns, moreFuns}
+use Rattle.grammar.specs.Parse.{Res, ok, andThen, expect, readEnd, readOwn, readOperand, readArgs, moreArgs, readTerm, moreTerm, readSum, moreSum, readCmp, readAtom, moreConj, readConj, moreCond, readCond, readGuard, readEnded, readNamed, readDecl, readFail, readStmt, moreBody, moreParams, readParams, readFun, moreProg}
 use Rattle.grammar.proofs.Lengths.{onto-append}
 use Rattle.grammar.proofs.Accept.{Start, s-number, s-minus, s-open, s-name}
 use Rattle.grammar.proofs.Steps.{clash}
@@ -260,6 +260,33 @@ module _ (ks : List ℕ) where
   unfolding readStmt readDecl
   free-step p q e i n r s w zero f = absurd (omega arith)
   free-step p q e i n r s w (suc d) f = no _ _ (clash e refl) ∙ yes _ _ e ∙ yes _ _ n ∙ no _ _ (clash r refl) ∙ yes _ _ r ∙ yes _ _ s ∙ ap (ok (declareFree p)) (sym w)
+
+  -- an end of a pair stands at p, with a minus or without, and x is the token after it
+  pub data EndAt (p : ℕ) : Bool → ℕ → Type 0 where
+    signed : getD ks p 0 ≡ kMinus → getD ks (p + 1) 0 ≡ kNumber → EndAt p true (p + 1 + 1)
+    plain : getD ks p 0 ≡ kNumber → EndAt p false (p + 1)
+
+  end-reads : {c : Cat} {a : Bool} {p x : ℕ} (f : Bool → ℕ → Res c) → EndAt p a x → readEnd ks p f ≡ f a x
+  end-reads f (signed m n) = yes _ _ m ∙ yes _ _ n
+  end-reads f (plain n) = no _ _ (clash n refl) ∙ yes _ _ n
+
+  end-first : {a : Bool} {p x : ℕ} → EndAt p a x → getD ks p 0 ≡ kSemi → ⊥
+  end-first (signed m n) = clash m refl
+  end-first (plain n) = clash n refl
+
+  own-reads : (p q x y : ℕ) (a b : Bool) {m : ℕ} → EndAt m a x → getD ks x 0 ≡ kDotDot → EndAt (x + 1) b y → getD ks y 0 ≡ kSemi → q ≡ y + 1 → readOwn ks p m ≡ ok (declareOwn p a b) q
+  unfolding readOwn
+  own-reads p q x y a b l o h s w =
+      end-reads (λ c u. expect ks kDotDot u (readEnd ks (u + 1) (λ d v. expect ks kSemi v (ok (declareOwn p c d) (v + 1))))) l
+      ∙ yes _ _ o
+      ∙ end-reads (λ d v. expect ks kSemi v (ok (declareOwn p a d) (v + 1))) h
+      ∙ yes _ _ s
+      ∙ ap (ok (declareOwn p a b)) (sym w)
+
+  pub own-step : (p q x y : ℕ) (a b : Bool) → getD ks p 0 ≡ kInt → p < length ks → getD ks (p + 1) 0 ≡ kName → getD ks (p + 1 + 1) 0 ≡ kFree → EndAt (p + 1 + 1 + 1) a x → getD ks x 0 ≡ kDotDot → EndAt (x + 1) b y → getD ks y 0 ≡ kSemi → q ≡ y + 1 → Stmt (declareOwn p a b) p q
+  unfolding readStmt readDecl
+  own-step p q x y a b e i n r l o h s w zero f = absurd (omega arith)
+  own-step p q x y a b e i n r l o h s w (suc d) f = no _ _ (clash e refl) ∙ yes _ _ e ∙ yes _ _ n ∙ no _ _ (clash r refl) ∙ yes _ _ r ∙ no _ _ (end-first l) ∙ own-reads p q x y a b l o h s w
 
   pub assign-step : (p q x : ℕ) (s : Tree sum) → getD ks p 0 ≡ kName → getD ks (p + 1) 0 ≡ kAssign → p + 1 + 1 < length ks → SumDone s (p + 1 + 1) x → getD ks x 0 ≡ kSemi → q ≡ x + 1 → Stmt (assign p s) p q
   unfolding readStmt readNamed

@@ -9,14 +9,14 @@ use lib.ListN.{length, getD, take, drop, length-append}
 use lib.Seq.{length-take-le}
 use lib.Dec.{eqb}
 use borrow.Author.Tests.{eq-eqb}
-use Rattle.syntax.specs.Token.{kName, kOpen, kClose, kComma, kTrue, kSemi, kAssign, kLbrace, kRbrace, kInt, kFree, kIf, kElse, kWhile, kReturn, kFail}
-use Rattle.syntax.specs.Tree.{Cat, Tree, onto}
+use Rattle.syntax.specs.Token.{kName, kOpen, kClose, kComma, kTrue, kSemi, kAssign, kLbrace, kRbrace, kInt, kFree, kIf, kElse, kWhile, kReturn, kFail, kNumber, kMinus, kDotDot}
+use Rattle.syntax.specs.Tree.{Cat, Tree, endOnto, onto}
 use Rattle.syntax.specs.Tree.{sum, cond, stmt, stmts, paramList, prog}
-use Rattle.syntax.specs.Tree.{always, oneAtom, oneConj, empty, declare, declareFree, assign, eval, block, ifElse, while, return, fail, noStmts, moreStmts, braced, noParams, someParams, firstParam, nextParam, function, moreFuns}
+use Rattle.syntax.specs.Tree.{always, oneAtom, oneConj, empty, declare, declareFree, declareOwn, assign, eval, block, ifElse, while, return, fail, noStmts, moreStmts, braced, noParams, someParams, firstParam, nextParam, function, moreFuns}
 use Rattle.grammar.proofs.Lengths.{stmt-longer}
 use Rattle.grammar.proofs.Machine.{Stack, step, run}
-use Rattle.grammar.proofs.Machine.{tok, sSum, sCond, sStmt, sDecl, sNamed, sBody, sParams, sParamMore, sFuns}
-use Rattle.grammar.specs.Parse.{Res, ok, bad, andThen, peek, expect, readCond, readGuard, readEnded, readNamed, readDecl, readFail, readStmt, readBlock, readIf, readWhile, moreBody, moreParams, readParams, readFun, moreProg}
+use Rattle.grammar.proofs.Machine.{tok, sSum, sCond, sStmt, sDecl, sFree, sEnd, sNamed, sBody, sParams, sParamMore, sFuns}
+use Rattle.grammar.specs.Parse.{Res, ok, bad, andThen, peek, expect, readCond, readGuard, readEnded, readNamed, readEnd, readOwn, readDecl, readFail, readStmt, readBlock, readIf, readWhile, moreBody, moreParams, readParams, readFun, moreProg}
 use Rattle.grammar.proofs.Right.{upto, Ok, Reads, Eat, head, eat, move, eatThen, done, skip, stop, split, after, Fuel, sum-right, cond-right}
 
 module _ (ks : List ℕ) (ends : (a : ℕ) → suc a ≡ length ks → getD ks a 0 ≡ 0) where
@@ -75,16 +75,42 @@ module _ (ks : List ℕ) (ends : (a : ℕ) → suc a ≡ length ks → getD ks a
       after ks ends wrap (λ r. kSemi ∷ r) w (sum-right ks ends d at i (omega arith))
       (λ t m h. expects kSemi (wrap t) (λ r. kSemi ∷ r) (h .inside) refl (λ r. h .read _ ∙ w t r) (λ y. done ks ends (y .inside) (λ r. y .read r ∙ h .read _ ∙ w t r)))
 
+  -- an end of a pair, and what comes after it; `form` makes a tree of whether it has a minus, and `tail` what is then missing
+  end-then : {c : Cat} {b at : ℕ} {S′ : Stack → Stack} (f : Bool → ℕ → Res c) (form : Bool → Tree c) (tail : List ℕ → List ℕ) → at < length ks
+      → ((a : Bool) (r : List ℕ) → upto ks ends at (endOnto a (tail r)) ≡ upto ks ends b (onto (form a) r))
+      → ((a : Bool) (m : ℕ) → m < length ks → ((r : List ℕ) → upto ks ends m r ≡ upto ks ends at (endOnto a r)) → Reads ks ends b S′ m (f a m))
+      → Reads ks ends b (λ ss. sEnd ∷ S′ ss) at (readEnd ks at f)
+  unfolding run step
+  end-then {at = at} {S′ = S′} f form tail i w h =
+      split ks ends (eqb (peek ks at) kMinus)
+      (λ e. let x = eat ks ends at kMinus i e refl in eatThen ks ends {S′ = λ ss. tok kNumber ∷ S′ ss} x (λ ss r. refl)
+      (expects kNumber (form true) (λ r. kNumber ∷ tail r) (x .inside) refl (λ r. x .read _ ∙ w true r)
+      (λ y. h true (at + 1 + 1) (y .inside) (λ r. y .read _ ∙ x .read _))))
+      (λ e. skip ks ends {S′ = λ ss. tok kNumber ∷ S′ ss} i (λ ss. rw e)
+      (expects kNumber (form false) (λ r. kNumber ∷ tail r) i refl (λ r. w false r)
+      (λ y. h false (at + 1) (y .inside) (λ r. y .read _))))
+
+  own-right : (at m : ℕ) → m < length ks → ((r : List ℕ) → upto ks ends m r ≡ upto ks ends at (kInt ∷ kName ∷ kFree ∷ r))
+      → Reads ks ends at (λ ss. sEnd ∷ tok kDotDot ∷ sEnd ∷ tok kSemi ∷ ss) m (readOwn ks at m)
+  unfolding readOwn onto
+  own-right at m i u =
+      end-then (λ a n. expect ks kDotDot n (readEnd ks (n + 1) (λ b o. expect ks kSemi o (ok (declareOwn at a b) (o + 1))))) (λ a. declareOwn 0 a false) (λ r. kDotDot ∷ kNumber ∷ kSemi ∷ r) i (λ a r. u _)
+      (λ a n j v. expects kDotDot (declareOwn 0 a false) (λ r. kDotDot ∷ kNumber ∷ kSemi ∷ r) j refl (λ r. v _ ∙ u _)
+      (λ x. end-then (λ b o. expect ks kSemi o (ok (declareOwn at a b) (o + 1))) (declareOwn 0 a) (λ r. kSemi ∷ r) (x .inside) (λ b r. x .read _ ∙ v _ ∙ u _)
+      (λ b o k w. expects kSemi (declareOwn 0 a b) (λ r. kSemi ∷ r) k refl (λ r. w _ ∙ x .read _ ∙ v _ ∙ u _)
+      (λ y. done ks ends (y .inside) (λ r. y .read _ ∙ w _ ∙ x .read _ ∙ v _ ∙ u _)))))
+
   decl-right : (at : ℕ) → Eat ks ends at kInt → Reads ks ends at (λ ss. tok kName ∷ sDecl ∷ ss) (at + 1) (readDecl ks at)
   unfolding readDecl onto run step
   decl-right at x =
       expects kName (declare 0) (λ r. kName ∷ kSemi ∷ r) (x .inside) refl (λ r. x .read _)
       (λ y. split ks ends (eqb (peek ks (at + 1 + 1)) kSemi)
       (λ e. let z = eat ks ends (at + 1 + 1) kSemi (y .inside) e refl in eatThen ks ends z (λ ss r. refl) (done ks ends (z .inside) (λ r. z .read _ ∙ y .read _ ∙ x .read _)))
-      (λ e. skip ks ends {S′ = λ ss. tok kFree ∷ tok kSemi ∷ ss} (y .inside) (λ ss. rw e)
+      (λ e. skip ks ends {S′ = λ ss. tok kFree ∷ sFree ∷ ss} (y .inside) (λ ss. rw e)
       (expects kFree (declare 0) (λ r. kSemi ∷ r) (y .inside) refl (λ r. y .read _ ∙ x .read _)
-      (λ z. expects kSemi (declareFree 0) (λ r. kSemi ∷ r) (z .inside) refl (λ r. z .read _ ∙ y .read _ ∙ x .read _)
-      (λ u. done ks ends (u .inside) (λ r. u .read _ ∙ z .read _ ∙ y .read _ ∙ x .read _)))))
+      (λ z. split ks ends (eqb (peek ks (at + 1 + 1 + 1)) kSemi)
+      (λ f. let u = eat ks ends (at + 1 + 1 + 1) kSemi (z .inside) f refl in eatThen ks ends u (λ ss r. refl) (done ks ends (u .inside) (λ r. u .read _ ∙ z .read _ ∙ y .read _ ∙ x .read _)))
+      (λ f. skip ks ends {S′ = λ ss. sEnd ∷ tok kDotDot ∷ sEnd ∷ tok kSemi ∷ ss} (z .inside) (λ ss. rw f) (own-right at (at + 1 + 1 + 1) (z .inside) (λ r. z .read _ ∙ y .read _ ∙ x .read _))))))
       )
 
   -- a statement that begins with a name which is not assigned to goes on as a sum

@@ -1,15 +1,15 @@
 -- The readers: recursive descent over the list of the kinds of the tokens; the next kind decides. A tree holds the numbers of its tokens.
 -- d bounds how deep the calls go, and `parsed` gives enough of it.
 use Prim.Native.Nat.{ℕ, zero, suc, _+_, _*_}
-use mathlib.Core.Bool.{true, false}
+use mathlib.Core.Bool.{Bool, true, false}
 use mathlib.Core.List.{List}
 use lib.ListN.{length, getD}
 use lib.Dec.{eqb}
-use Rattle.syntax.specs.Token.{kEnd, kName, kNumber, kOpen, kClose, kComma, kPlus, kMinus, kTimes, kTrue, kFalse, kAnd, kOr, kLess, kEqual, kLessEq, kGreater, kGreaterEq, kUnequal, kSemi, kAssign, kLbrace, kRbrace, kInt, kFree, kIf, kElse, kWhile, kReturn, kFail}
+use Rattle.syntax.specs.Token.{kEnd, kName, kNumber, kOpen, kClose, kComma, kPlus, kMinus, kTimes, kTrue, kFalse, kAnd, kOr, kLess, kEqual, kLessEq, kGreater, kGreaterEq, kUnequal, kSemi, kAssign, kLbrace, kRbrace, kInt, kFree, kIf, kElse, kWhile, kReturn, kFail, kDotDot}
 use Rattle.syntax.specs.Tree.{Cat, Tree}
 use Rattle.syntax.specs.Tree.{operand, term, sum, args, argList, cmp, atom, conj, cond, stmt, stmts, body, params, paramList, fun, prog}
 use Rattle.syntax.specs.Tree.{less, lessEq, greater, greaterEq, equal, unequal}
-use Rattle.syntax.specs.Tree.{number, negative, name, call, bracket, noArgs, someArgs, firstArg, nextArg, factor, times, addend, plus, minus, cmpMark, always, never, compare, oneAtom, both, oneConj, either, empty, declare, declareFree, assign, eval, block, ifElse, while, return, fail, noStmts, moreStmts, braced, noParams, someParams, firstParam, nextParam, function, noFuns, moreFuns}
+use Rattle.syntax.specs.Tree.{number, negative, name, call, bracket, noArgs, someArgs, firstArg, nextArg, factor, times, addend, plus, minus, cmpMark, always, never, compare, oneAtom, both, oneConj, either, empty, declare, declareFree, declareOwn, assign, eval, block, ifElse, while, return, fail, noStmts, moreStmts, braced, noParams, someParams, firstParam, nextParam, function, noFuns, moreFuns}
 
 -- a tree and the number of the token after it, or the number of the first token that does not fit
 pub data Res (c : Cat) : Type 0 where
@@ -217,13 +217,30 @@ module _ (ks : List ℕ) where
             readEnded eval d at
       ]
 
-  -- `int x;` or `int x free;`
+  -- an end of a pair, a number with or without a minus, and then f of whether it has one and of the token after it
+  abbrev pub readEnd : {c : Cat} → ℕ → (Bool → ℕ → Res c) → Res c
+  readEnd at f =
+      elim (eqb (peek at) kMinus) [
+        | true ↦ expect kNumber (at + 1) (f true (at + 1 + 1))
+        | false ↦
+            expect kNumber at (f false (at + 1))
+      ]
+
+  -- the rest of `int x free l .. h;`, from the low end on, which is at m
+  unfoldable pub readOwn : ℕ → ℕ → Res stmt
+  readOwn at m = readEnd m (λ a n. expect kDotDot n (readEnd (n + 1) (λ b o. expect kSemi o (ok (declareOwn at a b) (o + 1)))))
+
+  -- `int x;`, `int x free;` or `int x free l .. h;`
   unfoldable pub readDecl : ℕ → Res stmt
   readDecl at =
       expect kName (at + 1) (elim (eqb (peek (at + 1 + 1)) kSemi) [
         | true ↦ ok (declare at) (at + 1 + 1 + 1)
         | false ↦
-            expect kFree (at + 1 + 1) (expect kSemi (at + 1 + 1 + 1) (ok (declareFree at) (at + 1 + 1 + 1 + 1)))
+            expect kFree (at + 1 + 1) (elim (eqb (peek (at + 1 + 1 + 1)) kSemi) [
+              | true ↦ ok (declareFree at) (at + 1 + 1 + 1 + 1)
+              | false ↦
+                  readOwn at (at + 1 + 1 + 1)
+            ])
       ])
 
   -- `fail;`

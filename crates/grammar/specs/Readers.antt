@@ -19,6 +19,15 @@ pub record Stored (l m : List ℕ) (n next k t a b c : ℕ) (r : Read) : Type 0 
   pub answer : r ≡ Found next n (n + 1)
   pub table : m ≡ row l n k t a b c
 
+-- whether a minus stands at `at`
+abbrev pub isMinus : List ℕ → ℕ → Bool
+isMinus ks at = eqb (getD ks at 0) kMinus
+
+-- `at` is a token, and the last token is the end
+pub record Inside (ks : List ℕ) (at : ℕ) : Type 0 where
+  pub inside : at < length ks
+  pub ends : (a : ℕ) → suc a ≡ length ks → getD ks a 0 ≡ 0
+
 -- what a reader asks: `at` is a token, the last token is the end, there is room for two nodes for each token, and no more are used so far
 pub record Ready (ks l : List ℕ) (at n : ℕ) : Type 0 where
   pub inside : at < length ks

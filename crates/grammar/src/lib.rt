@@ -2,8 +2,9 @@
 ghost use mathlib.Core.Path.{_≡_};
 ghost use Prim.Native.Nat.{_+_, _*_, _≤_, _<_};
 ghost use lib.ListN.{length};
-ghost use Rattle.grammar.specs.Parse.{readOperand, readBracket, readCall, readArgs, moreArgs, readTerm, moreTerm, readSum, moreSum, readAtom, readConj, moreConj, readCond, moreCond, readGuard, readDecl, readNamed, readFail, readStmt, readBlock, readIf, readWhile, moreBody, readParams, moreParams, readFun, moreProg, parsed};
-ghost use Rattle.grammar.specs.Readers.{Stored, Ready, Fresh, Rest, Ended, Bodies, signOf, comparisonOf};
+ghost use Rattle.syntax.specs.Ast.{bit};
+ghost use Rattle.grammar.specs.Parse.{readOperand, readBracket, readCall, readArgs, moreArgs, readTerm, moreTerm, readSum, moreSum, readAtom, readConj, moreConj, readCond, moreCond, readGuard, readOwn, readDecl, readNamed, readFail, readStmt, readBlock, readIf, readWhile, moreBody, readParams, moreParams, readFun, moreProg, parsed};
+ghost use Rattle.grammar.specs.Readers.{Stored, isMinus, Inside, Ready, Fresh, Rest, Ended, Bodies, signOf, comparisonOf};
 ghost use Rattle.grammar.specs.Answer.{Tabled, Parses};
 use syntax::Node;
 use syntax::kind;
@@ -393,7 +394,50 @@ fn ended(kinds: &[u8], at: usize, nodes: &mut [u32], n: usize, made: u32, first:
     store(nodes, count, next + 1, made, first, root, 0, 0)
 }
 
-// int x ; or int x free ; the int is at `at`.
+// Where the number of an end of a pair stands, if `at` is the end's first token: behind the minus, if there is one.
+fn end_number(kinds: &[u8], at: usize) -> usize
+    requires { ⌜ Inside (now kinds) at ⌝ }
+    ensures { λ r. ⌜ (r ≡ at + bit (isMinus (now (kinds .entry)) at)) × (r < length (now (kinds .entry))) ⌝ }
+{
+    if kinds[at] == token::MINUS {
+        return at + 1;
+    }
+    at
+}
+
+// l .. h ; of int x free l .. h ; the low end's first token is at `at`, and the int is the token `first`.
+fn own_pair(kinds: &[u8], at: usize, nodes: &mut [u32], n: usize, first: usize) -> Read
+    requires { ⌜ Ready (now kinds) (now nodes) at n × (first < 65536) ⌝ }
+    ensures { λ r. ⌜ Fresh (now (kinds .entry)) (now (nodes .entry)) (now (nodes .exit)) 1 n at 1 r (λ d. readOwn (now (kinds .entry)) first) ⌝ }
+{
+    let low = end_number(kinds, at);
+    if kinds[low] != token::NUMBER {
+        return Read::Bad(low);
+    }
+    if kinds[low + 1] != token::DOT_DOT {
+        return Read::Bad(low + 1);
+    }
+    let after = low + 1 + 1;
+    let high = end_number(kinds, after);
+    if kinds[high] != token::NUMBER {
+        return Read::Bad(high);
+    }
+    if kinds[high + 1] != token::SEMI {
+        return Read::Bad(high + 1);
+    }
+    store(
+        nodes,
+        n,
+        high + 1 + 1,
+        kind::DECLARE_OWN,
+        first,
+        low - at,
+        high - after,
+        0,
+    )
+}
+
+// int x ; int x free ; or int x free l .. h ; the int is at `at`.
 fn declaration(kinds: &[u8], at: usize, nodes: &mut [u32], n: usize) -> Read
     requires { ⌜ Ready (now kinds) (now nodes) at n × (at + 1 < length (now kinds)) ⌝ }
     ensures { λ r. ⌜ Fresh (now (kinds .entry)) (now (nodes .entry)) (now (nodes .exit)) 1 n at 1 r (λ d. readDecl (now (kinds .entry))) ⌝ }
@@ -409,7 +453,7 @@ fn declaration(kinds: &[u8], at: usize, nodes: &mut [u32], n: usize) -> Read
         return Read::Bad(at + 1 + 1);
     }
     if kinds[at + 1 + 1 + 1] != token::SEMI {
-        return Read::Bad(at + 1 + 1 + 1);
+        return own_pair(kinds, at + 1 + 1 + 1, nodes, n, at);
     }
     store(
         nodes,

@@ -3,7 +3,7 @@ use Prim.Native.Nat.{ℕ}
 use mathlib.Core.Path.{_≡_, refl}
 use mathlib.Core.List.{List, [], _∷_, map}
 use lib.ListN.{replicate}
-use Rattle.syntax.specs.Token.{kEnd, kName, kNumber, kInt, kIf, kOpen, kClose, kLess, kLessEq, kAssign, kEqual, kMinus}
+use Rattle.syntax.specs.Token.{kEnd, kName, kNumber, kInt, kIf, kOpen, kClose, kLess, kLessEq, kAssign, kEqual, kMinus, kDotDot}
 use Rattle.lexer.specs.Lex.{
   bytes,
   all,
@@ -66,6 +66,14 @@ vectors =
     ∷ (bytes "12_a", refused 2 2)
     ∷ (bytes "1_2__", refused 2 3)
     ∷ (bytes "_1", refused 2 0)
+    -- `..` is a token, and needs no blanks; a lone dot begins none
+    ∷ (bytes "5..400", tokens (tok kNumber 0 5 ∷ tok kDotDot 1 2 ∷ tok kNumber 3 400 ∷ tok kEnd 6 0 ∷ []))
+    ∷ (bytes "-5..-1", tokens (tok kMinus 0 1 ∷ tok kNumber 1 5 ∷ tok kDotDot 2 2 ∷ tok kMinus 4 1 ∷ tok kNumber 5 1 ∷ tok kEnd 6 0 ∷ []))
+    ∷ (bytes "....", tokens (tok kDotDot 0 2 ∷ tok kDotDot 2 2 ∷ tok kEnd 4 0 ∷ []))
+    ∷ (bytes "5...6", refused 2 3)
+    ∷ (bytes "5.6", refused 2 1)
+    ∷ (bytes "5 .", refused 2 2)
+    ∷ (bytes "5. .6", refused 2 1)
     -- a name of 16 bytes and of 17, the largest number and the next one, with zeros before it or not
     ∷ (bytes "abcdefghijklmnop", tokens (tok kName 0 16 ∷ tok kEnd 16 0 ∷ []))
     ∷ (bytes " abcdefghijklmnopq", refused 3 1)

@@ -1,4 +1,4 @@
--- From bytes to tokens: document 01, "The text", and "Check", numbers 1 to 3, with slip 2 of document 02. A text is the list of its bytes.
+-- From bytes to tokens: document 01, "The text", and "Check", numbers 1 to 3, with the slips 2 and 5 of document 02. A text is the list of its bytes.
 use Prim.Native.Nat.{ℕ, zero, suc, _+_, _-_, _*_}
 use Prim.Native.Char.{code}
 use Prim.Native.String as S
@@ -38,6 +38,7 @@ use Rattle.syntax.specs.Token.{
   kPlus,
   kMinus,
   kTimes,
+  kDotDot,
 }
 
 -- "Bytes: letters, digits, underscore, blank, tab, LF, CR and the marks .."
@@ -95,7 +96,7 @@ words =
     ∷ (bytes "false", kFalse)
     ∷ []
 
--- "the marks `( ) { } ; , = < > ! & | + - *`", "single marks, `<= >= == != && ||`", "A lone `!`, `&` or `|` begins no token."
+-- "the marks `( ) { } ; , = < > ! & | + - *`", "single marks, `<= >= == != && ||`", "A lone `!`, `&` or `|` begins no token." Slip 5: "`..` becomes a token, and a lone dot begins none."
 abbrev pub marks : List (List ℕ × ℕ)
 marks =
     (bytes "(", kOpen)
@@ -116,6 +117,7 @@ marks =
     ∷ (bytes "!=", kUnequal)
     ∷ (bytes "&&", kAnd)
     ∷ (bytes "||", kOr)
+    ∷ (bytes "..", kDotDot)
     ∷ []
 
 -- the kind of these bytes in a table, or another

@@ -121,6 +121,12 @@ fn pair(b: u8, c: u8) -> u8
         }
         return token::END;
     }
+    if b == b'.' {
+        if c == b'.' {
+            return token::DOT_DOT;
+        }
+        return token::END;
+    }
     token::END
 }
 

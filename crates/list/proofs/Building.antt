@@ -18,6 +18,8 @@ use Rattle.events.proofs.Widths.{onto-length}
 use Rattle.text_rules.specs.Spelling.{sameName, isMain}
 use Rattle.text_rules.specs.Rules as R
 use Rattle.text_rules.specs.Names.{meant, meanings}
+use Rattle.text_rules.specs.Own.{owns}
+use Rattle.text_rules.proofs.OwnRules.{each-rises}
 use Rattle.text_rules.specs.Resolve.{mainOf, resolved}
 use Rattle.text_rules.specs.Answers.{storedHeads}
 use Rattle.text_rules.proofs.Functions.{length-heads}
@@ -31,7 +33,7 @@ use Rattle.semantics.specs.Program.{Program}
 use Rattle.simulation.specs.Code.{codeOf}
 use Rattle.simulation.specs.Words.{codeIn, wordsIn}
 use Rattle.simulation.specs.Placed.{Placed}
-use Rattle.compiler.specs.Coded.{program as coded}
+use Rattle.compiler.specs.Coded.{word, program as coded}
 use Rattle.compiler.specs.Compile.{Ready, Compiled}
 use Rattle.text_rules.proofs.Counts.{few-functions}
 use Rattle.compiler.proofs.Fitting.{Keeps, Given, accepted-ready, accepted-placed, accepted-few, accepted-main}
@@ -62,13 +64,13 @@ module _ {text ps vs nodes : List ℕ} {root : ℕ} {heads : List ℕ} {h : ℕ}
   most : length vs ≤ 2049
   most = omega (arith, u .few, ap length (u .valued), length-map (u .tokens) (λ t. t .value))
 
-  -- the text keeps the rules 6, 7, 8 and 10
+  -- the text keeps the rules 6, 7, 8, 10 and 18
   rules : (r : ℕ) → brokenBy r (rulesOf (source text (kinds (u .tokens)) ps vs) (ast tree)) ≡ []
   rules = unbroken _ (u .known .unbroken)
 
-  keeps-so : Keeps same tree (λ i. 0)
+  keeps-so : Keeps same tree (λ i. 0) (word vs)
   unfolding rulesOf
-  keeps-so = record { six = rules 6; seven = rules 7; ten = rules 10 }
+  keeps-so = record { six = rules 6; seven = rules 7; ten = rules 10; eighteen = each-rises (word vs) (owns (ast tree)) (rules 18) }
 
   main-kept : R.mainless (isMain text ps vs) (length (kinds (u .tokens)) - 1) (E.events (ast tree)) ≡ []
   unfolding rulesOf
@@ -97,7 +99,7 @@ module _ {text ps vs nodes : List ℕ} {root : ℕ} {heads : List ℕ} {h : ℕ}
       wide = omega (arith, many);
       small = λ j l. small-so j;
       agree = means-so;
-      main = omega (arith, main-so, accepted-main same tree (λ i. 0) (isMain text ps vs) (length (kinds (u .tokens)) - 1) main-kept keeps-so);
+      main = omega (arith, main-so, accepted-main same tree (λ i. 0) (isMain text ps vs) (length (kinds (u .tokens)) - 1) main-kept (keeps-so .ten));
       less = omega (arith, many, most);
       space = omega (arith, many, most, size);
     }

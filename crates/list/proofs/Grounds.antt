@@ -1,36 +1,16 @@
--- How many values a window has, and the grounds for a refusal one after another.
-use Prim.Native.Nat.{ℕ, zero, suc, _≤_, _<_}
+-- The grounds for a refusal, one after another.
+use Prim.Native.Nat.{ℕ, _≤_, _<_}
 use mathlib.Core.Path.{_≡_, refl, sym, ap, _∙_}
 use mathlib.Core.Bool.{Bool, true, false, cond, _||_}
 use mathlib.Core.Option.{Option, none, some}
 use lib.ListN.{length}
-use lib.Dec.{ltb, eqb, leb·suc-suc}
-use lib.IntN.{ℤ, pos, negsuc, sucℤ, negℤ, _-ℤ_, sucℤ-+ℤ}
-use lib.Signed.{leZ, ltZ}
+use lib.Dec.{ltb, eqb}
+use lib.IntN.{ℤ}
+use lib.Signed.{ltZ}
 use borrow.Author.Tests.{lt-ltb, le-ltb, eq-eqb, ne-eqb}
-use Rattle.semantics.specs.Run.{counting, clamp, numbers}
+use Rattle.semantics.specs.Run.{numbers}
 use Rattle.semantics.specs.Search.{to}
 use Rattle.list.specs.List.{ground}
-
-counting-length : (z : ℤ) (n : ℕ) → length (counting z n) ≡ n
-unfolding counting
-counting-length z zero = refl
-counting-length z (suc n) = ap suc (counting-length (sucℤ z) n)
-
-over : (z : ℤ) → ltb 4096 (clamp (sucℤ z)) ≡ leZ (pos 4096) z
-unfolding clamp
-over (pos n) = leb·suc-suc 4096 n
-over (negsuc zero) = refl
-over (negsuc (suc n)) = refl
-
--- a window has over 4,096 values where its ends are as far apart
-pub wide : (low high : ℤ) → ltb 4096 (length (numbers (to low high))) ≡ leZ (pos 4096) (high -ℤ low)
-unfolding numbers
-wide low high =
-    ap (ltb 4096) (counting-length low (clamp (sucℤ high -ℤ low)) ∙ ap clamp (sucℤ-+ℤ high (negℤ low)))
-    ∙ over (high -ℤ low)
-
--- ---- the grounds
 
 abbrev first : (scratch window values none steps : Bool) → Option ℕ
 first a b c d e = cond a (some 11) (cond b (some 12) (cond c (some 13) (cond (d || e) (some 14) none)))

@@ -20,13 +20,13 @@ use Rattle.semantics.specs.Demand.{In32}
 use Rattle.semantics.specs.Promise.{Promised}
 use Rattle.semantics.proofs.Theorems.{Job32, plan-list, plan-list-unique, promise, promise-unique, inUse-sound}
 use Rattle.simulation.specs.Code.{codeOf}
-use Rattle.simulation.proofs.Placed.{Upward, placed}
+use Rattle.simulation.proofs.Placed.{placed}
 use Rattle.simulation.proofs.Drive.{most-turns}
 use Rattle.simulation.proofs.Listing.{placed-lists}
 use Rattle.simulation.proofs.First.{taken-back}
 use Rattle.list.specs.List.{program, jobOf, places, Answer, refused, listed, Left, ground, refuses, lists, answering, list}
 use Rattle.list.specs.Promise.{answerWith, Keeps}
-use Rattle.list.proofs.Sure.{never-stuck, program-pairs}
+use Rattle.list.proofs.Sure.{never-stuck, pairs-32, pairs-upward}
 
 -- ---- a window of 32 bits
 
@@ -70,7 +70,7 @@ module _ (text : List ℕ) (low high : ℤ) (steps skip budget : ℕ) (rows : Li
   -- the third demand, for every job that is not refused; low and high are of 32 bits, as list takes them
   module _ (f : SFits w32 low) (h : SFits w32 high) (g : ground (length scratch) low high steps ≡ none) (v : checked text ≡ C.accepted) where
     small : Job32 (jobOf text low high steps)
-    small = record { window = in-32 low high f h; pairs = program-pairs text v In32 }
+    small = record { window = in-32 low high f h; pairs = pairs-32 text v }
 
     pub keeps : Keeps text low high steps skip budget rows scratch (list text low high steps skip budget rows scratch)
     keeps =
@@ -88,7 +88,7 @@ module _ (text : List ℕ) (low high : ℤ) (steps skip budget : ℕ) (rows : Li
           cleared = ap (λ (l : Left). l .scratch) e;
           closes = promise inUse inUse-sound j small skip (places rows) budget;
           code = codeOf (program text);
-          coded = placed (program text) (program-pairs text v Upward);
+          coded = placed (program text) (pairs-upward text v);
           searches = λ c p. record {
             enough = most-turns c steps;
             gives = λ k n l m. placed-lists inUse j c p (never-stuck text v known work steps) skip (places rows) budget k n l m;

@@ -6,7 +6,7 @@ use mathlib.Core.List.{List, [], _∷_, map}
 use Rattle.lexer.specs.Lex as L
 use Rattle.lexer.specs.Lex.{bytes, lexed, noneLarge, front, valueOf, decimal, digitsOf, longestWithin, kindOf, grouped, kindIn, same, all}
 use Rattle.syntax.specs.Abstract.{ast}
-use Rattle.grammar.specs.Parse.{readText, moreProg, readFun, readParams, moreParams, readStmt, readDecl, readBlock, readEnded, readFail, readGuard, readNamed, readIf, readWhile, moreBody, readCond, moreCond, readConj, moreConj, readAtom, readCmp, readSum, moreSum, readTerm, moreTerm, readOperand, readBracket, readCall, readArgs, moreArgs}
+use Rattle.grammar.specs.Parse.{readText, moreProg, readFun, readParams, moreParams, readStmt, readOwn, readDecl, readBlock, readEnded, readFail, readGuard, readNamed, readIf, readWhile, moreBody, readCond, moreCond, readConj, moreConj, readAtom, readCmp, readSum, moreSum, readTerm, moreTerm, readOperand, readBracket, readCall, readArgs, moreArgs}
 use Rattle.events.specs.Event.{events, eventsAt, stops, count, first}
 use Rattle.text_rules.specs.Scan as R
 use Rattle.text_rules.specs.Rules.{parameters, heads, functionOf}
@@ -37,5 +37,5 @@ abbrev told : Case → List ℕ
 told c = offsetsOf (bytes (c .text))
 
 pub right : map told cases ≡ map (λ (c : Case). c .offsets) cases
-unfolding cases lexed noneLarge L.scan front valueOf decimal digitsOf longestWithin kindOf grouped kindIn same all ast readText moreProg readFun readParams moreParams readStmt readDecl readBlock readEnded readFail readGuard readNamed readIf readWhile moreBody readCond moreCond readConj moreConj readAtom readCmp readSum moreSum readTerm moreTerm readOperand readBracket readCall readArgs moreArgs events eventsAt stops count first R.scan parameters heads functionOf mainOf begun calledBy isCall chained offsetsFrom offsetsIn offsetsOf
+unfolding cases lexed noneLarge L.scan front valueOf decimal digitsOf longestWithin kindOf grouped kindIn same all ast readText moreProg readFun readParams moreParams readStmt readOwn readDecl readBlock readEnded readFail readGuard readNamed readIf readWhile moreBody readCond moreCond readConj moreConj readAtom readCmp readSum moreSum readTerm moreTerm readOperand readBracket readCall readArgs moreArgs events eventsAt stops count first R.scan parameters heads functionOf mainOf begun calledBy isCall chained offsetsFrom offsetsIn offsetsOf
 right = refl

@@ -7,7 +7,7 @@ use native.Mathlib.Omega.{arith}
 use lib.ListN.{length, getD, set, length-set}
 use lib.Seq.{getD-set-same, getD-set-other}
 use Rattle.syntax.specs.Ast.{Sort, Ast}
-use Rattle.syntax.specs.Table.{nodeFirst, nodeSecond, nodeThird, nodeToken, nodeWords, row, Row, At, at-number, at-negative, at-name, at-call, at-bracket, at-times, at-plus, at-minus, at-no-args, at-more-args, at-always, at-never, at-compare, at-both, at-either, at-empty, at-declare, at-declare-free, at-assign, at-eval, at-block, at-if-else, at-while, at-return, at-fail, at-no-stmts, at-more-stmts, at-braced, at-no-params, at-more-params, at-function, at-no-funs, at-more-funs}
+use Rattle.syntax.specs.Table.{nodeFirst, nodeSecond, nodeThird, nodeToken, nodeWords, row, Row, At, at-number, at-negative, at-name, at-call, at-bracket, at-times, at-plus, at-minus, at-no-args, at-more-args, at-always, at-never, at-compare, at-both, at-either, at-empty, at-declare, at-declare-free, at-declare-own, at-assign, at-eval, at-block, at-if-else, at-while, at-return, at-fail, at-no-stmts, at-more-stmts, at-braced, at-no-params, at-more-params, at-function, at-no-funs, at-more-funs}
 
 -- l and m have the same nodes below n
 pub record Same (n : ℕ) (l m : List ℕ) : Type 0 where
@@ -51,6 +51,7 @@ kept-at s h (at-either r p q x y) = at-either (kept-row h s r) p q (kept-at s (o
 kept-at s h (at-empty r) = at-empty (kept-row h s r)
 kept-at s h (at-declare r) = at-declare (kept-row h s r)
 kept-at s h (at-declare-free r) = at-declare-free (kept-row h s r)
+kept-at s h (at-declare-own {a = a} {b = b} r) = at-declare-own {a = a} {b = b} (kept-row h s r)
 kept-at s h (at-assign r p x) = at-assign (kept-row h s r) p (kept-at s (omega arith) x)
 kept-at s h (at-eval r p x) = at-eval (kept-row h s r) p (kept-at s (omega arith) x)
 kept-at s h (at-block r p x) = at-block (kept-row h s r) p (kept-at s (omega arith) x)

@@ -30,6 +30,7 @@ ast (T.name i) = A.name i
 ast (T.empty i) = A.empty i
 ast (T.declare i) = A.declare i
 ast (T.declareFree i) = A.declareFree i
+ast (T.declareOwn i a b) = A.declareOwn i a b
 ast (T.fail i) = A.fail i
 ast (T.call i a) = A.call i (ast a)
 ast (T.bracket i e) = A.bracket i (ast e)

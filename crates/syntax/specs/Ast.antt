@@ -1,6 +1,7 @@
 -- Abstract syntax trees: the concrete ones without the grammar's ranks. The rules of a text speak of these.
 -- A number in a tree is that of a token in the token list; a comment says of which.
-use Prim.Native.Nat.{ℕ}
+use Prim.Native.Nat.{ℕ, _+_}
+use mathlib.Core.Bool.{Bool, true, false}
 use Rattle.syntax.specs.Tree.{Cmp}
 
 pub data Sort : Type 0 where
@@ -26,6 +27,8 @@ pub data Ast : Sort → Type 0 where
   empty : ℕ → Ast stmt
   declare : ℕ → Ast stmt
   declareFree : ℕ → Ast stmt
+  -- with a pair of its own: whether the low end has a minus, and whether the high end has
+  declareOwn : ℕ → Bool → Bool → Ast stmt
   assign : ℕ → Ast expr → Ast stmt
   eval : Ast expr → Ast stmt
   block : ℕ → Ast body → Ast stmt
@@ -43,3 +46,21 @@ pub data Ast : Sort → Type 0 where
   function : ℕ → Ast params → Ast body → Ast fun
   noFuns : Ast prog
   moreFuns : Ast prog → Ast fun → Ast prog
+
+-- ---- the ends of a pair
+
+-- how many tokens the minus of an end is
+abbrev pub bit : Bool → ℕ
+bit true = 1
+bit false = 0
+
+-- the low end's first token, of `int x free l .. h;` with the first token i
+abbrev pub lowFirst : ℕ → ℕ
+lowFirst i = i + 3
+
+-- where the low end's first token is t: the numbers of both ends
+abbrev pub lowNumber : ℕ → Bool → ℕ
+lowNumber t a = t + bit a
+
+abbrev pub highNumber : ℕ → Bool → Bool → ℕ
+highNumber t a b = t + bit a + 2 + bit b

@@ -1,11 +1,12 @@
 -- The table that holds an abstract syntax tree: five words for each node, its kind, a token's number and three more. A node's children have smaller numbers.
 use Prim.Native.Nat.{ℕ, _+_, _*_, _<_}
 use mathlib.Core.Path.{_≡_}
+use mathlib.Core.Bool.{Bool}
 use mathlib.Core.List.{List}
 use lib.ListN.{getD, set}
 use Rattle.syntax.specs.Tree.{Cmp, less, lessEq, greater, greaterEq, equal, unequal}
 use Rattle.syntax.specs.Ast as A
-use Rattle.syntax.specs.Ast.{Sort, Ast}
+use Rattle.syntax.specs.Ast.{Sort, Ast, bit}
 
 -- ---- the kinds of nodes
 
@@ -63,50 +64,53 @@ nDeclare = 17
 abbrev pub nDeclareFree : ℕ
 nDeclareFree = 18
 
+abbrev pub nDeclareOwn : ℕ
+nDeclareOwn = 19
+
 abbrev pub nAssign : ℕ
-nAssign = 19
+nAssign = 20
 
 abbrev pub nEval : ℕ
-nEval = 20
+nEval = 21
 
 abbrev pub nBlock : ℕ
-nBlock = 21
+nBlock = 22
 
 abbrev pub nIfElse : ℕ
-nIfElse = 22
+nIfElse = 23
 
 abbrev pub nWhile : ℕ
-nWhile = 23
+nWhile = 24
 
 abbrev pub nReturn : ℕ
-nReturn = 24
+nReturn = 25
 
 abbrev pub nFail : ℕ
-nFail = 25
+nFail = 26
 
 abbrev pub nNoStmts : ℕ
-nNoStmts = 26
+nNoStmts = 27
 
 abbrev pub nMoreStmts : ℕ
-nMoreStmts = 27
+nMoreStmts = 28
 
 abbrev pub nBraced : ℕ
-nBraced = 28
+nBraced = 29
 
 abbrev pub nNoParams : ℕ
-nNoParams = 29
+nNoParams = 30
 
 abbrev pub nMoreParams : ℕ
-nMoreParams = 30
+nMoreParams = 31
 
 abbrev pub nFunction : ℕ
-nFunction = 31
+nFunction = 32
 
 abbrev pub nNoFuns : ℕ
-nNoFuns = 32
+nNoFuns = 33
 
 abbrev pub nMoreFuns : ℕ
-nMoreFuns = 33
+nMoreFuns = 34
 
 -- the comparison's number
 abbrev pub cmpNumber : Cmp → ℕ
@@ -169,6 +173,8 @@ pub data At (l : List ℕ) : (s : Sort) → ℕ → ℕ → Ast s → Type 0 whe
   at-empty : {i t : ℕ} → Row l i nEmpty t 0 0 0 → At l A.stmt i nEmpty (A.empty t)
   at-declare : {i t : ℕ} → Row l i nDeclare t 0 0 0 → At l A.stmt i nDeclare (A.declare t)
   at-declare-free : {i t : ℕ} → Row l i nDeclareFree t 0 0 0 → At l A.stmt i nDeclareFree (A.declareFree t)
+  -- whether each end of the pair has a minus stands in the first two words
+  at-declare-own : {i t : ℕ} {a b : Bool} → Row l i nDeclareOwn t (bit a) (bit b) 0 → At l A.stmt i nDeclareOwn (A.declareOwn t a b)
   at-assign : {i t a k : ℕ} {x : Ast A.expr} → Row l i nAssign t a 0 0 → a < i → At l A.expr a k x → At l A.stmt i nAssign (A.assign t x)
   at-eval : {i a k : ℕ} {x : Ast A.expr} → Row l i nEval 0 a 0 0 → a < i → At l A.expr a k x → At l A.stmt i nEval (A.eval x)
   at-block : {i t a k : ℕ} {x : Ast A.body} → Row l i nBlock t a 0 0 → a < i → At l A.body a k x → At l A.stmt i nBlock (A.block t x)

@@ -120,3 +120,7 @@ kMinus = 28
 -- *
 abbrev pub kTimes : ℕ
 kTimes = 29
+
+-- ..
+abbrev pub kDotDot : ℕ
+kDotDot = 30

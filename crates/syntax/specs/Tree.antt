@@ -1,9 +1,10 @@
 -- Concrete syntax trees of the grammar (document 01, "The text"), brackets kept, and the tokens of a tree.
 -- A number in a tree is that of a token in the token list; a comment says of which.
 use Prim.Native.Nat.{ℕ, _+_}
+use mathlib.Core.Bool.{Bool, true, false}
 use mathlib.Core.List.{List, [], _∷_}
 use lib.ListN.{length}
-use Rattle.syntax.specs.Token.{kName, kNumber, kInt, kFree, kIf, kElse, kWhile, kReturn, kFail, kTrue, kFalse, kOpen, kClose, kLbrace, kRbrace, kSemi, kComma, kAssign, kLess, kLessEq, kGreater, kGreaterEq, kEqual, kUnequal, kAnd, kOr, kPlus, kMinus, kTimes}
+use Rattle.syntax.specs.Token.{kName, kNumber, kInt, kFree, kIf, kElse, kWhile, kReturn, kFail, kTrue, kFalse, kOpen, kClose, kLbrace, kRbrace, kSemi, kComma, kAssign, kLess, kLessEq, kGreater, kGreaterEq, kEqual, kUnequal, kAnd, kOr, kPlus, kMinus, kTimes, kDotDot}
 
 -- what the grammar has a rule for
 pub data Cat : Type 0 where
@@ -53,6 +54,8 @@ pub data Tree : Cat → Type 0 where
   empty : ℕ → Tree stmt
   declare : ℕ → Tree stmt
   declareFree : ℕ → Tree stmt
+  -- "`int x free 5 .. 400;` gives that declaration its own pair, each end a number with or without a minus": whether the low end has a minus, and whether the high end has
+  declareOwn : ℕ → Bool → Bool → Tree stmt
   assign : ℕ → Tree sum → Tree stmt
   eval : Tree sum → Tree stmt
   block : ℕ → Tree body → Tree stmt
@@ -73,6 +76,11 @@ pub data Tree : Cat → Type 0 where
   function : ℕ → Tree params → Tree body → Tree fun
   noFuns : Tree prog
   moreFuns : Tree prog → Tree fun → Tree prog
+
+-- the kinds of the tokens of an end of a pair, which has a minus or not, followed by ks
+abbrev pub endOnto : Bool → List ℕ → List ℕ
+endOnto true ks = kMinus ∷ kNumber ∷ ks
+endOnto false ks = kNumber ∷ ks
 
 -- the kinds of the tokens of a tree, followed by ks
 unfoldable pub onto : {c : Cat} → Tree c → List ℕ → List ℕ
@@ -101,6 +109,7 @@ onto (either b c) ks = onto b (kOr ∷ onto c ks)
 onto (empty i) ks = kSemi ∷ ks
 onto (declare i) ks = kInt ∷ kName ∷ kSemi ∷ ks
 onto (declareFree i) ks = kInt ∷ kName ∷ kFree ∷ kSemi ∷ ks
+onto (declareOwn i a b) ks = kInt ∷ kName ∷ kFree ∷ endOnto a (kDotDot ∷ endOnto b (kSemi ∷ ks))
 onto (assign i e) ks = kName ∷ kAssign ∷ onto e (kSemi ∷ ks)
 onto (eval e) ks = onto e (kSemi ∷ ks)
 onto (block i b) ks = kLbrace ∷ onto b ks
@@ -150,6 +159,7 @@ numbered p (either b c) = either (numbered p b) (numbered (p + width b + 1) c)
 numbered p (empty i) = empty p
 numbered p (declare i) = declare p
 numbered p (declareFree i) = declareFree p
+numbered p (declareOwn i a b) = declareOwn p a b
 numbered p (assign i e) = assign p (numbered (p + 2) e)
 numbered p (eval e) = eval (numbered p e)
 numbered p (block i b) = block p (numbered (p + 1) b)

@@ -35,32 +35,34 @@ pub const DECLARE: u32 = 17;
 
 pub const DECLARE_FREE: u32 = 18;
 
-pub const ASSIGN: u32 = 19;
+pub const DECLARE_OWN: u32 = 19;
 
-pub const EVAL: u32 = 20;
+pub const ASSIGN: u32 = 20;
 
-pub const BLOCK: u32 = 21;
+pub const EVAL: u32 = 21;
 
-pub const IF_ELSE: u32 = 22;
+pub const BLOCK: u32 = 22;
 
-pub const WHILE: u32 = 23;
+pub const IF_ELSE: u32 = 23;
 
-pub const RETURN: u32 = 24;
+pub const WHILE: u32 = 24;
 
-pub const FAIL: u32 = 25;
+pub const RETURN: u32 = 25;
 
-pub const NO_STMTS: u32 = 26;
+pub const FAIL: u32 = 26;
 
-pub const MORE_STMTS: u32 = 27;
+pub const NO_STMTS: u32 = 27;
 
-pub const BRACED: u32 = 28;
+pub const MORE_STMTS: u32 = 28;
 
-pub const NO_PARAMS: u32 = 29;
+pub const BRACED: u32 = 29;
 
-pub const MORE_PARAMS: u32 = 30;
+pub const NO_PARAMS: u32 = 30;
 
-pub const FUNCTION: u32 = 31;
+pub const MORE_PARAMS: u32 = 31;
 
-pub const NO_FUNS: u32 = 32;
+pub const FUNCTION: u32 = 32;
 
-pub const MORE_FUNS: u32 = 33;
+pub const NO_FUNS: u32 = 33;
+
+pub const MORE_FUNS: u32 = 34;

@@ -58,3 +58,5 @@ pub const PLUS: u8 = 27;
 pub const MINUS: u8 = 28;
 
 pub const TIMES: u8 = 29;
+
+pub const DOT_DOT: u8 = 30;

@@ -188,6 +188,7 @@ module _ (counts : List ℕ) (means : ℕ → ℕ) where
   resolve d s (A.empty i) w = quiet refl S.empty
   resolve d s (A.declare i) w = declares-one d i (i + 1) s (S.declare (head (tail w) .0))
   resolve d s (A.declareFree i) w = declares-one d i (i + 1) s (S.declareFree (head (tail w) .0))
+  resolve d s (A.declareOwn i a b) w = declares-one d i (i + 1) s (S.declareOwn (head (tail w) .0))
   resolve d s (A.assign i e) w =
       let r = resolve d s e (tail (tail w)) in
       quiet (r .still) (S.assign (head (tail w) .0) (head (tail w) .1) (r .reads))

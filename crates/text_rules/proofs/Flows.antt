@@ -117,6 +117,7 @@ module _ (value : ℕ → ℕ) (counts : List ℕ) (means : ℕ → ℕ) where
   says-then S.empty v h = h
   says-then (S.declare e) v h = h
   says-then (S.declareFree e) v h = says-assigned _ v h
+  says-then (S.declareOwn e) v h = says-assigned _ v h
   says-then (S.assign a m r) v h = says-assigned _ v h
   says-then (S.eval r) v h = h
   says-then (S.block b) v h = says-then b v h
@@ -134,6 +135,7 @@ module _ (value : ℕ → ℕ) (counts : List ℕ) (means : ℕ → ℕ) where
   still-vacant S.empty v h u = u
   still-vacant (S.declare e) v h u = u
   still-vacant (S.declareFree e) v h u = vacant-other _ v (omega (arith, e)) u
+  still-vacant (S.declareOwn e) v h u = vacant-other _ v (omega (arith, e)) u
   still-vacant (S.assign a m r) v h u = vacant-other _ v (omega arith) u
   still-vacant (S.eval r) v h u = u
   still-vacant (S.block b) v h u = still-vacant b v h u

@@ -97,6 +97,7 @@ module _ (value : ℕ → ℕ) (counts : List ℕ) (means : ℕ → ℕ) where
   slots-keep S.empty m φ set h n u = tt
   slots-keep (S.declare e) m φ set h n u = vacant-unassigned (n _ (omega (arith, e)))
   slots-keep (S.declareFree e) m φ set h n u = omega (arith, e)
+  slots-keep (S.declareOwn e) m φ set h n u = omega (arith, e)
   slots-keep (S.assign l s r) m φ set h n u = (omega arith, reads-keep r φ set h u)
   slots-keep (S.eval r) m φ set h n u = reads-keep r φ set h u
   slots-keep (S.block b) m φ set h n u = slots-keep b m φ set h n u

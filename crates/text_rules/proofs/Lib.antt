@@ -9,6 +9,9 @@ pub mod Resolving
 pub mod Bodies
 pub mod Programs
 pub mod Pairs
+pub mod OwnRules
+pub mod OwnTokens
+pub mod Wide
 pub mod SameNames
 pub mod Flows
 pub mod Keeping

@@ -75,6 +75,7 @@ inside d (A.either a b) = both (eventsAt d a) (eventsAt d b) (inside d a) (insid
 inside d (A.empty i) = λ zs. refl
 inside d (A.declare i) = λ zs. refl
 inside d (A.declareFree i) = λ zs. refl
+inside d (A.declareOwn i a b) = λ zs. refl
 inside d (A.assign i e) = inside d e
 inside d (A.eval e) = inside d e
 inside d (A.block i b) = inside (suc d) b

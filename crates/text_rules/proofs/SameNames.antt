@@ -3,6 +3,7 @@ use Prim.Native.Nat.{ℕ, _+_, _<_}
 use mathlib.Core.Path.{_≡_, refl, ap, ap₂, _∙_}
 use mathlib.Core.Bool.{Bool, true, false, cond, _&&_, _||_}
 use mathlib.Core.List.{[], _∷_, _++_}
+use native.Mathlib.Omega.{arith}
 use lib.Dec.{eqb}
 use Rattle.syntax.specs.Ast.{Sort, Ast}
 use Rattle.syntax.specs.Ast as A
@@ -31,6 +32,7 @@ module _ (one other : ℕ → ℕ) (m : ℕ) (agree : (i : ℕ) → i < m → on
   after-same v (A.empty i) h q = q
   after-same v (A.declare i) h q = q
   after-same v (A.declareFree i) h q = ap₂ (λ (n : ℕ) (x : Bool). eqb n v || x) (agree (i + 1) h) q
+  after-same v (A.declareOwn i a b) h q = ap₂ (λ (n : ℕ) (x : Bool). eqb n v || x) (agree (i + 1) (omega (arith, h))) q
   after-same v (A.assign i e) h q = ap₂ (λ (n : ℕ) (x : Bool). eqb n v || x) (agree i (h .0)) q
   after-same v (A.eval e) h q = q
   after-same v (A.block i l) h q = after-same v l (h .1) q
@@ -68,6 +70,7 @@ module _ (one other : ℕ → ℕ) (m : ℕ) (agree : (i : ℕ) → i < m → on
   unset-same (A.empty i) h q = refl
   unset-same (A.declare i) h q = refl
   unset-same (A.declareFree i) h q = refl
+  unset-same (A.declareOwn i a b) h q = refl
   unset-same (A.assign i e) h q = unset-same e (h .1) q
   unset-same (A.eval e) h q = unset-same e h q
   unset-same (A.block i l) h q = unset-same l (h .1) q

@@ -2,6 +2,7 @@
 -- each name means a slot given before it, of a declaration that can be seen there; and each call has as many arguments as the function that it means has parameters.
 use Prim.Native.Nat.{ℕ, suc, _+_, _≤_, _<_}
 use mathlib.Core.Path.{_≡_}
+use mathlib.Core.Bool.{Bool}
 use mathlib.Core.List.{List, _∷_}
 use native.Mathlib.Omega.{arith}
 use lib.ListN.{length, getD}
@@ -35,6 +36,7 @@ module _ (arities : List ℕ) (means : ℕ → ℕ) where
     empty : {seen : List ℕ} {lo i : ℕ} → Slots stmt seen lo (A.empty i) seen lo
     declare : {seen : List ℕ} {lo i : ℕ} → means (i + 1) ≡ lo → Slots stmt seen lo (A.declare i) (lo ∷ seen) (suc lo)
     declareFree : {seen : List ℕ} {lo i : ℕ} → means (i + 1) ≡ lo → Slots stmt seen lo (A.declareFree i) (lo ∷ seen) (suc lo)
+    declareOwn : {seen : List ℕ} {lo i : ℕ} {a b : Bool} → means (i + 1) ≡ lo → Slots stmt seen lo (A.declareOwn i a b) (lo ∷ seen) (suc lo)
     assign : {seen : List ℕ} {lo i : ℕ} {e : Ast expr} → means i < lo → means i ∈ seen → Reads seen lo expr e → Slots stmt seen lo (A.assign i e) seen lo
     eval : {seen : List ℕ} {lo : ℕ} {e : Ast expr} → Reads seen lo expr e → Slots stmt seen lo (A.eval e) seen lo
     block : {seen : List ℕ} {lo hi i : ℕ} {b : Ast body} → Slots body seen lo b seen hi → Slots stmt seen lo (A.block i b) seen hi
@@ -53,6 +55,7 @@ module _ (arities : List ℕ) (means : ℕ → ℕ) where
   slots-rise empty = omega arith
   slots-rise (declare e) = omega arith
   slots-rise (declareFree e) = omega arith
+  slots-rise (declareOwn e) = omega arith
   slots-rise (assign h k r) = omega arith
   slots-rise (eval r) = omega arith
   slots-rise (block b) = slots-rise b

@@ -32,6 +32,7 @@ module _ (means : ℕ → ℕ) where
   -- "a free variable [is] assigned"; a plain declaration changes nothing
   after v (A.assign i e) b = eqb (means i) v || b
   after v (A.declareFree i) b = eqb (means (i + 1)) v || b
+  after v (A.declareOwn i x y) b = eqb (means (i + 1)) v || b
   after v (A.declare i) b = b
   after v (A.empty i) b = b
   after v (A.eval e) b = b
@@ -88,6 +89,7 @@ module _ (means : ℕ → ℕ) where
   unset (A.empty i) set = []
   unset (A.declare i) set = []
   unset (A.declareFree i) set = []
+  unset (A.declareOwn i a b) set = []
   unset (A.assign i e) set = unset e set
   unset (A.eval e) set = unset e set
   unset (A.block i l) set = unset l set

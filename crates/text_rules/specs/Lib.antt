@@ -4,5 +4,6 @@ pub mod Spelling
 pub mod Rules
 pub mod Names
 pub mod Assigned
+pub mod Own
 pub mod Resolve
 pub mod Answers

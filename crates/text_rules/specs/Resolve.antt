@@ -5,13 +5,14 @@ use mathlib.Core.Option.{Option}
 use mathlib.Core.List.{List, [], _∷_}
 use lib.IntN.{pos, _-ℤ_}
 use Rattle.syntax.specs.Tree.{less, lessEq, greater, greaterEq, equal, unequal}
-use Rattle.syntax.specs.Ast.{Sort, Ast}
+use Rattle.syntax.specs.Ast.{Sort, Ast, lowFirst}
 use Rattle.syntax.specs.Ast as A
 use Rattle.syntax.specs.Tree as T
 use Rattle.semantics.specs.Int.{Cmp, add, sub, mul, lt, le, gt, ge, eq, ne}
 use Rattle.semantics.specs.Program as P
 use Rattle.semantics.specs.Program.{Expr, Exprs, Cond, Stmt, Stmts, Program, slot}
 use Rattle.text_rules.specs.Rules.{Head}
+use Rattle.text_rules.specs.Own.{pairAt}
 
 -- what a part of a tree becomes. Of arguments, statements and functions: what follows them, with them before it
 abbrev pub Part : Sort → Type 0
@@ -56,6 +57,7 @@ module _ (value means : ℕ → ℕ) where
   part (A.empty i) = P.empty
   part (A.declare i) = P.declare (slot (means (i + 1)))
   part (A.declareFree i) = P.unknown (slot (means (i + 1))) Option.none
+  part (A.declareOwn i a b) = P.unknown (slot (means (i + 1))) (Option.some (pairAt value (lowFirst i) a b))
   part (A.assign i e) = P.assign (slot (means i)) (part e)
   part (A.eval e) = P.eval (part e)
   part (A.block i b) = P.block (part b)

@@ -208,6 +208,12 @@ fn limits() -> Vec<(String, Vec<u8>, String)> {
     add("no text", "job 0 3 100", b"", "refused 8 at 0");
     let unset = b"int main() { int x; return x; }";
     add("nothing to read", "job 0 3 100", unset, "refused 17 at 27");
+    let own = b"int main() { int x free 5 .. 6; int y free; return x + y; }";
+    add("a pair of its own", "job 0 1 100", own, "whole 4 rows 9 moves");
+    let reversed = b"int main() { int x free 6 .. 5; return x; }";
+    add("a reversed pair", "job 0 3 100", reversed, "refused 18 at 24");
+    let wide = b"int main() { int x free 0 .. 4096; return x; }";
+    add("a wide pair", "job 0 3 100", wide, "refused 19 at 24");
     // The shortest line and the longest, with texts of the greatest length and more.
     for (line, last) in
         [("job 0 3 5", whole), ("job -0000000004 -0000000001 0000001000", "whole 4 rows 9 moves")]

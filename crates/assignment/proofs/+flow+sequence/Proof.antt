@@ -3,9 +3,9 @@ use Prim.Native.Nat.{ℕ, _+_, _*_, _<_}
 use mathlib.Core.Path.{refl}
 use native.Mathlib.Omega.{arith}
 use borrow.Author.Needs.{needs}
-use Rattle.syntax.specs.Table.{nodeWords, nodeToken, nDeclareFree, nAssign, nEval, nBlock, nIfElse, nWhile, nReturn, nFail, nMoreStmts, nBraced}
+use Rattle.syntax.specs.Table.{nodeWords, nodeToken, nDeclareFree, nDeclareOwn, nAssign, nEval, nBlock, nIfElse, nWhile, nReturn, nFail, nMoreStmts, nBraced}
 use Rattle.events.proofs.Nodes.{at-kind}
-use Rattle.assignment.proofs.Flowing.{assign-child, eval-child, return-child, block-child, braced-child, if-test, if-first, if-second, while-test, while-body, more-front, more-last, free-passed, assign-passed, eval-passed, return-passed, fail-passed, block-passed, braced-passed, if-passed, while-passed, more-passed, nothing-passed, no-more-passed}
+use Rattle.assignment.proofs.Flowing.{assign-child, eval-child, return-child, block-child, braced-child, if-test, if-first, if-second, while-test, while-body, more-front, more-last, Free, plain, own, free-passed, assign-passed, eval-passed, return-passed, fail-passed, block-passed, braced-passed, if-passed, while-passed, more-passed, nothing-passed, no-more-passed}
 use borrow.Fn.Kinds.{In}
 use borrow.Fn.PlainCycle.{Measures, is, falls, and}
 use Rattle.assignment.proofs.flow.Reads as flow
@@ -163,12 +163,26 @@ flow-all-requires t c κs = search needs
 flow-all-requires-2 : (t : ℕ) → flow-lts.Need-all-requires-2 (flow-C t) (flow-at t) flow.Post
 flow-all-requires-2 t c κs = search needs
 
+flow-add-word-2 : (t : ℕ) → flow-lts.Need-add-word-2 (flow-C t) (flow-at t) flow.Post
+flow-add-word-2 t c = omega (
+  arith,
+  c .before .before .fetch .ensures .token,
+  c .before .before .before .before .shared-slice-known .given
+      (nodeWords * c .before .before .before .before .before .args .i + nodeToken),
+)
+
+flow-word-requires-3 : (t : ℕ) → flow-lts.Need-word-requires-3 (flow-C t) (flow-at t) flow.Post
+flow-word-requires-3 t c κs = search needs
+
+flow-assign-requires-3 : (t : ℕ) → flow-lts.Need-assign-requires-3 (flow-C t) (flow-at t) flow.Post
+flow-assign-requires-3 t c κs = search needs
+
 flow-returns : (t : ℕ) → flow-lts.Need-returns (flow-C t) (flow-at t) flow.Post
 flow-returns t c =
     let F = c .before .before .before .before .fetch .ensures in
     record {
       is = λ o u h. free-passed (c .before .before .before .before .before .before .before .args .slots .now) _
-          (c .before .before .before .before .before .before .before .args .set) _ F (at-kind nDeclareFree F (c .before .before .before .match .keys1) h) (c .before .word .ensures)
+          (c .before .before .before .before .before .before .before .args .set) _ plain F (at-kind nDeclareFree F (c .before .before .before .match .keys1) h) (c .before .word .ensures)
           (c .assign .ensures);
     }
 
@@ -234,11 +248,20 @@ flow-returns-8 t c =
 
 flow-returns-9 : (t : ℕ) → flow-lts.Need-returns-9 (flow-C t) (flow-at t) flow.Post
 flow-returns-9 t c =
+    let F = c .before .before .before .before .fetch .ensures in
+    record {
+      is = λ o u h. free-passed (c .before .before .before .before .before .before .before .args .slots .now) _
+          (c .before .before .before .before .before .before .before .args .set) _ own F (at-kind nDeclareOwn F (c .before .before .before .match .keys9) h) (c .before .word3 .ensures)
+          (c .assign3 .ensures);
+    }
+
+flow-returns-10 : (t : ℕ) → flow-lts.Need-returns-10 (flow-C t) (flow-at t) flow.Post
+flow-returns-10 t c =
     let F = c .before .fetch .ensures in
     let N = c .match .rest in
     record {
       is = λ o u h. nothing-passed (c .before .before .before .before .args .slots .now) _ (c .before .before .before .before .args .set) _ o (at-kind _ F refl h)
-          (N .0 .0 .0 .0 .0 .0 .0 .1) (N .0 .0 .0 .0 .0 .0 .1) (N .0 .0 .0 .0 .0 .1) (N .0 .0 .0 .0 .1) (N .0 .0 .0 .1) (N .0 .0 .1) (N .0 .1) (N .1);
+          (N .0 .0 .0 .0 .0 .0 .0 .0 .1) (N .0 .0 .0 .0 .0 .0 .0 .1) (N .0 .0 .0 .0 .0 .0 .1) (N .0 .0 .0 .0 .0 .1) (N .0 .0 .0 .0 .1) (N .0 .0 .0 .1) (N .0 .0 .1) (N .0 .1) (N .1);
     }
 
 sequence-fetch-requires : (t : ℕ) → sequence-lts.Need-fetch-requires (sequence-C t) (sequence-at t) sequence.Post
@@ -310,6 +333,9 @@ pub +flow+sequence-spec : {M : Type 1} → statement M
     (flow-reads-requires-3 t)
     (flow-all-requires t)
     (flow-all-requires-2 t)
+    (flow-add-word-2 t)
+    (flow-word-requires-3 t)
+    (flow-assign-requires-3 t)
     (flow-returns t)
     (flow-returns-2 t)
     (flow-returns-3 t)
@@ -318,7 +344,8 @@ pub +flow+sequence-spec : {M : Type 1} → statement M
     (flow-returns-6 t)
     (flow-returns-7 t)
     (flow-returns-8 t)
-    (flow-returns-9 t))
+    (flow-returns-9 t)
+    (flow-returns-10 t))
     λ t. sequence-lts.spec (sequence-C t) (sequence-at t)
     sequence.Post
     (sequence-fetch-requires t)

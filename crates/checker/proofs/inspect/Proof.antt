@@ -11,7 +11,7 @@ judge-requires : tie.Need-judge-requires
 judge-requires c κs =
     let lent = c .before .before .before .before .before .before .before .before .before .before .before .before .before .before .before .before .before .pre in
     let f = few-events (lent .0) (c .before .before .before .before .before .before .walk .ensures) in
-    (lent .0 .rooted, record { tokens = lent .4; listed = omega (arith, f, lent); functions = omega (arith, f, lent); names = omega (arith, f, lent); few = omega (arith, f, lent); blank = lent .5 })
+    (lent .0 .rooted, record { tokens = lent .4; short = lent .5; listed = omega (arith, f, lent); functions = omega (arith, f, lent); names = omega (arith, f, lent); few = omega (arith, f, lent); blank = lent .6 })
 
 conclude-requires : tie.Need-conclude-requires
 conclude-requires c κs = search needs

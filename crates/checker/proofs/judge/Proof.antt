@@ -27,7 +27,7 @@ returns c =
     rw told (first-broken (rw told at (c .before .before .before .before .before .before .before .before .judge-first .ensures)))
 
 judge-last-requires : tie.Need-judge-last-requires
-judge-last-requires c κs = (c .before .before .before .before .before .before .before .before .before .before .before .before .before .before .before .before .before .before .before .before .before .before .before .pre .0, c .before .before .before .before .before .before .before .before .before .before .before .before .before .before .before .before .before .before .before .before .before .before .before .pre .1 .listed)
+judge-last-requires c κs = let s = c .before .before .before .before .before .before .before .before .before .before .before .before .before .before .before .before .before .before .before .before .before .before .before in (s .pre .1 .short, s .pre .0, s .pre .1 .listed)
 
 same-length-4 : tie.Need-same-length-4
 same-length-4 c = search needs
@@ -41,7 +41,7 @@ same-length-6 c = search needs
 returns-2 : tie.Need-returns-2
 returns-2 c =
     let first = rw (c .before .before .before .first .given .1) at (c .before .before .before .before .before .before .before .before .before .before .before .judge-first .ensures) in
-    first-kept first (c .judge-last .ensures _)
+    first-kept first (c .judge-last .ensures _ _)
 
 pub judge-spec : {M : Type 1} → statement M
 judge-spec =

@@ -1,4 +1,4 @@
-use Rattle.checker.proofs.Settling.{is-bad, is-tree, can-walk, few-tokens, settles-bad, settles-tree}
+use Rattle.checker.proofs.Settling.{is-bad, is-tree, can-walk, few-tokens, own-tokens, settles-bad, settles-tree}
 use borrow.Author.Needs.{needs}
 use Rattle.checker.proofs.settle.Statement.{statement}
 use Rattle.checker.proofs.settle.Tie as tie
@@ -16,7 +16,7 @@ enum-known-root : tie.Need-enum-known-root
 enum-known-root c = search needs
 
 inspect-requires : tie.Need-inspect-requires
-inspect-requires c κs = (can-walk (c .before .before .before .before .before .before .before .before .before .before .before .before .before .before .before .before .before .before .before .before .before .pre) (search needs) (is-tree (rw (c .before .before .before .before .before .before .root .given .1) at (c .before .before .before .before .before .before .before .before .before .before .parse .ensures))), c .before .before .before .before .before .before .before .before .before .before .before .before .before .before .before .before .before .before .before .before .before .pre .words, c .before .before .before .before .before .before .before .before .before .before .before .before .before .before .before .before .before .before .before .before .before .pre .functions, c .before .before .before .before .before .before .before .before .before .before .before .before .before .before .before .before .before .before .before .before .before .pre .blocks, c .before .before .before .before .before .before .before .before .before .before .before .before .before .before .before .before .before .before .before .before .before .pre .tokens .filled, c .before .before .before .before .before .before .before .before .before .before .before .before .before .before .before .before .before .before .before .before .before .pre .blank)
+inspect-requires c κs = (can-walk (c .before .before .before .before .before .before .before .before .before .before .before .before .before .before .before .before .before .before .before .before .before .pre) (search needs) (is-tree (rw (c .before .before .before .before .before .before .root .given .1) at (c .before .before .before .before .before .before .before .before .before .before .parse .ensures))), c .before .before .before .before .before .before .before .before .before .before .before .before .before .before .before .before .before .before .before .before .before .pre .words, c .before .before .before .before .before .before .before .before .before .before .before .before .before .before .before .before .before .before .before .before .before .pre .functions, c .before .before .before .before .before .before .before .before .before .before .before .before .before .before .before .before .before .before .before .before .before .pre .blocks, c .before .before .before .before .before .before .before .before .before .before .before .before .before .before .before .before .before .before .before .before .before .pre .tokens .filled, c .before .before .before .before .before .before .before .before .before .before .before .before .before .before .before .before .before .before .before .before .before .pre .few, c .before .before .before .before .before .before .before .before .before .before .before .before .before .before .before .before .before .before .before .before .before .pre .blank)
 
 same-length : tie.Need-same-length
 same-length c = search needs
@@ -42,7 +42,7 @@ same-length-6 c = search needs
 returns-2 : tie.Need-returns-2
 returns-2 c =
     let read = is-tree (rw (c .before .before .before .before .before .before .before .before .before .before .before .before .before .before .before .root .given .1) at (c .before .before .before .before .before .before .before .before .before .before .before .before .before .before .before .before .before .before .before .parse .ensures)) in
-    settles-tree _ _ _ _ _ read (few-tokens (c .before .before .before .before .before .before .before .before .before .before .before .before .before .before .before .before .before .before .before .before .before .before .before .before .before .before .before .before .before .before .pre) read) (search needs) (c .before .before .before .before .before .before .before .before .inspect .ensures)
+    settles-tree _ _ _ _ _ read (few-tokens (c .before .before .before .before .before .before .before .before .before .before .before .before .before .before .before .before .before .before .before .before .before .before .before .before .before .before .before .before .before .before .pre) read) (own-tokens (c .before .before .before .before .before .before .before .before .before .before .before .before .before .before .before .before .before .before .before .before .before .before .before .before .before .before .before .before .before .before .pre) read) (search needs) (c .before .before .before .before .before .before .before .before .inspect .ensures)
 
 pub settle-spec : {M : Type 1} → statement M
 settle-spec =

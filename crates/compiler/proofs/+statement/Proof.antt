@@ -9,7 +9,7 @@ use Rattle.simulation.specs.Words.{kindOf, wordOf}
 use Rattle.events.proofs.Nodes.{at-kind}
 use Rattle.compiler.specs.Coded.{word}
 use Rattle.compiler.proofs.Laws.{grown-none, grown-then, grown-as, said, said-then, due-as, due-room, due-next, due-front, due-after, room}
-use Rattle.compiler.proofs.Statements.{empty-node, fail-node, declare-node, free-node, assign-node, eval-node, block-node, return-node, braced-node, more-stmts-node, silent, no-stmts-node}
+use Rattle.compiler.proofs.Statements.{empty-node, fail-node, declare-node, free-node, own-node, assign-node, eval-node, block-node, return-node, braced-node, more-stmts-node, silent, no-stmts-node}
 use borrow.Fn.PlainCycle.{is, falls}
 use Rattle.compiler.proofs.statement.Reads as statement′
 use Rattle.compiler.proofs.+statement.Lts-statement as statement-lts
@@ -290,10 +290,37 @@ statement-returns-12 t c =
           grown-as (v .code) (c .before .before .statement7 .ensures .is (v .x) (v .holds));
     }
 
+statement-own-requires : (t : ℕ) → statement-lts.Need-own-requires (statement-C t) (statement-at t) statement′.Post
+statement-own-requires t c κs =
+    let S = c .before .before .before .before .before .before .before in
+    let v = own-node (word (S .args .values .now)) (word (S .args .slots .now)) (S .pre .1 .tokens) (c .before .before .fetch .ensures) (c .before .match .keys13) (S .pre .1 .rooted .holds) in
+    let d = due-as (v .code) (S .pre .1 .due) in
+    let w = v .inside (S .pre .1 .sound) in
+    let u = S .pre .1 .within in
+    record {
+      inside = omega (arith, w, u .valued, v .first, v .second);
+      named = omega (arith, w, u .named);
+      tokens = omega (arith, w, u .small, v .first, v .second);
+      few = omega (arith, d .few);
+      space = omega (arith, d .space);
+    }
+
+statement-same-length-13 : (t : ℕ) → statement-lts.Need-same-length-13 (statement-C t) (statement-at t) statement′.Post
+statement-same-length-13 t c = search needs
+
 statement-returns-13 : (t : ℕ) → statement-lts.Need-returns-13 (statement-C t) (statement-at t) statement′.Post
 statement-returns-13 t c =
+    let S = c .before .before .before .before .before .before .before .before .before .before in
+    record {
+      is = λ u h.
+          let v = own-node (word (S .args .values .now)) (word (S .args .slots .now)) (S .pre .1 .tokens) (c .before .before .before .before .before .fetch .ensures) (c .before .before .before .before .match .keys13) h in
+          grown-as (v .code) (c .before .before .own .ensures .is (v .low) (v .high) (v .first) (v .second));
+    }
+
+statement-returns-14 : (t : ℕ) → statement-lts.Need-returns-14 (statement-C t) (statement-at t) statement′.Post
+statement-returns-14 t c =
     let S = c .before .before .before .before .before .before in
-    let e = silent (word (S .args .values .now)) (word (S .args .slots .now)) (S .pre .1 .tokens) (S .pre .1 .part) (at-kind _ (c .before .fetch .ensures) refl (S .pre .1 .rooted .holds)) (c .match .rest .0 .0 .0 .0 .0 .0 .0 .0 .0 .0 .0 .1) (c .match .rest .0 .0 .0 .0 .0 .0 .0 .0 .0 .0 .1) (c .match .rest .0 .0 .0 .0 .0 .0 .0 .0 .0 .1) (c .match .rest .0 .0 .0 .0 .0 .0 .0 .0 .1) (c .match .rest .0 .0 .0 .0 .0 .0 .0 .1) (c .match .rest .0 .0 .0 .0 .0 .0 .1) (c .match .rest .0 .0 .0 .0 .0 .1) (c .match .rest .0 .0 .0 .0 .1) (c .match .rest .0 .0 .0 .1) (c .match .rest .0 .0 .1) (c .match .rest .0 .1) (c .match .rest .1) in
+    let e = silent (word (S .args .values .now)) (word (S .args .slots .now)) (S .pre .1 .tokens) (S .pre .1 .part) (at-kind _ (c .before .fetch .ensures) refl (S .pre .1 .rooted .holds)) (c .match .rest .0 .0 .0 .0 .0 .0 .0 .0 .0 .0 .0 .0 .1) (c .match .rest .0 .0 .0 .0 .0 .0 .0 .0 .0 .0 .0 .1) (c .match .rest .0 .0 .0 .0 .0 .0 .0 .0 .0 .0 .1) (c .match .rest .0 .0 .0 .0 .0 .0 .0 .0 .0 .1) (c .match .rest .0 .0 .0 .0 .0 .0 .0 .0 .1) (c .match .rest .0 .0 .0 .0 .0 .0 .0 .1) (c .match .rest .0 .0 .0 .0 .0 .0 .1) (c .match .rest .0 .0 .0 .0 .0 .1) (c .match .rest .0 .0 .0 .0 .1) (c .match .rest .0 .0 .0 .1) (c .match .rest .0 .0 .1) (c .match .rest .0 .1) (c .match .rest .1) in
     record { is = λ u h. grown-as (no-stmts-node (word (S .args .values .now)) (word (S .args .slots .now)) (S .pre .1 .tokens) (c .before .fetch .ensures) e h) (grown-none _ _) }
 
 pub +statement-spec : {M : Type 1} → statement M
@@ -336,6 +363,7 @@ pub +statement-spec : {M : Type 1} → statement M
     (statement-statement-requires-5 t)
     (statement-statement-requires-6 t)
     (statement-statement-requires-7 t)
+    (statement-own-requires t)
     (statement-same-length t)
     (statement-returns t)
     (statement-same-length-2 t)
@@ -360,4 +388,6 @@ pub +statement-spec : {M : Type 1} → statement M
     (statement-returns-11 t)
     (statement-same-length-12 t)
     (statement-returns-12 t)
+    (statement-same-length-13 t)
     (statement-returns-13 t)
+    (statement-returns-14 t)

@@ -3,7 +3,7 @@ use native.Mathlib.Omega.{arith}
 use Rattle.syntax.specs.Abstract.{ast}
 use Rattle.syntax.specs.Table.{at-declare, at-declare-free}
 use Rattle.grammar.specs.Parse.{readDecl}
-use Rattle.grammar.proofs.Steps.{not-last, room-for, written, ready-next, begin, not-so, pass, eat, wrote, stop, found}
+use Rattle.grammar.proofs.Steps.{not-last, room-for, written, ready-next, begin, not-so, pass, eat, wrote, stop, found, hand}
 use Rattle.grammar.proofs.declaration.Statement.{statement}
 use Rattle.grammar.proofs.declaration.Tie as tie
 
@@ -70,18 +70,32 @@ add-if4-3 c = let s₀ = c .before .before .before .before .before .before .befo
 shared-slice-read-if4 : tie.Need-shared-slice-read-if4
 shared-slice-read-if4 c = let s₀ = c .before .before .before .before .before .before .before .before in let r = ready-next (s₀ .pre .0) (s₀ .pre .1) in let h = not-last r (c .before .before .before .before .if1 .left) refl in let q = ready-next r h in let i = not-last q (c .before .if3 .left) refl in i
 
-add-t22 : tie.Need-add-t22
-add-t22 c = let s₀ = c .before .before .before .before .before .before .before .before .before in omega (arith, (s₀ .pre .1), (s₀ .pre .0) .inside, (s₀ .pre .0) .few, (s₀ .pre .0) .room, (s₀ .pre .0) .below)
+add-own-pair : tie.Need-add-own-pair
+add-own-pair c = let s₀ = c .before .before .before .before .before .before .before .before .before in omega (arith, (s₀ .pre .1), (s₀ .pre .0) .inside, (s₀ .pre .0) .few, (s₀ .pre .0) .room, (s₀ .pre .0) .below)
 
-add-t23 : tie.Need-add-t23
-add-t23 c = let s₀ = c .before .before .before .before .before .before .before .before .before in omega (arith, (s₀ .pre .1), (s₀ .pre .0) .inside, (s₀ .pre .0) .few, (s₀ .pre .0) .room, (s₀ .pre .0) .below)
+add-own-pair-2 : tie.Need-add-own-pair-2
+add-own-pair-2 c = let s₀ = c .before .before .before .before .before .before .before .before .before in omega (arith, (s₀ .pre .1), (s₀ .pre .0) .inside, (s₀ .pre .0) .few, (s₀ .pre .0) .room, (s₀ .pre .0) .below)
 
-add-t24 : tie.Need-add-t24
-add-t24 c = let s₀ = c .before .before .before .before .before .before .before .before .before in omega (arith, (s₀ .pre .1), (s₀ .pre .0) .inside, (s₀ .pre .0) .few, (s₀ .pre .0) .room, (s₀ .pre .0) .below)
+add-own-pair-3 : tie.Need-add-own-pair-3
+add-own-pair-3 c = let s₀ = c .before .before .before .before .before .before .before .before .before in omega (arith, (s₀ .pre .1), (s₀ .pre .0) .inside, (s₀ .pre .0) .few, (s₀ .pre .0) .room, (s₀ .pre .0) .below)
+
+own-pair-requires : tie.Need-own-pair-requires
+own-pair-requires c κs =
+    let s₀ = c .before .before .before .before .before .before .before .before .before .before in
+    let r = ready-next (s₀ .pre .0) (s₀ .pre .1) in
+    let h = not-last r (c .before .before .before .before .before .before .if1 .left) refl in
+    let q = ready-next r h in
+    let i = not-last q (c .before .before .before .if3 .left) refl in
+    (ready-next q i, omega (arith, s₀ .pre .0 .inside, s₀ .pre .0 .few))
+
+same-length-2 : tie.Need-same-length-2
+same-length-2 c = c .before .before .own-pair .kept .1 .1 .0
 
 returns-4 : tie.Need-returns-4
 unfolding readDecl ast
-returns-4 c = let s₀ = c .before .before .before .before .before .before .before .before .before in stop (not-so _ _ (c .if4 .taken) (eat _ _ (c .before .before .if3 .left) refl (not-so _ _ (c .before .before .before .if2 .left) (eat _ _ (c .before .before .before .before .before .if1 .left) refl (pass (s₀ .pre .1) (begin 1 (λ d. readDecl (s₀ .args .kinds .now)) (s₀ .pre .0)))))))
+returns-4 c =
+    let s₀ = c .before .before .before .before .before .before .before .before .before .before .before .before .before in
+    hand (c .before .before .own-pair .ensures) (not-so _ _ (c .before .before .before .before .if4 .taken) (eat _ _ (c .before .before .before .before .before .before .if3 .left) refl (not-so _ _ (c .before .before .before .before .before .before .before .if2 .left) (eat _ _ (c .before .before .before .before .before .before .before .before .before .if1 .left) refl (pass (s₀ .pre .1) (begin 1 (λ d. readDecl (s₀ .args .kinds .now)) (s₀ .pre .0))))))) (omega arith) (omega arith)
 
 add-store-4 : tie.Need-add-store-4
 add-store-4 c = let s₀ = c .before .before .before .before .before .before .before .before .before .before in omega (arith, (s₀ .pre .1), (s₀ .pre .0) .inside, (s₀ .pre .0) .few, (s₀ .pre .0) .room, (s₀ .pre .0) .below)
@@ -98,8 +112,8 @@ add-store-7 c = let s₀ = c .before .before .before .before .before .before .be
 store-requires-2 : tie.Need-store-requires-2
 store-requires-2 c κs = let s₀ = c .before .before .before .before .before .before .before .before .before .before in omega (arith, room-for (s₀ .pre .0), (s₀ .pre .0) .inside, (s₀ .pre .0) .few, (s₀ .pre .0) .room, (s₀ .pre .0) .below)
 
-same-length-2 : tie.Need-same-length-2
-same-length-2 c = c .before .before .store2 .kept .0
+same-length-3 : tie.Need-same-length-3
+same-length-3 c = c .before .before .store2 .kept .0
 
 returns-5 : tie.Need-returns-5
 unfolding readDecl ast
@@ -129,14 +143,16 @@ declaration-spec =
     add-if4-2
     add-if4-3
     shared-slice-read-if4
-    add-t22
-    add-t23
-    add-t24
+    add-own-pair
+    add-own-pair-2
+    add-own-pair-3
+    own-pair-requires
+    same-length-2
     returns-4
     add-store-4
     add-store-5
     add-store-6
     add-store-7
     store-requires-2
-    same-length-2
+    same-length-3
     returns-5)

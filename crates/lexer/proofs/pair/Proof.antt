@@ -44,8 +44,16 @@ unfolding same
 returns-9 c = sym (kindIn-chain marks kEnd (c .before .before .before .before .args .b ∷ c .before .before .before .before .args .c ∷ []) ∙ rw (c .before .if4 .taken) (simp (ne-eqb _ _ (c .if5 .left))))
 
 returns-10 : tie.Need-returns-10
+unfolding kindIn same
+returns-10 c = rw (c .before .if6 .taken, c .if7 .taken)
+
+returns-11 : tie.Need-returns-11
 unfolding same
-returns-10 c = sym (kindIn-chain marks kEnd (c .before .before .before .args .b ∷ c .before .before .before .args .c ∷ []) ∙ simp (and-false, ne-eqb _ _ (c .before .before .if1 .left), ne-eqb _ _ (c .before .if2 .left), ne-eqb _ _ (c .if4 .left)))
+returns-11 c = sym (kindIn-chain marks kEnd (c .before .before .before .before .before .args .b ∷ c .before .before .before .before .before .args .c ∷ []) ∙ rw (c .before .if6 .taken) (simp (ne-eqb _ _ (c .if7 .left))))
+
+returns-12 : tie.Need-returns-12
+unfolding same
+returns-12 c = sym (kindIn-chain marks kEnd (c .before .before .before .before .args .b ∷ c .before .before .before .before .args .c ∷ []) ∙ simp (and-false, ne-eqb _ _ (c .before .before .before .if1 .left), ne-eqb _ _ (c .before .before .if2 .left), ne-eqb _ _ (c .before .if4 .left), ne-eqb _ _ (c .if6 .left)))
 
 pub pair-spec : {M : Type 1} → statement M
 pair-spec =
@@ -60,4 +68,6 @@ pair-spec =
     returns-7
     returns-8
     returns-9
-    returns-10)
+    returns-10
+    returns-11
+    returns-12)

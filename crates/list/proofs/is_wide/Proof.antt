@@ -2,7 +2,7 @@ use mathlib.Core.Path.{_≡_, sym, ap, _∙_}
 use lib.IntN.{pos, _-ℤ_}
 use lib.Signed.{leZ}
 use mir.Facts.{toZ-ofZ}
-use Rattle.list.proofs.Grounds.{wide}
+use Rattle.text_rules.proofs.Wide.{wide}
 use borrow.Author.Needs.{needs}
 use Rattle.list.proofs.is_wide.Statement.{statement}
 use Rattle.list.proofs.is_wide.Tie as tie

@@ -15,6 +15,7 @@ use Rattle.compiler.proofs.statement.Reads as statement′
 use Rattle.compiler.proofs.statement.Kinds as statement-kinds
 use Rattle.compiler.proofs.+statement.Lts-statement as statement-lts
 use Rattle.compiler.proofs.aim.Reads as aim-reads
+use Rattle.compiler.proofs.own.Reads as own-reads
 use Rattle.compiler.proofs.emit.Reads as emit-reads
 use Rattle.compiler.proofs.expression.Reads as expression-reads
 use Rattle.compiler.proofs.address.Reads as address-reads
@@ -32,7 +33,7 @@ statement-below t =
     and 4 statement-kinds.ps (falls 4 statement-kinds.ps _<_ μ-statement t) statement′.Pre
 
 abbrev pub statement-C : ℕ → statement-lts.Claims
-statement-C t = (fetch-reads.Asked, fetch-reads.Learnt, emit-reads.Asked, emit-reads.Learnt, address-reads.Asked, address-reads.Learnt, emit-address-reads.Asked, emit-address-reads.Learnt, expression-reads.Asked, expression-reads.Learnt, statement-below t, statement′.Post, aim-reads.Asked, aim-reads.Learnt)
+statement-C t = (fetch-reads.Asked, fetch-reads.Learnt, emit-reads.Asked, emit-reads.Learnt, address-reads.Asked, address-reads.Learnt, emit-address-reads.Asked, emit-address-reads.Learnt, expression-reads.Asked, expression-reads.Learnt, statement-below t, statement′.Post, aim-reads.Asked, aim-reads.Learnt, own-reads.Asked, own-reads.Learnt)
 
 pub statement-emit-requires-6 : (t : ℕ) → statement-lts.Need-emit-requires-6 (statement-C t) (statement-at t) statement′.Post
 statement-emit-requires-6 t c κs =

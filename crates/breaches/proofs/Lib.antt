@@ -1,0 +1,2 @@
+-- Laws for the code of the rules.
+pub mod OwnPairs
