@@ -152,7 +152,7 @@ module _ (text : List ℕ) where
   by-lexer a (X.no-token h s) = no-token h s
   by-lexer a (X.too-large h s f) = too-large h s f
 
-  -- numbers 5 to 10
+  -- numbers 5 to 10 and 17 to 19
   by-rules : (ts : List Token) → lexed text ≡ L.tokens ts → (t : Tree prog) → G.KeepsGrammar (kinds ts) t
       → Says text (verdict (places ts) (firstBroken (rulesOf (sourceOf text ts) (ast t))))
   by-rules ts l t k = go (firstBroken rs) (first-found ts (ascending (lexed-tokens text ts l .1)) rs low)

@@ -1,4 +1,4 @@
--- Document 01's starred "Rules tried by hand", from their texts, in one table under one proof by computation.
+-- Document 01's starred "Rules tried by hand", from their texts, in one table under one proof by computation; and with them what document 02 adds to the texts.
 use Prim.Native.Nat.{ℕ}
 use Prim.Native.String.{String}
 use mathlib.Core.Path.{_≡_, refl}
@@ -85,6 +85,14 @@ starred =
     ∷ record { text = ""; low = 0; high = 3; steps = 100; budget = 1000000; words = 50; answer = refused 8 0; rows = [] }
     ∷ []
 
+abbrev pub added : List Case
+added =
+    -- slip 5: a plain `free` takes the job's pair, another its own
+    gives "int main() { int x free 5 .. 6; int y free; return x + y; }" 0 1 (plan 5 (5 ∷ 0 ∷ []) ∷ plan 6 (5 ∷ 1 ∷ []) ∷ plan 6 (6 ∷ 0 ∷ []) ∷ plan 7 (6 ∷ 1 ∷ []) ∷ []) whole 9
+    -- each end with or without a minus; the job's pair is not asked
+    ∷ gives "int main() { int x free -1..0; if (x < 0) return 1; else fail; }" 3 4 (record { result = pos 1; values = negsuc 0 ∷ [] } ∷ []) whole 8
+    ∷ []
+
 -- ---- the proof
 
 -- the rows slice held sevens
@@ -102,6 +110,6 @@ given c =
 unfoldable pub expected : Case → Exit
 expected c = (c .answer, sheet (held (c .words)) (c .rows))
 
-pub starred-hold : map given starred ≡ map expected starred
+pub examples-hold : (map given starred ≡ map expected starred) × (map given added ≡ map expected added)
 unfolding given expected list ground program checked lexed noneLarge scan front valueOf decimal digitsOf longestWithin kindOf grouped kindIn same all ast readText moreProg readFun readParams moreParams readStmt readOwn readDecl readBlock readEnded readFail readGuard readNamed readIf readWhile moreBody readCond moreCond readConj moreConj readAtom readCmp readSum moreSum readTerm moreTerm readOperand readBracket readCall readArgs moreArgs events eventsAt stops count first on R.scan least lesser deep parameters heads functionOf arityOf wrong miscounted mains withParameters badMain unended counted over declared outer entered inBlock sought misnamed uncalled repeated named meant parameterCount atEnd after unset owns breaching part mainOf rulesOf firstBroken checkedTokens programOf S.listed answer search openly probedOnce moves paths probed tried settings meets narrowed clipped clip decided always range fitted span maxZ minZ all32 under work each numbers clamp counting within does enter stmt loop cond expr frame holds eqZ arith exact wrap low32
-starred-hold = refl
+examples-hold = (refl, refl)
