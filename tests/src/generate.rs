@@ -848,7 +848,10 @@ fn damaged(random: &mut Random) -> Vec<u8> {
             let place = random.below(text.len());
             match random.below(4) {
                 0 => text[place] = random.below(256) as u8,
-                1 => text.insert(place, *random.pick(&[&b'!', &b'&', &b'|', &b'_', &b'=', &b'-', &b'.'])),
+                1 => text.insert(
+                    place,
+                    *random.pick(&[&b'!', &b'&', &b'|', &b'_', &b'=', &b'-', &b'.']),
+                ),
                 2 => text.insert(place, random.below(256) as u8),
                 _ => {
                     text.remove(place);

@@ -645,7 +645,8 @@ fn own_pairs() {
     ] {
         assert_eq!(checked(&main_with(body)), Ok(()), "{body}");
     }
-    for body in ["int x free 5..@.6; fail;", "int x free 5@.6; fail;", "int x free 5 @. . 6; fail;"] {
+    for body in ["int x free 5..@.6; fail;", "int x free 5@.6; fail;", "int x free 5 @. . 6; fail;"]
+    {
         refused_main(2, body);
     }
     refused_main(3, "int x free -@2147483648 .. 0; fail;");
@@ -677,7 +678,10 @@ fn own_pairs() {
     refused(9, "int main() { int x free 6 .. 5; @}");
     refused_main(17, "int x free 6 .. 5; int y; return @y;");
     let many: String = (0..16).map(|n| format!("int v{n}; ")).collect();
-    refused_main(10, &(String::from("int x free 6 .. 5; ") + &many.replace("v15", "@v15") + "fail;"));
+    refused_main(
+        10,
+        &(String::from("int x free 6 .. 5; ") + &many.replace("v15", "@v15") + "fail;"),
+    );
 }
 
 /// Slip 5: a plain free takes the job's pair, another its own, also in a loop.
