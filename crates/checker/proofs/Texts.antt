@@ -36,6 +36,8 @@ table =
     ∷ case "int main() { int x free -5..-4; return x; }" accepted
     ∷ case "int main() { int x free 5; return x; }" (refused 4 25)
     ∷ case "int main() { int x free 0 .. 9; int y free -5 .. -6; return x; }" (refused 18 43)
+    ∷ case "int main() { int x free 0 .. 4095; return x; }" accepted
+    ∷ case "int main() { int x free 3 .. 5; int y free -1 .. 4095; return x; }" (refused 19 43)
     ∷ []
 
 unfoldable pub given : Case → Verdict
