@@ -1,8 +1,9 @@
-//! Single comparisons of the linked lister with the reference. Each lends
-//! slices with random words in them and around them, and looks at every word
-//! afterwards.
+//! Single comparisons of the linked lister with the reference, and of the
+//! third lister with it. Each lends slices with words in them and around them,
+//! and looks at every word afterwards.
 
 use crate::plans::{Plans, Row};
+use crate::quick::{Ended, Quick};
 use crate::random::Random;
 use crate::search::{Ending, Listing, ROW_WORDS};
 use crate::{linked, sheet, Job, Refusal};
@@ -153,6 +154,34 @@ pub fn list_with(
         };
         format!("plans_list: {what}; the reference: {short}; {job:?}")
     })
+}
+
+/// Compares the third lister with what the reference answered. What it has
+/// kept from another job must not show.
+pub fn quick(
+    quick: &mut Quick,
+    text: &[u8],
+    job: &Job,
+    reference: &Result<Listing, Refusal>,
+) -> Result<(), String> {
+    let mut number = 0;
+    let mut rows = Lent::new("rows", job.rows_len, || {
+        number += 1;
+        number
+    });
+    let expected = reference.as_ref().map(|Listing { rows, moves, ending }| Ended {
+        ending: *ending,
+        rows: rows.len(),
+        moves: *moves,
+    });
+    if let Ok(listing) = reference {
+        rows.expect(&listing.rows.concat());
+    }
+    let answer = quick.list(text, job, rows.lend());
+    if answer.as_ref() != expected.as_ref().map_err(|refusal| *refusal) {
+        return Err(format!("quick: {answer:?}; the reference: {expected:?}; {job:?}"));
+    }
+    rows.compare().map_err(|what| format!("quick: {what}; the reference: {expected:?}; {job:?}"))
 }
 
 /// What is lent to list beside the text, with random words in it.

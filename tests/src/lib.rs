@@ -7,9 +7,12 @@
 //! - `run`: one run with chosen values; `plans`: the plan list from runs alone.
 //! - `search`: the search with open values, windows, choices and moves; the
 //!   operation list.
+//! - `quick`: the operation list a third time, fast and without working a path
+//!   again.
 //! - `lister`: the program around list (job line and printing); `sheet`: the
 //!   same answer on pages.
 //! - `random`, `generate`: random texts and jobs; `examples`: fixed ones.
+//! - `jobs`: the jobs that are timed.
 //! - `rule_files`: the rules of the folder `rules/`.
 //! - `linked`: the exported functions of the proved lister; `cases`: single
 //!   comparisons with them.
@@ -20,12 +23,14 @@ pub mod cases;
 pub mod documents;
 pub mod examples;
 pub mod generate;
+pub mod jobs;
 pub mod lexer;
 pub mod linked;
 pub mod lister;
 pub mod parser;
 pub mod plans;
 pub mod program;
+pub mod quick;
 pub mod random;
 pub mod rule_files;
 pub mod rules;

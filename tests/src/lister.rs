@@ -17,6 +17,12 @@ pub fn post(input: &[u8]) -> Vec<u8> {
 }
 
 fn listed(input: &[u8]) -> Result<Listing, Refusal> {
+    let (job, text) = read(input)?;
+    list(text, &job)
+}
+
+/// The job of this standard input, and its text.
+pub fn read(input: &[u8]) -> Result<(Job, &[u8]), Refusal> {
     let end = input.iter().position(|b| *b == b'\n').ok_or((16, 0))?;
     let (low, high, steps) = job_line(&input[..end]).ok_or((16, 0))?;
     let job = Job {
@@ -28,7 +34,7 @@ fn listed(input: &[u8]) -> Result<Listing, Refusal> {
         rows_len: 1_000 * ROW_WORDS,
         scratch_len: LEAST_SCRATCH,
     };
-    list(&input[end + 1..], &job)
+    Ok((job, &input[end + 1..]))
 }
 
 /// The lines for what list answered and wrote.

@@ -47,6 +47,11 @@ pub struct Listing {
 
 /// The operation list.
 pub fn list(text: &[u8], job: &Job) -> Result<Listing, Refusal> {
+    Ok(search(&accepted(text, job)?, job))
+}
+
+/// The program of the text, unless list refuses it or the job.
+pub fn accepted(text: &[u8], job: &Job) -> Result<Program, Refusal> {
     if job.scratch_len < LEAST_SCRATCH {
         return Err((11, 0));
     }
@@ -59,8 +64,7 @@ pub fn list(text: &[u8], job: &Job) -> Result<Listing, Refusal> {
     if job.steps == 0 || job.steps > MOST_STEPS {
         return Err((14, 0));
     }
-    let program = Program::of(text)?;
-    Ok(search(&program, job))
+    Program::of(text)
 }
 
 /// The search of a job that is not refused.

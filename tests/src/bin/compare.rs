@@ -1,16 +1,18 @@
-//! Compares the linked lister with the reference.
+//! Compares the linked lister with the reference, and the third lister with
+//! both.
 //!
 //! `compare CASES SEED`: first the paper's examples and, with the feature
 //! `list`, the grid of jobs; then random cases. Each is a text for check and
-//! remarks and, with the feature `list`, a text with a job for list; in one of
-//! four, what list wrote for a small job is held to the plan list from runs
-//! alone. The first difference is printed with its text, and the exit code is
-//! then 1.
+//! remarks and, with the feature `list`, a text with a job for list, which all
+//! three answer; in one of four, what list wrote for a small job is held to the
+//! plan list from runs alone. The first difference is printed with its text,
+//! and the exit code is then 1.
 
 use reference::examples::{self, Example};
 use reference::lister::shown;
 use reference::plans::plans;
 use reference::program::Program;
+use reference::quick::{Quick, MANNERS};
 use reference::random::Random;
 use reference::search::Ending;
 use reference::{cases, generate, linked, list, with_room, Job, Listing, Refusal};
@@ -45,6 +47,7 @@ fn compare(count: u64, seed: u64) -> bool {
         return false;
     }
     let mut answers: BTreeMap<String, u64> = BTreeMap::new();
+    let mut third = Third::new();
     for case in 0..count {
         // Each case has a seed of its own, so that one can be tried again.
         let mut random = Random::new(seed.wrapping_mul(1_000_003).wrapping_add(case));
@@ -71,7 +74,8 @@ fn compare(count: u64, seed: u64) -> bool {
                 Err((number, _)) => format!("list {number}"),
             };
             *answers.entry(kind).or_default() += 1;
-            if let Err(what) = cases::list(&mut random, &text, &job, &reference) {
+            let outcome = cases::list(&mut random, &text, &job, &reference);
+            if let Err(what) = outcome.and_then(|_| third.agrees(&text, &job, &reference)) {
                 return differs(case, &text, &what);
             }
             if let Err(what) = random_page(&mut random) {
@@ -89,20 +93,45 @@ fn compare(count: u64, seed: u64) -> bool {
     }
     let kinds: Vec<String> = answers.iter().map(|(kind, n)| format!("{kind}: {n}")).collect();
     println!("{}", kinds.join(", "));
-    let what = if linked::LISTS { "check, remarks, list and a page" } else { "check and remarks" };
+    let what = if linked::LISTS {
+        "check, remarks, list (by three listers) and a page"
+    } else {
+        "check and remarks"
+    };
     println!("{count} cases of {what} agreed, seed {seed}");
     true
+}
+
+/// The third lister, in both its manners, kept from job to job.
+struct Third([Quick; 2]);
+
+impl Third {
+    fn new() -> Third {
+        Third(MANNERS.map(Quick::new))
+    }
+
+    fn agrees(
+        &mut self,
+        text: &[u8],
+        job: &Job,
+        reference: &Result<Listing, Refusal>,
+    ) -> Result<(), String> {
+        self.0.iter_mut().try_for_each(|quick| cases::quick(quick, text, job, reference))
+    }
 }
 
 /// The paper's examples and limits, each once, before the random cases.
 fn compare_examples() -> bool {
     let mut random = Random::new(7);
+    let mut third = Third::new();
     let examples = examples::examples();
     for (number, Example { name, text, job }) in examples.iter().enumerate() {
         let mut outcome = cases::check(&mut random, text).map(|_| ());
         outcome = outcome.and_then(|_| cases::remarks(&mut random, text));
         if linked::LISTS {
-            outcome = outcome.and_then(|_| cases::list(&mut random, text, job, &list(text, job)));
+            let reference = list(text, job);
+            outcome = outcome.and_then(|_| cases::list(&mut random, text, job, &reference));
+            outcome = outcome.and_then(|_| third.agrees(text, job, &reference));
         }
         if let Err(what) = outcome {
             return differs(number as u64, text, &format!("example {name}: {what}"));
@@ -129,9 +158,12 @@ fn compare_by_hand() -> bool {
 /// The grid, and answer slices of every small length.
 fn compare_grid() -> bool {
     let mut random = Random::new(8);
+    let mut third = Third::new();
     let grid = examples::grid();
     for (number, Example { name, text, job }) in grid.iter().enumerate() {
-        if let Err(what) = cases::list_with(&mut random, text, job, &list(text, job), 5) {
+        let reference = list(text, job);
+        let outcome = cases::list_with(&mut random, text, job, &reference, 5);
+        if let Err(what) = outcome.and_then(|_| third.agrees(text, job, &reference)) {
             return differs(number as u64, text, &format!("grid, {name}: {what}"));
         }
     }

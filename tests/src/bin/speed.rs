@@ -1,29 +1,67 @@
-//! Times: 1,000 checks of each of several texts of 2,048 bytes and, with the
-//! feature `list`, moves per second on five jobs, beside the reference. The
-//! same on chains `x = x + x` of growing length: a shared expression must not
-//! cost what it would cost unfolded. The lent buffers are made once and not
-//! cleared between calls; that list zeroes its scratch is in its time.
+//! Times: the proved lister, with the feature `list`, beside the third one
+//! (`quick`), in one process and by turns; of many rounds the best counts.
+//! Both must answer alike.
+//!
+//! - 1,000 checks of each of several texts of 2,048 bytes, beside the
+//!   reference.
+//! - Moves per second on ten jobs, and their ratio, proved to quick, in both
+//!   manners of `quick`: the plain one has an instruction for each step, as the
+//!   proved lister has; the sparing one does less. The time is that of the
+//!   search: for the proved lister that of list less that of check.
+//! - The same on chains `x = x + x` of growing length: a shared expression
+//!   must not cost what it would cost unfolded.
+//! - What a taking back costs, as the path before it grows.
+//!
+//! The lent buffers are made once and not cleared between calls; that list
+//! zeroes its scratch is in its time.
 
 use reference::examples::declarations;
-use reference::search::LEAST_SCRATCH;
-use reference::{cases, check, linked, list, with_room, Job};
+use reference::jobs::{chains, growth, ten, Timed};
+use reference::program::Program;
+use reference::quick::{self, Manner, Quick, MANNERS};
+use reference::{cases, check, linked, list, with_room, Job, Listing};
+use std::hint::black_box;
 use std::time::{Duration, Instant};
 
 const CHECKS: u32 = 1_000;
 const LENGTH: usize = 2_048;
+/// The rounds of which the best counts, and about how long a task's turn is.
+const ROUNDS: usize = 40;
+const TURN: Duration = Duration::from_micros(1_500);
 
 fn main() {
     with_room(|| {
         checks();
         println!("millions of moves per second:");
-        for job in jobs() {
-            lists(&job);
-        }
+        ten().iter().for_each(lists);
         println!("the same, as a chain grows:");
-        for job in chains() {
-            lists(&job);
-        }
+        chains().iter().for_each(lists);
+        println!("ns for each choice taken back, as the path before it grows:");
+        growth().iter().for_each(|(length, timed)| takings_back(*length, timed));
     });
+}
+
+fn time(times: u32, task: &mut dyn FnMut()) -> Duration {
+    let start = Instant::now();
+    for _ in 0..times {
+        task();
+    }
+    start.elapsed() / times
+}
+
+/// Works the tasks by turns; for each the time of once, from its best turn.
+fn best<const N: usize>(mut tasks: [&mut dyn FnMut(); N]) -> [Duration; N] {
+    let times = tasks.each_mut().map(|task| {
+        let once = time(1, task).min(time(1, task)).as_nanos().max(1);
+        (TURN.as_nanos() / once).max(1) as u32
+    });
+    let mut best = [Duration::MAX; N];
+    for _ in 0..ROUNDS {
+        for (best, (task, times)) in best.iter_mut().zip(tasks.iter_mut().zip(times)) {
+            *best = (*best).min(time(times, task));
+        }
+    }
+    best
 }
 
 fn millis(time: Duration) -> f64 {
@@ -34,23 +72,106 @@ fn checks() {
     println!("{CHECKS} checks of a text of {LENGTH} bytes, in ms:");
     for (name, text) in texts() {
         assert_eq!(text.len(), LENGTH);
-        let start = Instant::now();
-        for _ in 0..CHECKS {
-            let _ = std::hint::black_box(check(std::hint::black_box(&text)));
-        }
-        let reference = millis(start.elapsed());
+        let mut plain = || {
+            let _ = black_box(check(black_box(&text)));
+        };
+        let answer = check(&text);
         if !linked::LINKED {
-            println!("  {name}: reference {reference:.1}, answer {:?}", check(&text));
+            let [reference] = best([&mut plain]).map(|time| millis(CHECKS * time));
+            println!("  {name}: reference {reference:.1}, answer {answer:?}");
             continue;
         }
-        let mut answer = [0; 2];
-        let start = Instant::now();
-        for _ in 0..CHECKS {
-            linked::check(std::hint::black_box(&text), &mut answer);
-        }
-        let lister = millis(start.elapsed());
-        println!("  {name}: lister {lister:.1}, reference {reference:.1}, answer {answer:?}");
+        let times = best([&mut proved_check(&text), &mut plain]);
+        let [proved, reference] = times.map(|time| millis(CHECKS * time));
+        println!("  {name}: lister {proved:.1}, reference {reference:.1}, answer {answer:?}");
     }
+}
+
+fn proved_check(text: &[u8]) -> impl FnMut() + '_ {
+    let mut answer = [0; 2];
+    move || linked::check(black_box(text), &mut answer)
+}
+
+fn proved_list<'a>(text: &'a [u8], job: &'a Job) -> impl FnMut() + 'a {
+    let mut rows = vec![0; job.rows_len];
+    let mut scratch = vec![0; job.scratch_len];
+    let mut answer = [0; 5];
+    move || linked::list(black_box(text), job, &mut rows, &mut scratch, &mut answer)
+}
+
+fn quick_search<'a>(text: &[u8], job: &'a Job, manner: Manner) -> impl FnMut() + 'a {
+    let mut quick = Quick::new(manner);
+    let code = quick.compiled(&Program::of(text).expect("the text is accepted"));
+    let mut rows = vec![0; job.rows_len];
+    move || {
+        black_box(quick.search(black_box(&code), job, &mut rows));
+    }
+}
+
+/// All listers answer and write what the reference does.
+fn agree(name: &str, text: &[u8], job: &Job) -> Listing {
+    let reference = list(text, job);
+    for manner in MANNERS {
+        assert_eq!(quick::list(text, job, manner), reference, "{name}");
+    }
+    if linked::LISTS {
+        assert_eq!(cases::listed(text, job), Some(reference.clone()), "{name}");
+    }
+    reference.expect("the job is not refused")
+}
+
+fn lists(Timed { name, text, job }: &Timed) {
+    let text = text.as_bytes();
+    let Listing { moves, ending, .. } = agree(name, text, job);
+    let speed = |time: Duration| f64::from(moves) / time.as_secs_f64() / 1_000_000.0;
+    let [mut plain, mut sparing] = MANNERS.map(|manner| quick_search(text, job, manner));
+    if !linked::LISTS {
+        let [plain, sparing] = best([&mut plain, &mut sparing]).map(speed);
+        println!("  {name}: quick {plain:.1}, sparing {sparing:.1} ({ending:?}, {moves} moves)");
+        return;
+    }
+    let (mut proved, mut checked) = (proved_list(text, job), proved_check(text));
+    let times = best([&mut proved, &mut checked, &mut plain, &mut sparing]);
+    let [listed, checked, plain, sparing] = times;
+    let proved = speed(listed.saturating_sub(checked));
+    let [plain, sparing] = [plain, sparing].map(speed);
+    println!(
+        "  {name}: proved {proved:.1}; quick {plain:.1}, ratio {:.2}; sparing {sparing:.1}, ratio {:.2} ({ending:?}, {moves} moves)",
+        proved / plain,
+        proved / sparing,
+    );
+}
+
+/// The time of the whole search less that of its first path, for each choice
+/// that is taken back.
+fn takings_back(length: usize, Timed { text, job, .. }: &Timed) {
+    const TAKEN: u32 = 255;
+    let text = text.as_bytes();
+    // The path's steps, and its one setting.
+    let first = Job { budget: length as u32 + 1, ..*job };
+    let whole = agree("growth", text, job);
+    let exact = agree("growth", text, &Job { steps: length as u32, ..*job });
+    assert_eq!(exact, whole, "no path has more than {length} steps");
+    assert_eq!(agree("growth", text, &first).moves, first.budget);
+    let each = |whole: Duration, first: Duration| {
+        (whole.saturating_sub(first) / TAKEN).as_secs_f64() * 1e9
+    };
+    let mut quick = [job, &first].map(|job| quick_search(text, job, Manner::Plain));
+    let [quick_whole, quick_first] = quick.each_mut();
+    if !linked::LISTS {
+        let [whole, first] = best([quick_whole, quick_first]);
+        println!("  {length} steps: quick {:.0}", each(whole, first));
+        return;
+    }
+    let mut proved = [job, &first].map(|job| proved_list(text, job));
+    let [proved_whole, proved_first] = proved.each_mut();
+    let times = best([proved_whole, proved_first, quick_whole, quick_first]);
+    let [whole, first, quick_whole, quick_first] = times;
+    println!(
+        "  {length} steps: proved {:.0}, quick {:.0}",
+        each(whole, first),
+        each(quick_whole, quick_first)
+    );
 }
 
 /// Fills a text up to the greatest length.
@@ -94,106 +215,4 @@ fn texts() -> Vec<(&'static str, Vec<u8>)> {
         ("a long number", filled("", "9", "")),
         ("blanks", filled("", " ", "")),
     ]
-}
-
-fn job(low: i32, high: i32, steps: u32) -> Job {
-    Job {
-        low,
-        high,
-        steps,
-        skip: 0,
-        budget: 3_000_000,
-        rows_len: 10_000,
-        scratch_len: LEAST_SCRATCH,
-    }
-}
-
-fn main_with(body: &str) -> String {
-    format!("int main() {{ {body} }}")
-}
-
-/// One free number, doubled again and again, then a test that few settings
-/// meet. Unfolded, ten more doublings are a thousand times as much.
-fn chains() -> Vec<(&'static str, String, Job)> {
-    let chain = |name, count: usize| {
-        let doubled = "x = x + x; ".repeat(count);
-        let body =
-            format!("int a free; int x; x = a; {doubled} if (x == 1 - a) return x; else fail;");
-        (name, main_with(&body), job(0, 4_095, 1_000))
-    };
-    vec![
-        chain("10 doublings", 10),
-        chain("20 doublings", 20),
-        chain("40 doublings", 40),
-        chain("80 doublings", 80),
-        chain("160 doublings", 160),
-    ]
-}
-
-fn jobs() -> Vec<(&'static str, String, Job)> {
-    let frees: String = (0..8).map(|n| format!("int v{n} free; ")).collect();
-    let tree: String =
-        (0..8).map(|n| format!("if (v{n} > 0) s = s + 1; else s = s - v{n}; ")).collect();
-    let chains: String =
-        (0..8).map(|n| format!("{}x = x + v{n}; ", "x = x + x; ".repeat(6))).collect();
-    vec![
-        (
-            "two free numbers 0 to 999 and one test",
-            main_with("int a free; int b free; if (a + b == 999) return a; else fail;"),
-            job(0, 999, 100),
-        ),
-        (
-            "a tree of choices eight deep",
-            main_with(&format!("{frees}int s; s = 0; {tree} return s;")),
-            Job { skip: u32::MAX, ..job(0, 1, 1_000) },
-        ),
-        (
-            "known steps only",
-            main_with(
-                "int i; int s; i = 0; s = 0; while (i < 1000) { s = s + i * i; i = i + 1; } return s;",
-            ),
-            job(0, 0, 1_000),
-        ),
-        (
-            "a loop with a free bound of up to 1,000 turns",
-            main_with("int n free; int i; i = 0; while (i < n) i = i + 1; return i;"),
-            job(0, 999, 1_000),
-        ),
-        (
-            "eight free numbers and chains x = x + x",
-            main_with(&format!("{frees}int x; x = v0; {chains} if (x < 1) return x; else fail;")),
-            Job { skip: u32::MAX, ..job(0, 3, 1_000) },
-        ),
-    ]
-}
-
-fn lists((name, text, job): &(&str, String, Job)) {
-    let text = text.as_bytes();
-    let reference = list(text, job);
-    let listing = reference.as_ref().expect("the job is not refused");
-    let moves = listing.moves;
-    // Small jobs again and again, about two million moves in all.
-    let times = (2_000_000 / moves).max(1);
-    let speed =
-        |time: Duration| f64::from(moves) * f64::from(times) / time.as_secs_f64() / 1_000_000.0;
-    let start = Instant::now();
-    for _ in 0..times {
-        let _ = std::hint::black_box(list(std::hint::black_box(text), job));
-    }
-    let plain = speed(start.elapsed());
-    let end = format!("{:?}, {moves} moves, {times} times", listing.ending);
-    if !linked::LISTS {
-        println!("  {name}: reference {plain:.1} ({end})");
-        return;
-    }
-    let mut rows = vec![0; job.rows_len];
-    let mut scratch = vec![0; job.scratch_len];
-    let mut answer = [0; 5];
-    let start = Instant::now();
-    for _ in 0..times {
-        linked::list(std::hint::black_box(text), job, &mut rows, &mut scratch, &mut answer);
-    }
-    let proved = speed(start.elapsed());
-    assert_eq!(answer, cases::list_answer(&reference), "{name}");
-    println!("  {name}: lister {proved:.1}, reference {plain:.1} ({end})");
 }
