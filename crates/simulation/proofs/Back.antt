@@ -12,6 +12,7 @@ use Rattle.simulation.specs.Machine.{Machine, Doing, advance, start}
 use Rattle.simulation.specs.Path.{State, state, begins, outcome, later, holding, End, cut, Went, on, ended, stepped, siding, choosing, comparing, turning, turn}
 use Rattle.simulation.specs.Lister.{following, next}
 use Rattle.simulation.specs.Back.{standing, Passes, here, turned, ChoiceAt}
+use Rattle.simulation.specs.Resume.{forcing}
 
 -- ---- the newest true choice
 
@@ -74,7 +75,7 @@ pub some-append : (g r : List Bool) (o : Bool) → Some (g ++ o ∷ r)
 some-append [] r o = tt
 some-append (x ∷ g) r o = tt
 
-data Either (A B : Type 0) : Type 0 where
+pub data Either (A B : Type 0) : Type 0 where
   one : A → Either A B
   two : B → Either A B
 
@@ -99,9 +100,6 @@ where-is (z ∷ d) (y ∷ g) r x o e = by (where-is d g r x o (ap others e))
 
 -- ---- what a turn does, whatever is forced
 
-abbrev pub forcing : List Bool → State → State
-forcing q s = state (s .steps) (s .frees) (s .windows) (s .starts) (s .tests) q (s .chosen)
-
 module _ (solver : Solver) (job : Window) (c : Code) where
   -- a turn without a choice, and a turn with one; each is made again with other outcomes forced after it
   pub record Plain (m : Machine Value) (s : State) (m₂ : Machine Value) (s₂ : State) : Type 0 where
@@ -116,11 +114,11 @@ module _ (solver : Solver) (job : Window) (c : Code) where
     pub again : (q : List Bool) → turn solver job c m (forcing (outcome (s .forced) ∷ q) s) .went ≡ on m₂ (forcing q s₂)
 
   -- a path that ends at a choice, at a side that is closed
-  record Closed (m : Machine Value) (s : State) (s₂ : State) : Type 0 where
-    choice : ChoiceAt solver job c m s
-    chosen : s₂ .chosen ≡ s .chosen ++ outcome (s .forced) ∷ []
+  pub record Closed (m : Machine Value) (s : State) (s₂ : State) : Type 0 where
+    pub choice : ChoiceAt solver job c m s
+    pub chosen : s₂ .chosen ≡ s .chosen ++ outcome (s .forced) ∷ []
 
-  abbrev Shape : Machine Value → State → Went → Type 0
+  abbrev pub Shape : Machine Value → State → Went → Type 0
   Shape m s (on m₂ s₂) = Either (Plain m s m₂ s₂) (Chosen m s m₂ s₂)
   Shape m s (ended e s₂) = Either (s₂ .chosen ≡ s .chosen) (Closed m s s₂)
 
@@ -187,7 +185,7 @@ module _ (solver : Solver) (job : Window) (c : Code) where
     shape-of s Doing.failed e = one refl
     shape-of s Doing.cut e = one refl
 
-    shape : (s : State) → Shape m s (turn solver job c m s .went)
+    pub shape : (s : State) → Shape m s (turn solver job c m s .went)
     unfolding turn
     shape s = shape-of s (advance known work c m) refl
 

@@ -12,7 +12,8 @@ use Rattle.simulation.specs.Machine.{Machine, start}
 use Rattle.simulation.specs.Path.{State, begins, outcome, later, End, ended, turn}
 use Rattle.simulation.specs.Lister.{next}
 use Rattle.simulation.specs.Back.{Passes, ChoiceAt, Searched, opens, follows, TakenBack}
-use Rattle.simulation.proofs.Back.{Newest, Flips, flips, Some, first, others, some-append, forcing, Trace, nothing, plain, chose, Traced, traced, trace-chosen, trace-none, replay, Found, came-to, same-choice}
+use Rattle.simulation.specs.Resume.{forcing}
+use Rattle.simulation.proofs.Back.{Newest, Flips, flips, Some, first, others, some-append, Trace, nothing, plain, chose, Traced, traced, trace-chosen, trace-none, replay, Found, came-to, same-choice}
 
 -- ---- lists of outcomes
 

@@ -9,6 +9,7 @@ pub mod Drive
 pub mod Spending
 pub mod Listing
 pub mod Back
+pub mod Resume
 pub mod First
 pub mod Nodes
 pub mod Odometer

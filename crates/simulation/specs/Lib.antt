@@ -6,6 +6,7 @@ pub mod Machine
 pub mod Path
 pub mod Lister
 pub mod Back
+pub mod Resume
 pub mod Nodes
 pub mod Odometer
 pub mod Words
