@@ -113,7 +113,6 @@ module _ (m m₂ : List ℕ) (r : Run) (ready : Ready m r) (deep : r .depth < 32
     frames = λ k g. o .outside k (λ x y. omega arith);
     saved = λ k g h. o .outside k (λ x y. omega arith);
     held = λ k j h g i. o .outside k (λ x y. omega arith);
-    kept = kept-low (r .nodes) o (omega arith);
   }
 
   ready-next : Ready m₂ r
@@ -276,15 +275,14 @@ module _ (ws : List ℕ) (size : ℕ) (m m₂ : List ℕ) (r : Run) (g n top : �
     frames = λ k l. unwritten k (omega arith) (omega arith);
     saved = λ k h l. unwritten k (omega arith) (omega arith);
     held = λ k j h a b. unwritten k (omega arith) (omega arith);
-    kept = record {
-      fixed = λ k a b. unwritten k (omega arith) (omega arith);
-      tables = λ k j a b. unwritten k (omega arith) (omega arith);
-      noded = λ k j h a b. unwritten k (omega arith) (omega arith);
-    };
   }
 
   kept₃ : Kept m m₃ (r .nodes)
-  kept₃ = kept-then (kept-low (r .nodes) (s .other) (omega arith)) (same₃ .kept)
+  kept₃ = kept-then (kept-low (r .nodes) (s .other) (omega arith)) (record {
+    fixed = λ k a b. unwritten k (omega arith) (omega arith);
+    tables = λ k j a b. unwritten k (omega arith) (omega arith);
+    noded = λ k j h a b. unwritten k (omega arith) (omega arith);
+  })
 
   -- the new frame, the caller's, and the callers'
   within₂ : (j : ℕ) → j < frameCells * (r .depth + 1) + frameCells → Within (r .nodes) (cellAt m₂ (cellPlace j))

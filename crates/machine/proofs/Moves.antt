@@ -52,11 +52,13 @@ module _ (ws : List ℕ) (size : ℕ) (m m₁ m₂ : List ℕ) (r : Run) (o : Op
     frames = λ k l. word k (λ a b. omega (arith, ready .deep)) (λ a b. omega (arith, ready .deep));
     saved = λ k g l. word k (λ a b. omega (arith, ready .deep)) (λ a b. omega (arith, ready .deep));
     held = λ k j h g l. word k (λ a b. omega arith) (λ a b. omega arith);
-    kept = kept-then (kept-node m m₁ (r .nodes) (w .other)) (kept-temp t (r .nodes) q);
   }
 
+  same-kept : Kept m m₂ (r .nodes)
+  same-kept = kept-then (kept-node m m₁ (r .nodes) (w .other)) (kept-temp t (r .nodes) q)
+
   agree : (u : Cell) → Within (r .nodes) u → f₂ u ≡ f₀ u
-  agree u h = meaning-kept (same .kept) n (w .more) u h
+  agree u h = meaning-kept same-kept n (w .more) u h
 
   nodes-are : nodesIn m₂ n ≡ working o (cellOf x) (cellOf y) (nodesIn m (r .nodes)) .nodes
   nodes-are = nodes-kept (kept-temp t n q) n (omega arith) ∙ w .nodes
@@ -105,7 +107,7 @@ module _ (ws : List ℕ) (size : ℕ) (m m₁ m₂ : List ℕ) (r : Run) (o : Op
       held = λ i l. ⊎-elim (λ e. subst (λ (i : ℕ). Within n (cellAt m₂ (tempPlace i))) (sym e) value-within) (λ g. held-stays m m₂ r (r .depth + 1) t n same ready (p .high) (w .more) i g)
           (eq-or-lt-of-le {n = i} {m = t} (omega arith));
     };
-    kept = same .kept;
+    kept = same-kept;
     more = w .more;
     grows = w .one;
     formed = operated-formed;
@@ -148,7 +150,6 @@ module _ (m m₁ m₂ : List ℕ) (r : Run) (t n a : ℕ) (v : Cell) (ready : Re
     frames = λ k g. word-same k (λ x y. omega (arith, ready .deep)) (λ x y. omega arith);
     saved = λ k g h. word-same k (λ x y. omega (arith, ready .deep)) (λ x y. omega (arith, ready .deep));
     held = λ k j h g i. word-same k (λ x y. omega arith) (λ x y. omega (arith, ready .deep));
-    kept = varied-kept;
   }
 
   varied-agree : (u : Cell) → Within (r .nodes) u → h₂ u ≡ h₀ u
@@ -273,11 +274,13 @@ module _ (ws : List ℕ) (size : ℕ) (m m₂ : List ℕ) (pc : ℕ) (flag : Boo
       frames = λ k l. p .other .outside k (λ x y. omega (arith, ready .deep));
       saved = λ k g l. p .other .outside k (λ x y. omega (arith, ready .deep));
       held = λ k j h g l. p .other .outside k (λ x y. omega arith);
-      kept = kept-temp base nds p;
     }
 
+    kept-left : Kept m m₂ nds
+    kept-left = kept-temp base nds p
+
     agree-left : (u : Cell) → Within nds u → g₂ u ≡ g₀ u
-    agree-left u h = meaning-kept (same-left .kept) nds (omega arith) u h
+    agree-left u h = meaning-kept kept-left nds (omega arith) u h
 
     held-left : (i : ℕ) → i < base → Within nds (cellAt m (tempPlace i))
     held-left i l = ready .held i (omega (arith, ready .low))
@@ -313,7 +316,7 @@ module _ (ws : List ℕ) (size : ℕ) (m m₂ : List ℕ) (pc : ℕ) (flag : Boo
             (λ l. subst (Within nds) (sym (temp-cell same-left i l)) (held-left i l))
             (eq-or-lt-of-le {n = i} {m = base} (omega arith));
       };
-      kept = same-left .kept;
+      kept = kept-left;
       more = omega arith;
       grows = omega arith;
       formed = λ j x y. absurd (omega arith);

@@ -55,7 +55,7 @@ room-same e r = record { words = omega (arith, r .words); small = r .small }
 pub room-less : {m : List ℕ} {n : ℕ} (k : ℕ) → k ≤ n → Room m n → Room m k
 room-less k l r = record { words = omega (arith, r .words); small = omega (arith, r .small) }
 
--- ---- d frames, c callers, t temporaries and n nodes are as they were
+-- ---- d frames, c callers and t temporaries, which n nodes are enough for, are as they were
 
 pub record Same (m m′ : List ℕ) (d c t n : ℕ) : Type 0 where
   pub d-fits : d ≤ 33
@@ -63,7 +63,6 @@ pub record Same (m m′ : List ℕ) (d c t n : ℕ) : Type 0 where
   pub frames : (k : ℕ) → k < framePlace d → getD m′ k 0 ≡ getD m k 0
   pub saved : (k : ℕ) → callersPlace ≤ k → k < callerPlace c → getD m′ k 0 ≡ getD m k 0
   pub held : (k j : ℕ) → j < t → tempPlace j ≤ k → k < tempEnd j → getD m′ k 0 ≡ getD m k 0
-  pub kept : Kept m m′ n
 
 module _ {m m′ : List ℕ} {d c t n : ℕ} (s : Same m m′ d c t n) where
   pub frame-cell : (i : ℕ) → i + 1 < framePlace d → cellAt m′ i ≡ cellAt m i

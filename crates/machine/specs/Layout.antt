@@ -6,14 +6,14 @@
 --   1120   1135   the eight windows, low and high
 --   1136   1143   the eight numbers of the present setting
 --   1144   1159   the eight pairs that the windows started as, low and high
---   1200   ..     tables that grow, twelve words for each index k, from 1200 + 12 * k on:
+--   1200   ..     tables that grow, fifteen words for each index k, from 1200 + 15 * k on:
 --
---                 0   1  | 2   3   4  | 5   6  | 7       | 8   9  10  | 11
---                 temp k | node k     | its    | its     | test k     | outcome k
---                        |            | range  | number  |            |
+--                 0   1  | 2   3   4  | 5   6  | 7       | 8   9  10  | 11        | 12   13   14
+--                 temp k | node k     | its    | its     | test k     | outcome k | marks 3 * k
+--                        |            | range  | number  |            |           | and on
 --
--- A node's number is the one under the present setting. No table has more entries than steps were made, so that a memory of 1200 + 12 * n words is enough for n steps.
-use Prim.Native.Nat.{ℕ, _+_, _*_}
+-- A node's number is the one under the present setting. Marks are the words of the checkpoints, one behind another. No table has more entries than steps were made, and checkpoints have at most three words for each step, so that a memory of 1200 + 15 * n words is enough for n steps.
+use Prim.Native.Nat.{ℕ, _+_, _*_, _/_, _%_}
 
 -- ---- frames
 
@@ -85,7 +85,7 @@ abbrev pub tablesPlace : ℕ
 tablesPlace = 1200
 
 abbrev pub stride : ℕ
-stride = 12
+stride = 15
 
 -- temporary k
 abbrev pub tempPlace : ℕ → ℕ
@@ -137,6 +137,16 @@ testEnd t = (tablesPlace + 11) + stride * t
 -- outcome i
 abbrev pub outcomePlace : ℕ → ℕ
 outcomePlace i = (tablesPlace + 11) + stride * i
+
+abbrev pub outcomeEnd : ℕ → ℕ
+outcomeEnd i = (tablesPlace + 12) + stride * i
+
+-- word w of the checkpoints: three for each index
+abbrev pub markWords : ℕ
+markWords = 3
+
+abbrev pub markPlace : ℕ → ℕ
+markPlace w = (tablesPlace + 12) + stride * (w / markWords) + w % markWords
 
 -- where index k ends
 abbrev pub indexEnd : ℕ → ℕ

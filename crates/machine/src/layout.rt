@@ -37,9 +37,9 @@ pub const STARTS: usize = SETTING + UNKNOWNS;
 // The tables that grow, so many words for each index.
 pub const TABLES: usize = 1200;
 
-pub const STRIDE: usize = 12;
+pub const STRIDE: usize = 15;
 
-// What stands at an index: a temporary; a node's kind and its two operands; its range; its number under the present setting; a test's kind and its two sides; an outcome.
+// What stands at an index: a temporary; a node's kind and its two operands; its range; its number under the present setting; a test's kind and its two sides; an outcome; three words of the checkpoints.
 pub const TEMPORARIES: usize = TABLES;
 
 pub const NODES: usize = TABLES + 2;
@@ -61,3 +61,7 @@ pub const TEST_LEFTS: usize = TABLES + 9;
 pub const TEST_RIGHTS: usize = TABLES + 10;
 
 pub const OUTCOMES: usize = TABLES + 11;
+
+pub const MARKS: usize = TABLES + 12;
+
+pub const MARK_WORDS: usize = 3;

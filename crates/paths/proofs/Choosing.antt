@@ -14,7 +14,7 @@ use Rattle.semantics.specs.Search.{Value, asTest, narrowed, decided}
 use Rattle.simulation.specs.Path.{state, later, holding}
 use Rattle.simulation.specs.Nodes.{Node, Noted, meaning, ranges, rangeIn, testOf}
 use Rattle.intervals.proofs.Undecided.{undecided-negated}
-use Rattle.machine.specs.Layout.{windowsPlace, windowsEnd, rangeLow, rangeHigh, rangeEnd, testPlace, testLeft, testRight, testEnd, outcomePlace, indexEnd}
+use Rattle.machine.specs.Layout.{windowsPlace, windowsEnd, rangeLow, rangeHigh, rangeEnd, testPlace, testLeft, testRight, testEnd, outcomePlace, outcomeEnd}
 use Rattle.machine.specs.Memory.{nodeAt, nodesIn, windowsIn, startsIn, rangesIn, testsIn, outcomeAs, outcomesIn, testAt}
 use Rattle.machine.specs.Contracts.{cellOf, meant, Other}
 use Rattle.machine.specs.declared.Value as code
@@ -44,7 +44,7 @@ outcomes-more m i (suc n) = ap (λ (l : List Bool). outcomeAs (getD m (outcomePl
 
 -- ---- the test and the outcome of choice t are written
 
-module _ {m m′ : List ℕ} (t : ℕ) (o : Other m m′ (testPlace t) (indexEnd t)) where
+module _ {m m′ : List ℕ} (t : ℕ) (o : Other m m′ (testPlace t) (outcomeEnd t)) where
   noted-windows : (k : ℕ) → windowsIn m′ k ≡ windowsIn m k
   noted-windows k = windows-same m m′ k (λ i a b. o .outside i (λ u v. omega arith))
 
@@ -79,7 +79,7 @@ module _ {m m′ : List ℕ} (t : ℕ) (o : Other m m′ (testPlace t) (indexEnd
       by true = h .is
       by false = undecided-negated c (rangeIn (rangesIn m n) (cellOf v)) (rangeIn (rangesIn m n) (cellOf w)) (h .is)
 
-pub other-both : {m m₁ m₂ : List ℕ} {t f : ℕ} {o : Bool} {x : Noted} → Taken m m₁ t f o → Noting m₁ m₂ t x → Other m m₂ (testPlace t) (indexEnd t)
+pub other-both : {m m₁ m₂ : List ℕ} {t f : ℕ} {o : Bool} {x : Noted} → Taken m m₁ t f o → Noting m₁ m₂ t x → Other m m₂ (testPlace t) (outcomeEnd t)
 other-both a b = record { outside = λ i h. b .other .outside i (λ u v. h u (omega arith)) ∙ a .other .outside i (λ u v. h (omega arith) v) }
 
 -- ---- the choice
@@ -93,10 +93,10 @@ module _ (m m₁ m₂ m₃ : List ℕ) (p : Point) (c d : Cmp) (v w : code.Value
   abbrev n : ℕ
   n = p .run .nodes
 
-  both : Other m m₂ (testPlace t) (indexEnd t)
+  both : Other m m₂ (testPlace t) (outcomeEnd t)
   both = other-both a b
 
-  away : (i : ℕ) → (testPlace t ≤ i → i < indexEnd t → ⊥) → (windowsPlace ≤ i → i < windowsEnd → ⊥) → ((j : ℕ) → j < n → rangeLow j ≤ i → i < rangeEnd j → ⊥) → getD m₃ i 0 ≡ getD m i 0
+  away : (i : ℕ) → (testPlace t ≤ i → i < outcomeEnd t → ⊥) → (windowsPlace ≤ i → i < windowsEnd → ⊥) → ((j : ℕ) → j < n → rangeLow j ≤ i → i < rangeEnd j → ⊥) → getD m₃ i 0 ≡ getD m i 0
   away i f g h = s .beside .other i g h ∙ both .outside i f
 
   nodes-are : nodesIn m₃ n ≡ nodesIn m n
@@ -135,6 +135,11 @@ module _ (m m₁ m₂ m₃ : List ℕ) (p : Point) (c d : Cmp) (v w : code.Value
     machinery = record {
       low = λ k l. away k (λ f g. omega arith) (λ f g. omega arith) (λ q h f g. omega arith);
       tables = λ k j x y. away k (λ f g. omega arith) (λ f g. omega arith) (λ q l f g. omega arith);
+    };
+    stays = record {
+      nodes = λ k j l x y. away k (λ f g. omega arith) (λ f g. omega arith) (λ q h f g. omega arith);
+      tests = λ k j l x y. away k (λ f g. omega arith) (λ f g. omega arith) (λ q h f g. omega arith);
+      marks = λ k j x y. away k (λ f g. omega arith) (λ f g. omega arith) (λ q h f g. omega arith);
     };
     next = a .next;
     is = λ i. state (p .steps) (8 - p .windows) (windows-are i) (starts-are i) ((ap₂ (λ (ns : List Node) (ts : List Noted). map (testOf ns) ts) nodes-are tests-are

@@ -24,6 +24,7 @@ use Rattle.paths.specs.Choice.{Undecided}
 use Rattle.paths.specs.Point.{stateAt, Standing, chosen, Chose, flagging, Usable, Compared}
 use Rattle.paths.proofs.Narrowing.{range-is}
 use Rattle.paths.proofs.Machinery.{machine-stays, ready-stays, ready-flagged}
+use Rattle.paths.proofs.Stays.{stays-none}
 
 -- what deciding by two ranges has said
 pub said : (c : Cmp) (d u : Decided) (a b : win.Window) (v w : Window) → d ≡ u → ofDecided d ≡ decided c (ofWindow a) (ofWindow b) → ofWindow a ≡ v → ofWindow b ≡ w → ofDecided u ≡ decided c v w
@@ -56,6 +57,8 @@ module _ (m : List ℕ) (p : Point) (c : Cmp) (v w : code.Value) (h : Standing m
     after = stateAt m p;
     is = λ job. compared-some job c (meant m n v) (meant m n w) (λ b. machineAt m (flagged (p .run) b)) (stateAt m p) o (by-ranges (some o) e);
     follows = record { run = refl; machine = refl; ready = ready-flagged o r; is = refl; standing = record { tables = h .tables; tested = h .tested }; steps = omega arith; fewer = omega arith };
+    older = omega arith;
+    stays = stays-none;
   })
 
   pub chosen-so : (m′ : List ℕ) (o : Bool) (q : Point) → length m′ ≡ length m → none ≡ decided c (rangeIn (rangesIn m n) (cellOf v)) (rangeIn (rangesIn m n) (cellOf w)) → Chose m m′ p c v w o → q
@@ -73,6 +76,8 @@ module _ (m : List ℕ) (p : Point) (c : Cmp) (v w : code.Value) (h : Standing m
       steps = omega arith;
       fewer = omega arith;
     };
+    older = omega arith;
+    stays = s .stays;
   })
 
   pub undecided-so : Usable n v → Usable n w → none ≡ decided c (rangeIn (rangesIn m n) (cellOf v)) (rangeIn (rangesIn m n) (cellOf w)) → Undecided m n c v w

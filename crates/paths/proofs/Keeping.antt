@@ -101,6 +101,9 @@ module _ (m : List ℕ) (p : Point) (job : Window) (c : Code) (h : Standing m p)
         standing = record { tables = subst (Tables m′ (p .windows)) n (k .tables); tested = λ j l. subst (λ (x : ℕ). point.Tested x (testAt m′ j)) n (k .tested j l) };
         lighter = omega arith;
         fewer = omega arith;
+        grows = g .more;
+        older = omega arith;
+        falls = omega arith;
       })
 
   pub returned-stops : (m′ : List ℕ) (v : code.Value) → Gave did m (p .run .nodes) m′ v → Gives here m′ p v

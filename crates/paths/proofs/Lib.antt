@@ -4,8 +4,8 @@ pub mod Choice
 pub mod Narrowing
 pub mod Choosing
 pub mod Machinery
+pub mod Stays
 pub mod Comparing
 pub mod Growing
 pub mod Turning
 pub mod Keeping
-pub mod Walking

@@ -151,6 +151,9 @@ module _ (m : List ℕ) (p : Point) where
     standing = record { tables = w .tables; tested = λ j i. subst (Tested (run .nodes)) (sym (range-test n (w .other) j)) (tested-more n (run .nodes) (g .more) (testAt m j) (h .tested j i)) };
     lighter = omega (arith, g .one);
     fewer = omega arith;
+    grows = g .more;
+    older = omega arith;
+    falls = omega arith;
   })
     where
       tests-are : map (testOf (nodesIn m′ (run .nodes))) (testsIn m′ t) ≡ tests
@@ -175,6 +178,9 @@ module _ (m : List ℕ) (p : Point) where
     };
     lighter = omega arith;
     fewer = omega arith;
+    grows = omega arith;
+    older = omega arith;
+    falls = omega arith;
   })
     where
       fewer-left : 8 - p .windows ≡ suc (8 - (p .windows + 1))
@@ -219,6 +225,9 @@ module _ (m : List ℕ) (p : Point) where
         standing = d .follows .standing;
         lighter = omega (arith, d .follows .steps, ap (λ (r : Run). r .nodes) (d .follows .run));
         fewer = omega (arith, d .follows .fewer);
+        grows = omega (arith, ap (λ (r : Run). r .nodes) (d .follows .run));
+        older = d .older;
+        falls = omega (arith, d .follows .steps);
       }
         where
           went : comparing inUse job c (meant m n v) (meant m n w) (λ b. machineAt m (flagged run b)) (state (p .steps - 1) (8 - p .windows) (windowsIn m (p .windows)) (startsIn m (p .windows)) tests left made)

@@ -12,7 +12,7 @@ use Rattle.simulation.specs.Path.{outcome, later}
 use Rattle.simulation.specs.Nodes.{Node, unknown, operation, Within, Noted, ranges, rangeIn}
 use Rattle.intervals.specs.Meaning.{ofPairs}
 use Rattle.window_memory.specs.Memory.{pairsAt}
-use Rattle.machine.specs.Layout.{windowsPlace, windowsEnd, startsPlace, startsEnd, rangeLow, rangeEnd, testPlace, testEnd, outcomePlace, indexEnd}
+use Rattle.machine.specs.Layout.{windowsPlace, windowsEnd, startsPlace, startsEnd, rangeLow, rangeEnd, testPlace, testEnd, outcomePlace, outcomeEnd}
 use Rattle.machine.specs.Memory.{nodeAt, nodesIn, windowsIn, startsIn, rangesIn, testAt, outcomeAs, outcomesIn}
 use Rattle.machine.specs.Contracts.{cellOf, Sized, meant, Room, Other}
 use Rattle.machine.specs.declared.Value as code
@@ -68,7 +68,7 @@ pub record Noting (m m′ : List ℕ) (t : ℕ) (x : Noted) : Type 0 where
 
 -- choice t took the next of f forced outcomes, or true where none was left, and no word but its outcome's changed
 pub record Taken (m m′ : List ℕ) (t f : ℕ) (o : Bool) : Type 0 where
-  pub other : Other m m′ (outcomePlace t) (indexEnd t)
+  pub other : Other m m′ (outcomePlace t) (outcomeEnd t)
   pub is : outcomeAs (getD m′ (outcomePlace t) 0) ≡ o
   pub next : o ≡ outcome (outcomesIn m t f)
   pub rest : outcomesIn m′ (t + 1) (f - 1) ≡ later (outcomesIn m t f)

@@ -9,7 +9,7 @@ use Rattle.semantics.specs.Program.{Window}
 use Rattle.semantics.specs.Search.{narrowed, inUse}
 use Rattle.simulation.specs.Path.{State, state, outcome, holding, chose, on, comparing}
 use Rattle.simulation.specs.Nodes.{Within, Noted, testOf}
-use Rattle.machine.specs.Layout.{windowsPlace, tempPlace, nodeEnd}
+use Rattle.machine.specs.Layout.{windowsPlace, tempPlace, nodePlace, nodeEnd, testPlace, outcomeEnd, indexEnd}
 use Rattle.machine.specs.Memory.{nodesIn, machineAt, windowsIn, startsIn, testsIn, outcomesIn, testAt}
 use Rattle.machine.specs.Contracts.{cellOf, Sized, meant, Room, Ready, flagged}
 use Rattle.machine.specs.declared.Value as code
@@ -45,6 +45,12 @@ pub record Machinery (m m′ : List ℕ) : Type 0 where
   pub low : (k : ℕ) → k < windowsPlace → getD m′ k 0 ≡ getD m k 0
   pub tables : (k j : ℕ) → tempPlace j ≤ k → k < nodeEnd j → getD m′ k 0 ≡ getD m k 0
 
+-- the first n nodes, the first t tests and outcomes, and the words of the checkpoints are as they were
+pub record Stays (m m′ : List ℕ) (n t : ℕ) : Type 0 where
+  pub nodes : (k j : ℕ) → j < n → nodePlace j ≤ k → k < nodeEnd j → getD m′ k 0 ≡ getD m k 0
+  pub tests : (k j : ℕ) → j < t → testPlace j ≤ k → k < outcomeEnd j → getD m′ k 0 ≡ getD m k 0
+  pub marks : (k j : ℕ) → outcomeEnd j ≤ k → k < indexEnd j → getD m′ k 0 ≡ getD m k 0
+
 -- a value on the first n nodes
 pub record Usable (n : ℕ) (v : code.Value) : Type 0 where
   pub sized : Sized v
@@ -59,6 +65,7 @@ chosen p = record { run = p .run; steps = p .steps; windows = p .windows; choice
 -- a choice was made with the outcome o
 pub record Chose (m m′ : List ℕ) (p : Point) (c : Cmp) (v w : code.Value) (o : Bool) : Type 0 where
   pub machinery : Machinery m m′
+  pub stays : Stays m m′ (p .run .nodes) (p .choices)
   pub next : o ≡ outcome (outcomesIn m (p .choices) (p .forced))
   pub is : stateAt m′ (chosen p)
       ≡ chose c (meant m (p .run .nodes) v) (meant m (p .run .nodes) w) o (narrowed (holding o c) (meant m (p .run .nodes) v) (meant m (p .run .nodes) w) (windowsIn m (p .windows))) (stateAt m p)
@@ -90,3 +97,5 @@ pub record Compared (m m′ : List ℕ) (p : Point) (c : Cmp) (v w : code.Value)
   pub is : (job : Window) → comparing inUse job c (meant m (p .run .nodes) v) (meant m (p .run .nodes) w) (λ b. machineAt m (flagged (p .run) b)) (stateAt m p)
       ≡ on (machineAt m (flagged (p .run) outcome)) after
   pub follows : Follows m m′ (chosen p) (flagged (p .run) outcome) after q
+  pub older : p .choices ≤ q .choices
+  pub stays : Stays m m′ (p .run .nodes) (p .choices)

@@ -47,13 +47,16 @@ declaring p r = record { run = r; steps = p .steps - 1; windows = p .windows + 1
 
 -- ---- a turn
 
--- the turn t goes on to the point q, which has room where p had; o says whether it is a move
+-- the turn t goes on to the point q, which has room where p had, and all of p's nodes and choices; o says whether it is a move
 pub record Onward (t : Turn) (m′ : List ℕ) (p : Point) (o : Bool) (q : Point) : Type 0 where
   pub is : t ≡ record { move = o; went = on (machineAt m′ (q .run)) (stateAt m′ q) }
   pub ready : Ready m′ (q .run)
   pub standing : Standing m′ q
   pub lighter : q .run .nodes + q .steps ≤ p .run .nodes + p .steps
   pub fewer : q .choices + q .steps ≤ p .choices + p .steps
+  pub grows : p .run .nodes ≤ q .run .nodes
+  pub older : p .choices ≤ q .choices
+  pub falls : q .steps ≤ p .steps
 
 -- the path ends at the point p
 pub record Stops (t : Turn) (m′ : List ℕ) (p : Point) (e : End) : Type 0 where

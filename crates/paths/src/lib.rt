@@ -1,4 +1,4 @@
-// One path of the search, over lent memory: from the start of main up to its end.
+// A path of the search, over lent memory, turn by turn.
 ghost use mathlib.Core.Path.{_≡_};
 ghost use mathlib.Core.Bool.{true};
 ghost use mathlib.Core.List.{List};
@@ -15,13 +15,12 @@ ghost use Rattle.ints.specs.Numbers.{comparison};
 ghost use Rattle.intervals.specs.Meaning.{Filled, ofWindow};
 ghost use Rattle.narrowing.specs.Meaning.{variableOf, Stands};
 ghost use Rattle.machine.specs.Layout.{tablesPlace};
-ghost use Rattle.machine.specs.Memory.{cellAs, nodeAt, windowsIn, rangesIn, outcomesIn};
+ghost use Rattle.machine.specs.Memory.{cellAs, nodeAt, windowsIn, rangesIn};
 ghost use Rattle.machine.specs.Contracts.{cellOf, Sized, meant, Room, Ready};
 ghost use Rattle.paths.specs.Table.{rangeAt, Ranging, Ranged, Windows, Anew};
 ghost use Rattle.paths.specs.Choice.{Tables, PairSet, Reached, bit, testBy, Noting, Taken, Undecided, Narrowed};
-ghost use Rattle.paths.specs.Point.{Standing, Chose, chosen, running, flagging, Usable, Compared, Going};
+ghost use Rattle.paths.specs.Point.{Standing, Stays, Chose, chosen, running, flagging, Usable, Compared, Going};
 ghost use Rattle.paths.specs.Turn.{Growing, Grown, spending, declaring, AfterStep, AfterTest, AfterFree, OneTurn};
-ghost use Rattle.paths.specs.Walk.{Walking};
 use intervals::Window;
 use machine::Did;
 use machine::Run;
@@ -46,14 +45,6 @@ pub enum Turned {
     Returned(Value),
     Failed,
     Cut,
-}
-
-// How a path went: the budget was spent on the way, or the path has ended at a point, with so much of the budget left.
-pub enum Walked {
-    Spent,
-    Returned(Value, Point, u32),
-    Failed(Point, u32),
-    Cut(Point, u32),
 }
 
 // The window of free variable i, of k; all of 32 bits, where there is none.
@@ -138,7 +129,7 @@ fn write_range(mem: &mut [u32], k: usize, j: usize)
 }
 
 // All n nodes get their ranges, in their order, as after a window narrowed.
-fn all_ranges(mem: &mut [u32], k: usize, n: usize)
+pub fn all_ranges(mem: &mut [u32], k: usize, n: usize)
     requires { ⌜ (k ≤ 8) × Room (now mem) n × Windows (windowsIn (now mem) k) ⌝ }
     ensures { λ _. ⌜ Anew (now (mem .entry)) (now (mem .exit)) k n ⌝ }
 {
@@ -370,7 +361,7 @@ fn declare(p: Point, run: Run) -> Point
 // A step.
 fn after_step(mem: &mut [u32], p: Point, run: Run) -> Turned
     requires { ⌜ Standing (now mem) p × Ready (now mem) run × Growing (now mem) (p .run .nodes) (run .nodes) ⌝ }
-    ensures { λ r. ⌜ AfterStep (now (mem .entry)) (now (mem .exit)) p run r ⌝ }
+    ensures { λ r. ⌜ AfterStep (now (mem .entry)) (now (mem .exit)) p run r × Stays (now (mem .entry)) (now (mem .exit)) (p .run .nodes) (p .choices) ⌝ }
 {
     if p.steps == 0 {
         return Turned::Cut;
@@ -383,7 +374,7 @@ fn after_step(mem: &mut [u32], p: Point, run: Run) -> Turned
 // A comparison, by its number.
 fn after_test(mem: &mut [u32], p: Point, run: Run, c: u32, v: Value, w: Value) -> Turned
     requires { ⌜ Standing (now mem) p × Ready (now mem) run × (run .nodes ≡ p .run .nodes) × Room (now mem) (p .choices + p .steps + 1) × (c < 6) × Usable (p .run .nodes) v × Usable (p .run .nodes) w ⌝ }
-    ensures { λ r. ⌜ AfterTest (now (mem .entry)) (now (mem .exit)) p run (comparison c) v w r ⌝ }
+    ensures { λ r. ⌜ AfterTest (now (mem .entry)) (now (mem .exit)) p run (comparison c) v w r × Stays (now (mem .entry)) (now (mem .exit)) (p .run .nodes) (p .choices) ⌝ }
 {
     if p.steps == 0 {
         return Turned::Cut;
@@ -394,7 +385,7 @@ fn after_test(mem: &mut [u32], p: Point, run: Run, c: u32, v: Value, w: Value) -
 // A free declaration, with its pair.
 fn after_free(mem: &mut [u32], p: Point, run: Run, w: Window) -> Turned
     requires { ⌜ Standing (now mem) p × Ready (now mem) run × (run .nodes ≡ p .run .nodes + 1) × (nodeAt (now mem) (p .run .nodes) ≡ nodes.unknown (p .windows)) × Filled (ofWindow w) ⌝ }
-    ensures { λ r. ⌜ AfterFree (now (mem .entry)) (now (mem .exit)) p run (ofWindow w) r ⌝ }
+    ensures { λ r. ⌜ AfterFree (now (mem .entry)) (now (mem .exit)) p run (ofWindow w) r × Stays (now (mem .entry)) (now (mem .exit)) (p .run .nodes) (p .choices) ⌝ }
 {
     if p.steps == 0 {
         return Turned::Cut;
@@ -422,9 +413,9 @@ fn proceed(p: Point, run: Run) -> Point
 }
 
 // One turn of the path: one entry of the code is worked, within the limits.
-fn turn(code: &[u32], size: usize, mem: &mut [u32], job: Window, p: Point) -> Turned
+pub fn turn(code: &[u32], size: usize, mem: &mut [u32], job: Window, p: Point) -> Turned
     requires { ⌜ (2 * size + 16 ≤ length (now code)) × (size < 65536) × Going (now mem) p × Filled (ofWindow job) ⌝ }
-    ensures { λ r. ⌜ OneTurn (codeIn (now (code .entry)) size) (ofWindow job) (now (mem .entry)) (now (mem .exit)) p r ⌝ }
+    ensures { λ r. ⌜ OneTurn (codeIn (now (code .entry)) size) (ofWindow job) (now (mem .entry)) (now (mem .exit)) p r × Stays (now (mem .entry)) (now (mem .exit)) (p .run .nodes) (p .choices) ⌝ }
 {
     let run = p.run;
     match machine::advance(code, size, mem, job, run, p.windows as u32) {
@@ -435,45 +426,5 @@ fn turn(code: &[u32], size: usize, mem: &mut [u32], job: Window, p: Point) -> Tu
         Did::Returned(v) => Turned::Returned(v),
         Did::Failed => Turned::Failed,
         Did::Cut => Turned::Cut,
-    }
-}
-
-// One path, from the start of main up to its end, with the forced outcomes that stand in the memory. Each move costs one of the budget.
-pub fn run_path(
-    code: &[u32],
-    size: usize,
-    mem: &mut [u32],
-    job: Window,
-    limit: usize,
-    forced: usize,
-    budget: u32,
-) -> Walked
-    requires { ⌜ (2 * size + 16 ≤ length (now code)) × (size < 65536) × Room (now mem) (limit + 1) × Filled (ofWindow job) ⌝ }
-    ensures { λ r. ⌜ Walking (codeIn (now (code .entry)) size) (ofWindow job) limit budget (outcomesIn (now (mem .entry)) 0 forced) (now (mem .exit)) r ⌝ }
-{
-    let run = machine::start(mem);
-    let mut p = Point {
-        run: run,
-        steps: limit,
-        windows: 0,
-        choices: 0,
-        forced: forced,
-    };
-    let mut left = budget;
-    loop {
-        match turn(code, size, mem, job, p) {
-            Turned::On(o, q) => {
-                if o {
-                    if left == 0 {
-                        return Walked::Spent;
-                    }
-                    left -= 1;
-                }
-                p = q;
-            }
-            Turned::Returned(v) => return Walked::Returned(v, p, left),
-            Turned::Failed => return Walked::Failed(p, left),
-            Turned::Cut => return Walked::Cut(p, left),
-        }
     }
 }

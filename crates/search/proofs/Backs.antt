@@ -21,7 +21,7 @@ use Rattle.settings.specs.Tries.{tallyOf, tallyIn, nextOf, tests, Counts, Count
 use Rattle.settings.proofs.Counting.{rowed-none}
 use Rattle.settings.proofs.Going.{counts-more}
 use Rattle.paths.specs.declared.Point.{Point}
-use Rattle.search.specs.Loop.{NewestBack, forcedIn, closeOf, closes, thenOf, writtenIn, Adds, Onward, Backed, Finished}
+use Rattle.search.specs.Loop.{NewestBack, Flips, FlipsBy, forcedIn, closeOf, closes, thenOf, writtenIn, Adds, Onward, Leaves, Backed, TurnsBy, Finished}
 use Rattle.search.specs.declared.Next.{Next}
 use Rattle.search.specs.declared.Next.the-variants.{Ended, Forced}
 use Rattle.search.specs.declared.Ending.{Ending}
@@ -58,6 +58,7 @@ ended-backed m m′ n t x b q e c a d = subst (λ (a : Answered). Backed m m′ 
   is = λ rows. ap (λ k. over (closed k (tallyOf rows t))) c ∙ back-none (outcomesIn m 0 n) (tallyOf rows t) (sym (ap (forcedIn m′) q) ∙ b .is);
   onward = adds-none t;
   same = refl;
+  leaves = tt;
 })
 
 -- a move is made for it, or the budget is spent
@@ -81,6 +82,11 @@ moved-same k (tried.Go u) = refl
 moved-same k (tried.Full u) = refl
 moved-same k (tried.Spent u) = refl
 
+moved-leaves : (m m′ : List ℕ) (n k : ℕ) (z : Tried) → Flips m m′ n k → Leaves m m′ n (movedOn k z)
+moved-leaves m m′ n k (tried.Go u) f = f
+moved-leaves m m′ n k (tried.Full u) f = tt
+moved-leaves m m′ n k (tried.Spent u) f = tt
+
 pub forced-backed : (m m′ : List ℕ) (n : ℕ) (t : Tally) (x : Next) → NewestBack m m′ n x → (k : ℕ) → x ≡ Forced k → (y : Tried) → Charged t (λ rows. charge (tallyOf rows t)) y → (z : Tried) → y ≡ z
     → (r : Then) → r ≡ movedOn k z
     → Backed m m′ n (tried.Go t) r
@@ -92,17 +98,18 @@ forced-backed m m′ n t x b k q y h z e r d = subst (λ (r : Then). Backed m m�
           ∙ back-some (outcomesIn m 0 n) (outcomesIn m′ 0 k) (tallyOf rows t) (sym (ap (forcedIn m′) q) ∙ b .is);
       onward = moved-onward t k z (h .counted .counts);
       same = moved-same k z ∙ h .counted .same;
+      leaves = moved-leaves m m′ n k z (subst (FlipsBy m m′ n) q (b .flips));
     }
 
 -- ---- the search is over
 
 pub over-full : (m : List ℕ) (n : ℕ) (x : Tried) (t : Tally) → x ≡ tried.Full t → (a : Answered) → a ≡ closes t ending.Full → Backed m m n x (Over a)
 over-full m n x t e a d = subst (λ (x : Tried). Backed m m n x (Over a)) (sym e)
-    (subst (λ (a : Answered). Backed m m n (tried.Full t) (Over a)) (sym d) (record { is = λ rows. refl; onward = adds-none t; same = refl }))
+    (subst (λ (a : Answered). Backed m m n (tried.Full t) (Over a)) (sym d) (record { is = λ rows. refl; onward = adds-none t; same = refl; leaves = tt }))
 
 pub over-spent : (m : List ℕ) (n : ℕ) (x : Tried) (t : Tally) → x ≡ tried.Spent t → (a : Answered) → a ≡ closes t ending.Spent → Backed m m n x (Over a)
 over-spent m n x t e a d = subst (λ (x : Tried). Backed m m n x (Over a)) (sym e)
-    (subst (λ (a : Answered). Backed m m n (tried.Spent t) (Over a)) (sym d) (record { is = λ rows. refl; onward = adds-none t; same = refl }))
+    (subst (λ (a : Answered). Backed m m n (tried.Spent t) (Over a)) (sym d) (record { is = λ rows. refl; onward = adds-none t; same = refl; leaves = tt }))
 
 -- ---- a path's end
 
@@ -112,6 +119,13 @@ onward-more t u (Over a) c o = record { more = omega (arith, c .more, o .more); 
 
 outcomes-steady : (m m′ : List ℕ) → Steady m m′ → (n : ℕ) → outcomesIn m′ 0 n ≡ outcomesIn m 0 n
 outcomes-steady m m′ s n = kept m m′ 0 n (λ j l u. s .other (at j) (λ a b. omega arith) (λ q e. omega arith))
+
+steady-none : (m : List ℕ) → Steady m m
+steady-none m = record { other = λ i a b. refl }
+
+turns-so : (m m₁ m₂ : List ℕ) (n : ℕ) (r : Then) → Steady m m₁ → Leaves m₁ m₂ n r → TurnsBy m m₂ n r
+turns-so m m₁ m₂ n (On k t) s f = record { some = f .some; most = f .most; other = λ i a b c. f .other i c ∙ s .other i a b }
+turns-so m m₁ m₂ n (Over a) s f = tt
 
 module _ (m m₁ m₂ : List ℕ) (p : Point) (t : Tally) (x : Tried) (r : Then) (s : Steady m m₁) (b : Backed m₁ m₂ (p .choices) x r) where
   after-end : (rows : List ℤ) (y : lister.Next lister.Tally) → nextOf rows x ≡ y → thenOf m₂ rows r ≡ then y (back (outcomesIn m 0 (p .choices)))
@@ -125,6 +139,7 @@ module _ (m m₁ m₂ : List ℕ) (p : Point) (t : Tally) (x : Tried) (r : Then)
     is = after-end rows′ _ (h .is);
     onward = onward-more t (tallyIn x) r (h .counts) (b .onward);
     rowed = subst (λ (n : ℕ). Rowed rows rows′ (t .written) n) (sym (b .same)) (h .rowed);
+    turns = turns-so m m₁ m₂ (p .choices) r s (b .leaves);
   }
 
   pub finished-cut : Counted t (λ rows. probes (tests m (p .run .nodes) (p .choices)) (settings (windowsIn m (p .windows))) (tallyOf rows t)) x → (rows : List ℤ) → Finished m m₂ rows rows cut p t r
@@ -133,6 +148,7 @@ module _ (m m₁ m₂ : List ℕ) (p : Point) (t : Tally) (x : Tried) (r : Then)
     is = after-end rows _ (h .is rows);
     onward = onward-more t (tallyIn x) r (h .counts) (b .onward);
     rowed = subst (λ (n : ℕ). Rowed rows rows (t .written) n) (sym (b .same ∙ h .same)) (rowed-none rows (t .written));
+    turns = turns-so m m₁ m₂ (p .choices) r s (b .leaves);
   }
 
 pub finished-fail : (m m₂ : List ℕ) (p : Point) (t : Tally) (r : Then) → Backed m m₂ (p .choices) (tried.Go t) r → (rows : List ℤ) → Finished m m₂ rows rows failed p t r
@@ -141,4 +157,5 @@ finished-fail m m₂ p t r b rows = record {
   is = b .is rows;
   onward = b .onward;
   rowed = subst (λ (n : ℕ). Rowed rows rows (t .written) n) (sym (b .same)) (rowed-none rows (t .written));
+  turns = turns-so m m m₂ (p .choices) r (steady-none m) (b .leaves);
 }

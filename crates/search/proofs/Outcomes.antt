@@ -66,7 +66,7 @@ kept m m′ i (suc k) f = ap₂ (λ (x : ℕ) (l : List Bool). outcomeAs x ∷ l
 -- ---- what taking back does
 
 pub none-left : (m : List ℕ) (n : ℕ) → FalseFrom m 0 n → NewestBack m m n Ended
-none-left m n f = record { is = sym (next-none (outcomesIn m 0 n) (all-false m 0 n (λ j l u. f j l (omega arith)))); other = λ i h. refl }
+none-left m n f = record { is = sym (next-none (outcomesIn m 0 n) (all-false m 0 n (λ j l u. f j l (omega arith)))); flips = refl }
 
 module _ (m : List ℕ) (n k : ℕ) (inside : k < n) (room : wordsFor n ≤ length m) (was : getD m (at k) 0 ≡ 0 → ⊥) (after : FalseFrom m (suc k) n) where
   abbrev back : List ℕ
@@ -89,5 +89,5 @@ module _ (m : List ℕ) (n k : ℕ) (inside : k < n) (room : wordsFor n ≤ leng
   pub newest : NewestBack m back n (Forced (k + 1))
   newest = record {
     is = ap some now ∙ sym (ap next before ∙ next-newest (outcomesIn m 0 k) (outcomesIn m (suc k) (n - suc k)) (all-false m (suc k) (n - suc k) (λ j l u. after j l (omega arith))));
-    other = λ i h. getD-set-other m (at k) i 0 0 (λ e. h k inside e);
+    flips = record { some = omega arith; most = omega arith; other = λ i h. getD-set-other m (at k) i 0 0 (λ e. h (e ∙ ap at {x = k} {y = k + 1 - 1} (omega arith))) };
   }

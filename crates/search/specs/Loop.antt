@@ -16,7 +16,7 @@ use Rattle.simulation.specs.Path.{begins, End}
 use Rattle.simulation.specs.Lister as lister
 use Rattle.simulation.specs.Lister.{go, over, then, next, Start, finish, back, path}
 use Rattle.simulation.specs.Placed.{Placed}
-use Rattle.machine.specs.Layout.{outcomePlace}
+use Rattle.machine.specs.Layout.{settingPlace, settingEnd, numberPlace, outcomePlace}
 use Rattle.machine.specs.Memory.{outcomesIn}
 use Rattle.settings.specs.declared.Tally.{Tally}
 use Rattle.settings.specs.declared.Tried.{Tried}
@@ -24,7 +24,8 @@ use Rattle.settings.specs.Rows.{rowsAt, sheet}
 use Rattle.settings.specs.Tries.{tallyOf, tallyIn, nextOf, Counts, Rowed}
 use Rattle.paths.specs.declared.Point.{Point}
 use Rattle.paths.specs.Point.{stateAt}
-use Rattle.paths.specs.Walk.{turnsOf}
+use Rattle.walks.specs.declared.Stack.{Stack}
+use Rattle.walks.specs.Walk.{turnsOf, Begins}
 use Rattle.search.specs.declared.Next.{Next}
 use Rattle.search.specs.declared.Next.the-variants.{Ended, Forced}
 use Rattle.search.specs.declared.Ending.{Ending}
@@ -40,10 +41,20 @@ abbrev pub forcedIn : List ℕ → Next → Option (List Bool)
 forcedIn m Ended = none
 forcedIn m (Forced k) = some (outcomesIn m 0 k)
 
--- of n choices the newest true one was taken back, if there is one; no word but an outcome's changed
+-- of n choices the last of the first k was taken back: no word but its outcome's changed
+pub record Flips (m m′ : List ℕ) (n k : ℕ) : Type 0 where
+  pub some : 1 ≤ k
+  pub most : k ≤ n
+  pub other : (i : ℕ) → (i ≡ outcomePlace (k - 1) → ⊥) → getD m′ i 0 ≡ getD m i 0
+
+abbrev pub FlipsBy : List ℕ → List ℕ → ℕ → Next → Type 0
+FlipsBy m m′ n Ended = m′ ≡ m
+FlipsBy m m′ n (Forced k) = Flips m m′ n k
+
+-- of n choices the newest true one was taken back, if there is one
 pub record NewestBack (m m′ : List ℕ) (n : ℕ) (r : Next) : Type 0 where
   pub is : forcedIn m′ r ≡ next (outcomesIn m 0 n)
-  pub other : (i : ℕ) → ((j : ℕ) → j < n → i ≡ outcomePlace j → ⊥) → getD m′ i 0 ≡ getD m i 0
+  pub flips : FlipsBy m m′ n r
 
 -- ---- the answer
 
@@ -89,23 +100,45 @@ Onward t (Over a) = Adds t (a .written)
 abbrev pub paying : Tally → ℕ → Tally
 paying t left = record { budget = left; skip = t .skip; room = t .room; written = t .written; moves = t .moves + (t .budget - left); cut = t .cut }
 
+-- where another path follows, a choice was taken back
+abbrev pub Leaves : List ℕ → List ℕ → ℕ → Then → Type 0
+Leaves m m′ n (On k t) = Flips m m′ n k
+Leaves m m′ n (Over a) = Unit {0}
+
 -- after x the newest of n choices was taken back, which is a move, or the search is over
 pub record Backed (m m′ : List ℕ) (n : ℕ) (x : Tried) (r : Then) : Type 0 where
   pub is : (rows : List ℤ) → thenOf m′ rows r ≡ then (nextOf rows x) (back (outcomesIn m 0 n))
   pub onward : Onward (tallyIn x) r
   pub same : writtenIn r ≡ tallyIn x .written
+  pub leaves : Leaves m m′ n r
+
+-- at a path's end settings were tried and the last of the first k choices, of n, was taken back: no word but the setting's, the nodes' numbers and that outcome changed
+pub record Turns (m m′ : List ℕ) (n k : ℕ) : Type 0 where
+  pub some : 1 ≤ k
+  pub most : k ≤ n
+  pub other : (i : ℕ) → (settingPlace ≤ i → i < settingEnd → ⊥) → ((j : ℕ) → i ≡ numberPlace j → ⊥) → (i ≡ outcomePlace (k - 1) → ⊥) → getD m′ i 0 ≡ getD m i 0
+
+abbrev pub TurnsBy : List ℕ → List ℕ → ℕ → Then → Type 0
+TurnsBy m m′ n (On k t) = Turns m m′ n k
+TurnsBy m m′ n (Over a) = Unit {0}
 
 -- what is done at a path's end e, at the point p
 pub record Finished (m m′ : List ℕ) (rows rows′ : List ℤ) (e : End) (p : Point) (t : Tally) (r : Then) : Type 0 where
   pub is : thenOf m′ rows′ r ≡ then (finish e (stateAt m p) (tallyOf rows t)) (back (outcomesIn m 0 (p .choices)))
   pub onward : Onward t r
   pub rowed : Rowed rows rows′ (t .written) (writtenIn r)
+  pub turns : TurnsBy m m′ (p .choices) r
 
 -- one path, and what is done at its end
 pub record Round (c : Code) (job : program.Window) (limit : ℕ) (m m′ : List ℕ) (rows rows′ : List ℤ) (forced : ℕ) (t : Tally) (r : Then) : Type 0 where
   pub is : thenOf m′ rows′ r ≡ path inUse job c limit (turnsOf c limit) (start known work c) (begins limit (outcomesIn m 0 forced)) (tallyOf rows t)
   pub onward : Onward t r
   pub rowed : Rowed rows rows′ (t .written) (writtenIn r)
+
+-- and where another path follows, the checkpoints before it: what stood where its last choice was made still stands there, or is kept
+abbrev pub Resumes : Code → program.Window → List ℕ → ℕ → Then → Stack → Type 0
+Resumes c job m′ limit (On k t) s = Begins c job m′ k s × (s .limit ≡ limit)
+Resumes c job m′ limit (Over a) s = Unit {0}
 
 -- ---- the search
 

@@ -11,14 +11,16 @@ ghost use Rattle.machine.specs.Contracts.{Room, meant};
 ghost use Rattle.settings.specs.Tries.{tallyIn, Fair};
 ghost use Rattle.settings.specs.declared.Tried.the-variants as tried;
 ghost use Rattle.paths.specs.Point.{Standing};
-ghost use Rattle.search.specs.Loop.{NewestBack, closes, paying, Backed, Finished, Round, Lists};
+ghost use Rattle.walks.specs.Walk.{Begins};
+ghost use Rattle.search.specs.Loop.{NewestBack, closes, paying, Backed, Finished, Round, Resumes, Lists};
 use intervals::Window;
 use machine::Value;
 use machine::layout;
 use paths::Point;
-use paths::Walked;
 use settings::Tally;
 use settings::Tried;
+use walks::Stack;
+use walks::Walked;
 
 // The outcomes that are forced on the next path, by their count; or there is no next path.
 pub enum Next {
@@ -45,6 +47,12 @@ pub struct Answered {
 pub enum Then {
     On(usize, Tally),
     Over(Answered),
+}
+
+// What follows a path, and the checkpoints that there are.
+pub struct Rounded {
+    pub then: Then,
+    pub marks: Stack,
 }
 
 // Takes back the newest choice that went true, of n: it goes false, and those after it are dropped.
@@ -155,19 +163,34 @@ fn round(
     size: usize,
     mem: &mut [u32],
     job: Window,
-    limit: usize,
+    marks: Stack,
     forced: usize,
     t: Tally,
     rows: &mut [i32],
-) -> Then
-    requires { ⌜ (2 * size + 16 ≤ length (now code)) × (size < 65536) × Room (now mem) (limit + 1) × Filled (ofWindow job) × Fair (length (now rows)) t ⌝ }
-    ensures { λ r. ⌜ Round (codeIn (now (code .entry)) size) (ofWindow job) limit (now (mem .entry)) (now (mem .exit)) (now (rows .entry)) (now (rows .exit)) forced t r ⌝ }
+) -> Rounded
+    requires { ⌜ (2 * size + 16 ≤ length (now code)) × (size < 65536) × Begins (codeIn (now code) size) (ofWindow job) (now mem) forced marks × Filled (ofWindow job) × Fair (length (now rows)) t ⌝ }
+    ensures { λ r. ⌜ Round (codeIn (now (code .entry)) size) (ofWindow job) (marks .limit) (now (mem .entry)) (now (mem .exit)) (now (rows .entry)) (now (rows .exit)) forced t (r .then) × Resumes (codeIn (now (code .entry)) size) (ofWindow job) (now (mem .exit)) (marks .limit) (r .then) (r .marks) ⌝ }
 {
-    match paths::run_path(code, size, mem, job, limit, forced, t.budget) {
-        Walked::Spent => Then::Over(close(pay(t, 0), Ending::Spent)),
-        Walked::Returned(v, p, left) => at_return(mem, p, v, pay(t, left), rows),
-        Walked::Failed(p, left) => at_fail(mem, p, pay(t, left)),
-        Walked::Cut(p, left) => at_cut(mem, p, pay(t, left)),
+    match walks::run_path(code, size, mem, job, marks, forced, t.budget) {
+        Walked::Spent => {
+            let a = close(pay(t, 0), Ending::Spent);
+            Rounded {
+                then: Then::Over(a),
+                marks: marks,
+            }
+        }
+        Walked::Returned(v, p, s, left) => {
+            let x = at_return(mem, p, v, pay(t, left), rows);
+            Rounded { then: x, marks: s }
+        }
+        Walked::Failed(p, s, left) => {
+            let x = at_fail(mem, p, pay(t, left));
+            Rounded { then: x, marks: s }
+        }
+        Walked::Cut(p, s, left) => {
+            let x = at_cut(mem, p, pay(t, left));
+            Rounded { then: x, marks: s }
+        }
     }
 }
 
@@ -186,6 +209,10 @@ pub fn run(
     ensures { λ r. ⌜ Lists (codeIn (now (code .entry)) size) (ofWindow job) limit skip (length (now (rows .entry)) / 10) budget (now (rows .entry)) (now (rows .exit)) r ⌝ }
 {
     let mut forced: usize = 0;
+    let mut marks = Stack {
+        words: 0,
+        limit: limit,
+    };
     let mut t = Tally {
         budget: budget,
         skip: skip,
@@ -195,9 +222,13 @@ pub fn run(
         cut: false,
     };
     loop {
-        match round(code, size, mem, job, limit, forced, t, rows) {
+        let r = round(code, size, mem, job, marks, forced, t, rows);
+        let x = r.then;
+        let s = r.marks;
+        match x {
             Then::On(k, u) => {
                 forced = k;
+                marks = s;
                 t = u;
             }
             Then::Over(a) => return a,

@@ -5,6 +5,7 @@ use Rattle.machine.specs.Contracts.{Room}
 use Rattle.machine.proofs.Tables.{room-same}
 use Rattle.paths.proofs.Growing.{reached-ranging}
 use Rattle.paths.proofs.Turning.{free-cut, ninth-cut, free-on}
+use Rattle.paths.proofs.Stays.{stays-none, stays-then, stays-pairs, stays-range}
 use borrow.Author.Needs.{needs}
 use Rattle.paths.proofs.after_free.Statement.{statement}
 use Rattle.paths.proofs.after_free.Tie as tie
@@ -12,12 +13,12 @@ use Rattle.paths.proofs.after_free.Tie as tie
 returns : tie.Need-returns
 returns c =
     let s = c .before .before .before in
-    λ job o q next e. free-cut (s .args .mem .now) (s .args .p) job o next (c .if1 .taken) (s .pre .0)
+    (λ job o q next e. free-cut (s .args .mem .now) (s .args .p) job o next (c .if1 .taken) (s .pre .0), stays-none)
 
 returns-2 : tie.Need-returns-2
 returns-2 c =
     let s = c .before .before .before .before .before in
-    λ job o q next e. ninth-cut (s .args .mem .now) (s .args .p) job o next (c .if2 .taken) (s .pre .0)
+    (λ job o q next e. ninth-cut (s .args .mem .now) (s .args .p) job o next (c .if2 .taken) (s .pre .0), stays-none)
 
 reach-requires : tie.Need-reach-requires
 reach-requires c κs = search needs
@@ -48,12 +49,16 @@ same-length c = search needs
 returns-3 : tie.Need-returns-3
 returns-3 c =
     let s = c .before .before .before .before .before .before .before .before .before .before .before .before .before .before .before .before .before in
-    λ job o q next e. free-on (s .args .mem .now) (s .args .p) (c .before .before .before .before .before .before .before .before .before .reach .last .0)
-    (c .before .before .before .before .write-range .last .0) (s .args .run) (ofWindow (s .args .w)) (c .declare .result) (s .pre .0) (s .pre .1) (s .pre .2) (s .pre .3) (s .pre .4)
-    (omega (arith, c .before .before .before .before .before .before .before .before .before .before .before .before .before .before .if1 .left))
-    (omega (arith, c .before .before .before .before .before .before .before .before .before .before .before .before .if2 .left, s .pre .0 .tables .count))
-    (c .before .before .before .before .before .before .before .before .before .reach .kept .0) (c .before .before .before .before .write-range .kept .0)
-    (c .before .before .before .before .before .before .before .before .before .reach .ensures) (c .before .before .before .before .write-range .ensures) (c .declare .ensures) job o q next e
+    let n = s .args .p .run .nodes in
+    let t = s .args .p .choices in (
+      λ job o q next e. free-on (s .args .mem .now) (s .args .p) (c .before .before .before .before .before .before .before .before .before .reach .last .0)
+          (c .before .before .before .before .write-range .last .0) (s .args .run) (ofWindow (s .args .w)) (c .declare .result) (s .pre .0) (s .pre .1) (s .pre .2) (s .pre .3) (s .pre .4)
+          (omega (arith, c .before .before .before .before .before .before .before .before .before .before .before .before .before .before .if1 .left))
+          (omega (arith, c .before .before .before .before .before .before .before .before .before .before .before .before .if2 .left, s .pre .0 .tables .count))
+          (c .before .before .before .before .before .before .before .before .before .reach .kept .0) (c .before .before .before .before .write-range .kept .0)
+          (c .before .before .before .before .before .before .before .before .before .reach .ensures) (c .before .before .before .before .write-range .ensures) (c .declare .ensures) job o q next e,
+      stays-then (stays-pairs n t (c .before .before .before .before .before .before .before .before .before .reach .ensures .other)) (stays-range n n t (c .before .before .before .before .write-range .ensures .other)),
+    )
 
 pub after-free-spec : {M : Type 1} → statement M
 after-free-spec =

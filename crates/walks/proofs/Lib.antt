@@ -1,0 +1,5 @@
+-- Theorems on the checkpoints of a search, and on a path from where it begins to its end.
+pub mod Marks
+pub mod Walking
+pub mod Dropping
+pub mod Beginning

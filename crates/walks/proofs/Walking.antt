@@ -1,0 +1,175 @@
+-- A path in the memory, turn after turn: what `path` says from where it began is what it says from where the path now stands.
+use mathlib.Core.Path.{_≡_, refl, sym, ap, ap₂, _∙_, subst}
+use mathlib.Core.Bool.{Bool, true, false}
+use mathlib.Core.List.{List}
+use Prim.Native.Nat.{ℕ, zero, suc, _+_, _-_, _*_, _≤_, _<_}
+use native.Mathlib.Omega.{arith}
+use lib.ListN.{length}
+use Rattle.semantics.specs.Program.{Window}
+use Rattle.semantics.specs.Search.{Value, spent, inUse}
+use Rattle.simulation.specs.Code.{Code}
+use Rattle.simulation.specs.Machine.{Machine}
+use Rattle.simulation.specs.Path.{State, Turn, End, on, ended, still, turn}
+use Rattle.simulation.specs.Lister.{Tally, tally, Next, go, over, then, closed, charge, charged, finish, Start, back, path}
+use Rattle.simulation.proofs.Drive.{turns-left}
+use Rattle.simulation.proofs.Resume.{after, path-turn, comes-on}
+use Rattle.machine.specs.Layout.{markWords}
+use Rattle.machine.specs.Memory.{machineAt, outcomesIn}
+use Rattle.machine.proofs.Tables.{room-same}
+use Rattle.paths.specs.declared.Point.{Point}
+use Rattle.paths.specs.declared.Turned.{Turned}
+use Rattle.paths.specs.Point.{stateAt, Going, Stays}
+use Rattle.paths.specs.Turn.{Onward, Stops, Turning, Onwards}
+use Rattle.paths.proofs.Keeping.{nearer-of}
+use Rattle.checkpoints.specs.Live.{Space}
+use Rattle.walks.specs.declared.Stack.{Stack}
+use Rattle.walks.specs.Marks.{Keeping}
+use Rattle.walks.specs.Walk.{paid, Stands, Walks, Ends}
+use Rattle.walks.proofs.Marks.{alike-stays, marks-paid, marks-stay, kept-machine, kept-state, kept-limit, kept-stands}
+
+-- ---- moves
+
+charge-none : (k r : ℕ) (rs : List _) (n : ℕ) (h : Bool) → charge (tally 0 k r rs n h) ≡ over (closed spent (tally 0 k r rs n h))
+unfolding charge
+charge-none k r rs n h = refl
+
+charge-one : (l k r : ℕ) (rs : List _) (n : ℕ) (h : Bool) → charge (tally (suc l) k r rs n h) ≡ go (tally l k r rs (suc n) h)
+unfolding charge
+charge-one l k r rs n h = refl
+
+-- a move paid for
+paid-one : (left : ℕ) (t : Tally) → 1 ≤ left → left ≤ t .budget → charge (paid left t) ≡ go (paid (left - 1) t)
+paid-one left t l b =
+    ap (λ (i : ℕ). charge (tally i (t .skip) (t .room) (t .rows) (t .moves + (t .budget - left)) (t .cut))) {x = left} {y = suc (left - 1)} (omega arith)
+    ∙ charge-one (left - 1) (t .skip) (t .room) (t .rows) (t .moves + (t .budget - left)) (t .cut)
+    ∙ ap (λ (n : ℕ). go (tally (left - 1) (t .skip) (t .room) (t .rows) n (t .cut))) {x = suc (t .moves + (t .budget - left))} {y = t .moves + (t .budget - (left - 1))} (omega arith)
+
+pub turned-as : (t : Turn) (m′ : List ℕ) (p : Point) (x y : Turned) → x ≡ y → Turning t m′ p x × Onwards m′ x → Turning t m′ p y × Onwards m′ y
+turned-as t m′ p x y e h = subst (λ (z : Turned). Turning t m′ p z × Onwards m′ z) e h
+
+pub pays-none : (budget left : ℕ) (o : Bool) → o ≡ false → (t : Tally) → t .budget ≡ budget → charged o (paid left t) ≡ go (paid left t)
+pays-none budget left o e t f = ap (λ (o : Bool). charged o (paid left t)) e
+
+pub pays-one : (budget left : ℕ) (o : Bool) → o ≡ true → 1 ≤ left → left ≤ budget → (t : Tally) → t .budget ≡ budget → charged o (paid left t) ≡ go (paid (left - 1) t)
+pays-one budget left o e l b t f = ap (λ (o : Bool). charged o (paid left t)) e ∙ paid-one left t l (omega arith)
+
+-- ---- where a path stands
+
+-- the room that the checkpoints have yet
+pub spare : (c : Code) (job : Window) (m : List ℕ) (p : Point) (s : Stack) → Stands c job m p s → Space m (markWords * s .limit) × (s .limit < 4294967296) × (s .words ≤ markWords * s .limit)
+spare c job m p s h = (
+  record { indices = s .limit + 1; fits = omega arith; room = h .stacked .room },
+  omega (arith, h .stacked .room .small),
+  marks-paid c job (s .limit) (h .stacked .marks),
+)
+
+module _ (c : Code) (job : Window) (limit : ℕ) where
+  -- x is what `path` says from here on
+  pub record From (x : Next Start) (m : List ℕ) (p : Point) (u : Tally) : Type 0 where
+    pub turns : ℕ
+    pub enough : turns-left c (machineAt m (p .run)) (stateAt m p) < turns
+    pub is : x ≡ path inUse job c limit turns (machineAt m (p .run)) (stateAt m p) u
+
+  pub record Reaches (budget : ℕ) (x : Machine Value) (y : State) (m : List ℕ) (p : Point) (s : Stack) (left : ℕ) : Type 0 where
+    pub stands : Stands c job m p s
+    pub limited : s .limit ≡ limit
+    pub rest : left ≤ budget
+    pub so : (t : Tally) → t .budget ≡ budget → (n : ℕ) → turns-left c x y < n → From (path inUse job c limit n x y t) m p (paid left t)
+
+  module _ (budget : ℕ) (x : Machine Value) (y : State) where
+    pub begins-so : (m : List ℕ) (p : Point) (s : Stack) → Stands c job m p s → s .limit ≡ limit → x ≡ machineAt m (p .run) → y ≡ stateAt m p → Reaches budget x y m p s budget
+    begins-so m p s h l e f = record {
+      stands = h;
+      limited = l;
+      rest = omega arith;
+      so = λ t g n b. record {
+        turns = n;
+        enough = subst (λ (k : ℕ). k < n) (ap₂ (turns-left c) e f) b;
+        is = (λ i. path inUse job c limit n (e i) (f i) t) ∙ ap (path inUse job c limit n (machineAt m (p .run)) (stateAt m p)) (same t g);
+      };
+    }
+      where
+        same : (t : Tally) → t .budget ≡ budget → t ≡ paid budget t
+        same t e =
+            let n : t .moves ≡ t .moves + (t .budget - budget) = omega arith in
+            ap₂ (λ (b n : ℕ). tally b (t .skip) (t .room) (t .rows) n (t .cut)) e n
+
+    -- a checkpoint is saved, or not
+    pub reaches-kept : (size : ℕ) (m m′ : List ℕ) (p : Point) (s r : Stack) (left : ℕ) → length m′ ≡ length m → Reaches budget x y m p s left → Keeping size m m′ p s r → Reaches budget x y m′ p r left
+    reaches-kept size m m′ p s r left len h k =
+        let deep = h .stands .going .ready .deep in
+        let e = kept-machine size m m′ p deep s r k in
+        let f = kept-state size m m′ p deep s r k in
+        record {
+          stands = kept-stands c job size m m′ p s r len (h .stands) k;
+          limited = kept-limit size m m′ p deep s r k ∙ h .limited;
+          rest = h .rest;
+          so = λ t g n b.
+              let u = h .so t g n b in
+              record {
+                turns = u .turns;
+                enough = subst (λ (j : ℕ). j < u .turns) (ap₂ (turns-left c) (sym e) (sym f)) (u .enough);
+                is = u .is ∙ (λ i. path inUse job c limit (u .turns) (sym e i) (sym f i) (paid left t));
+              };
+        }
+
+    -- one turn
+    from-turn : (z : Next Start) (m : List ℕ) (p : Point) (u : Tally) → From z m p u → (w : Turn) → turn inUse job c (machineAt m (p .run)) (stateAt m p) ≡ w
+        → (k : ℕ) × ((turns-left c (machineAt m (p .run)) (stateAt m p) < suc k) × (z ≡ then (charged (w .move) u) (after inUse job c limit k (w .went))))
+    from-turn z m p u f w e = by (f .turns) (f .enough) (f .is)
+      where
+        by : (n : ℕ) → turns-left c (machineAt m (p .run)) (stateAt m p) < n → z ≡ path inUse job c limit n (machineAt m (p .run)) (stateAt m p) u
+            → (k : ℕ) × ((turns-left c (machineAt m (p .run)) (stateAt m p) < suc k) × (z ≡ then (charged (w .move) u) (after inUse job c limit k (w .went))))
+        by zero l q = absurd (omega arith)
+        by (suc k) l q = (k, (l, q ∙ path-turn inUse job c limit k (machineAt m (p .run)) (stateAt m p) u w e))
+
+    module _ (m m′ : List ℕ) (p : Point) (s : Stack) (left : ℕ) (r : Reaches budget x y m p s left) where
+      abbrev here : Turn
+      here = turn inUse job c (machineAt m (p .run)) (stateAt m p)
+
+      -- the path goes on
+      pub reaches-on : (q : Point) (o : Bool) (left′ : ℕ) → Onward here m′ p o q → Going m′ q → Stays m m′ (p .run .nodes) (p .choices) → length m′ ≡ length m → left′ ≤ budget
+          → ((t : Tally) → t .budget ≡ budget → charged o (paid left t) ≡ go (paid left′ t)) → Reaches budget x y m′ q s left′
+      reaches-on q o left′ h g stays len l pay = record {
+        stands = record {
+          going = g;
+          few = omega (arith, r .stands .few, h .fewer);
+          comes = comes-on inUse job c (s .limit) (machineAt m (p .run)) (machineAt m′ (q .run)) (stateAt m p) (stateAt m′ q) (r .stands .comes) (ap (λ (t : Turn). t .went) (h .is));
+          stacked = record {
+            marks = marks-stay c job (s .limit) m m′ (p .choices) (q .choices) (p .choices) (q .run .nodes) (q .choices) (λ z a b. (a, a)) (alike-stays (s .words) len stays) (h .grows) (h .older) (r .stands .stacked .marks);
+            room = room-same len (r .stands .stacked .room);
+          };
+        };
+        limited = r .limited;
+        rest = l;
+        so = λ t e n b.
+            let f = from-turn (path inUse job c limit n x y t) m p (paid left t) (r .so t e n b) (record { move = o; went = on (machineAt m′ (q .run)) (stateAt m′ q) }) (h .is) in
+            let near = nearer-of job c m m′ p q o (r .stands .going .ready) (h .is) .nearer in
+            record { turns = f .0; enough = omega (arith, f .1 .0, near); is = f .1 .1 ∙ ap (λ (z : Next Tally). then z (after inUse job c limit (f .0) (on (machineAt m′ (q .run)) (stateAt m′ q)))) (pay t e) };
+      }
+
+      pub nearer : (q : Point) (o : Bool) → Onward here m′ p o q → turns-left c (machineAt m′ (q .run)) (stateAt m′ q) < turns-left c (machineAt m (p .run)) (stateAt m p)
+      nearer q o h = nearer-of job c m m′ p q o (r .stands .going .ready) (h .is) .nearer
+
+      -- the budget is spent
+      pub reaches-spent : (q : Point) (o : Bool) → Onward here m′ p o q → o ≡ true → left ≡ 0 → Walks c job limit budget x y (λ t. over (closed spent (paid 0 t)))
+      reaches-spent q o h e z = record {
+        is = λ t f n b.
+            let g = from-turn (path inUse job c limit n x y t) m p (paid left t) (r .so t f n b) (record { move = o; went = on (machineAt m′ (q .run)) (stateAt m′ q) }) (h .is) in
+            g .1 .1 ∙ ap₂ (λ (o : Bool) (l : ℕ). then (charged o (paid l t)) (after inUse job c limit (g .0) (on (machineAt m′ (q .run)) (stateAt m′ q)))) e z
+            ∙ ap (λ (v : Next Tally). then v (after inUse job c limit (g .0) (on (machineAt m′ (q .run)) (stateAt m′ q)))) (charge-none (t .skip) (t .room) (t .rows) (t .moves + (t .budget - 0)) (t .cut));
+      }
+
+      -- the path has ended
+      pub reaches-end : (e : End) → Stops here m′ p e → Stays m m′ (p .run .nodes) (p .choices) → length m′ ≡ length m → Ends c job limit budget x y m′ e p s left
+      reaches-end e h stays len = record {
+        walks = record { is = λ t f n b. from-turn (path inUse job c limit n x y t) m p (paid left t) (r .so t f n b) (still (ended e (stateAt m′ p))) (h .is) .1 .1 };
+        standing = h .standing;
+        few = omega (arith, r .stands .few, r .limited);
+        rest = r .rest;
+        stacked = record {
+          marks = marks-stay c job (s .limit) m m′ (p .choices) (p .choices) (p .choices) (p .run .nodes) (p .choices) (λ z a b. (a, a)) (alike-stays (s .words) len stays) (omega arith) (omega arith) (r .stands .stacked .marks);
+          room = room-same len (r .stands .stacked .room);
+        };
+        limited = r .limited;
+      }

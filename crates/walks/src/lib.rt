@@ -1,0 +1,177 @@
+// One path of the search, from the start of main or from a checkpoint up to its end.
+ghost use mathlib.Core.Path.{_≡_};
+ghost use mathlib.Core.Bool.{true};
+ghost use Prim.Native.Nat.{_+_, _*_, _<_, _≤_};
+ghost use lib.ListN.{length};
+ghost use Rattle.simulation.specs.Words.{codeIn};
+ghost use Rattle.intervals.specs.Meaning.{Filled, ofWindow};
+ghost use Rattle.machine.specs.Layout.{tablesPlace, markWords};
+ghost use Rattle.machine.specs.Memory.{machineAt, outcomesIn};
+ghost use Rattle.machine.specs.Contracts.{Started};
+ghost use Rattle.paths.specs.Point.{stateAt, Going};
+ghost use Rattle.checkpoints.specs.Live.{Small, Space};
+ghost use Rattle.walks.specs.Marks.{Due, Keeping, Dropped};
+ghost use Rattle.walks.specs.Walk.{atStart, Stands, Walking, Begins, FromMain};
+use code::entry;
+use intervals::Window;
+use machine::Value;
+use machine::layout;
+use paths::Point;
+use paths::Turned;
+
+// The checkpoints of a search: how many words they have, and the limit of steps, which pay for them.
+pub struct Stack {
+    pub words: usize,
+    pub limit: usize,
+}
+
+// How a path went: the budget was spent on the way, or the path has ended at a point, with these checkpoints and so much of the budget left.
+pub enum Walked {
+    Spent,
+    Returned(Value, Point, Stack, u32),
+    Failed(Point, Stack, u32),
+    Cut(Point, Stack, u32),
+}
+
+// Whether the entry at pc is a comparison.
+fn compares(code: &[u32], size: usize, pc: usize) -> bool
+    requires { ⌜ 2 * size ≤ length (now code) ⌝ }
+    ensures { λ r. ⌜ (r ≡ true → pc < size) ⌝ }
+{
+    if pc < size {
+        let kind = code[entry::WORDS * pc];
+        if kind < entry::COMPARE {
+            return false;
+        }
+        return kind <= entry::COMPARE_LAST;
+    }
+    false
+}
+
+// Whether a checkpoint is due: a choice may follow that no path has made yet, and the steps so far pay for one more, three words a step.
+fn is_due(code: &[u32], size: usize, p: Point, s: Stack) -> bool
+    requires { ⌜ (2 * size ≤ length (now code)) × Small p × (p .steps < 4294967296) × (s .limit < 4294967296) × (s .words ≤ markWords * s .limit) ⌝ }
+    ensures { λ r. ⌜ (r ≡ true → Due size p s) ⌝ }
+{
+    if p.forced != 0 {
+        return false;
+    }
+    if p.windows == 0 {
+        return false;
+    }
+    let run = p.run;
+    if compares(code, size, run.pc) {
+        return s.words + checkpoints::size_of(p) + layout::MARK_WORDS * p.steps
+            <= layout::MARK_WORDS * s.limit;
+    }
+    false
+}
+
+// Saves a checkpoint, if one is due.
+fn keep(code: &[u32], size: usize, mem: &mut [u32], p: Point, s: Stack) -> Stack
+    requires { ⌜ (2 * size ≤ length (now code)) × (size < 65536) × Going (now mem) p × Space (now mem) (markWords * s .limit) × (s .limit < 4294967296) × (s .words ≤ markWords * s .limit) ⌝ }
+    ensures { λ r. ⌜ Keeping size (now (mem .entry)) (now (mem .exit)) p s r ⌝ }
+{
+    if is_due(code, size, p, s) {
+        checkpoints::save(mem, p, s.words);
+        return Stack {
+            words: s.words + checkpoints::size_of(p),
+            limit: s.limit,
+        };
+    }
+    s
+}
+
+// A path from the point that it begins at up to its end. Each move costs one of the budget.
+fn walk(
+    code: &[u32],
+    size: usize,
+    mem: &mut [u32],
+    job: Window,
+    begins: Point,
+    marks: Stack,
+    budget: u32,
+) -> Walked
+    requires { ⌜ (2 * size + 16 ≤ length (now code)) × (size < 65536) × Stands (codeIn (now code) size) (ofWindow job) (now mem) begins marks × Filled (ofWindow job) ⌝ }
+    ensures { λ r. ⌜ Walking (codeIn (now (code .entry)) size) (ofWindow job) (marks .limit) budget (machineAt (now (mem .entry)) (begins .run)) (stateAt (now (mem .entry)) begins) (now (mem .exit)) r ⌝ }
+{
+    let mut p = begins;
+    let mut s = marks;
+    let mut left = budget;
+    loop {
+        s = keep(code, size, mem, p, s);
+        match paths::turn(code, size, mem, job, p) {
+            Turned::On(o, q) => {
+                if o {
+                    if left == 0 {
+                        return Walked::Spent;
+                    }
+                    left -= 1;
+                }
+                p = q;
+            }
+            Turned::Returned(v) => return Walked::Returned(v, p, s, left),
+            Turned::Failed => return Walked::Failed(p, s, left),
+            Turned::Cut => return Walked::Cut(p, s, left),
+        }
+    }
+}
+
+// The checkpoints with at most i choices.
+fn drop_after(mem: &[u32], s: Stack, i: usize) -> Stack
+    requires { ⌜ Space (now mem) (s .words) ⌝ }
+    ensures { λ r. ⌜ Dropped (now (mem .entry)) s i r ⌝ }
+{
+    let mut w = s.words;
+    while checkpoints::NUMBERS <= w {
+        let p = checkpoints::point_at(mem, w - checkpoints::NUMBERS);
+        if p.choices <= i {
+            return Stack {
+                words: w,
+                limit: s.limit,
+            };
+        }
+        w = ints::monus(w, checkpoints::size_of(p));
+    }
+    Stack {
+        words: 0,
+        limit: s.limit,
+    }
+}
+
+// The start of main, with so many steps to make and so many outcomes forced.
+fn first(mem: &mut [u32], limit: usize, forced: usize) -> Point
+    requires { ⌜ tablesPlace ≤ length (now mem) ⌝ }
+    ensures { λ r. ⌜ Started (now (mem .entry)) (now (mem .exit)) (r .run) × (r ≡ atStart (r .run) limit forced) ⌝ }
+{
+    let run = machine::start(mem);
+    Point {
+        run: run,
+        steps: limit,
+        windows: 0,
+        choices: 0,
+        forced: forced,
+    }
+}
+
+// The path with the forced outcomes that stand in the memory, up to its end: from the newest checkpoint before the last of them, or from the start of main.
+pub fn run_path(
+    code: &[u32],
+    size: usize,
+    mem: &mut [u32],
+    job: Window,
+    marks: Stack,
+    forced: usize,
+    budget: u32,
+) -> Walked
+    requires { ⌜ (2 * size + 16 ≤ length (now code)) × (size < 65536) × Begins (codeIn (now code) size) (ofWindow job) (now mem) forced marks × Filled (ofWindow job) ⌝ }
+    ensures { λ r. ⌜ FromMain (codeIn (now (code .entry)) size) (ofWindow job) (marks .limit) budget (outcomesIn (now (mem .entry)) 0 forced) (now (mem .exit)) r ⌝ }
+{
+    let s = drop_after(mem, marks, ints::monus(forced, 1));
+    if s.words == 0 {
+        let p = first(mem, s.limit, forced);
+        return walk(code, size, mem, job, p, s, budget);
+    }
+    let q = checkpoints::restore(mem, s.words, forced);
+    walk(code, size, mem, job, q, s, budget)
+}
