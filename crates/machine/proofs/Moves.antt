@@ -11,7 +11,7 @@ use Rattle.semantics.specs.Int.{Op}
 use Rattle.semantics.specs.Program.{slot}
 use Rattle.semantics.specs.Does.{store}
 use Rattle.semantics.specs.Search as search
-use Rattle.simulation.specs.Code.{Act}
+use Rattle.simulation.specs.Code.{Code, Act}
 use Rattle.simulation.specs.Machine.{machine, Doing}
 use Rattle.simulation.specs.Nodes as nodes
 use Rattle.simulation.specs.Nodes.{Cell, Node, unknown, operation, Within, meaning, working}
@@ -33,9 +33,9 @@ reads ns z = refl
 
 -- ---- an operation
 
-module _ (ws : List ℕ) (size : ℕ) (m m₁ m₂ : List ℕ) (r : Run) (o : Op) (d : ℕ) (x y v : Value) (t n : ℕ)
+module _ (c : Code) (m m₁ m₂ : List ℕ) (r : Run) (o : Op) (d : ℕ) (x y v : Value) (t n : ℕ)
     (ready : Ready m r) (room : Room m (r .top + 1)) (nodes-room : Room m (r .nodes + 1)) (len : length m₂ ≡ length m)
-    (p : Paired (codeIn ws size) m r d x y t) (w : Worked m m₁ (r .nodes) o x y v n) (q : Put m₁ m₂ (tempPlace t) (cellOf v)) where
+    (p : Paired c m r d x y t) (w : Worked m m₁ (r .nodes) o x y v n) (q : Put m₁ m₂ (tempPlace t) (cellOf v)) where
   abbrev f₀ : Cell → Sym
   f₀ = meaning (nodesIn m (r .nodes))
 
@@ -92,7 +92,7 @@ module _ (ws : List ℕ) (size : ℕ) (m m₁ m₂ : List ℕ) (r : Run) (o : Op
       here : nodeAt m₂ j ≡ operation o (cellOf x) (cellOf y)
       here = rw (q .other .outside (nodePlace j) (λ a b. omega arith), q .other .outside (nodeLeft j) (λ a b. omega arith), q .other .outside (nodeRight j) (λ a b. omega arith)) (w .node j a b)
 
-  pub operated : Goes Doing.step 1 (acts (codeIn ws size) m r (Act.operate o d)) m (r .nodes) m₂ (record { pc = r .pc + 1; flag = r .flag; base = r .base; top = t + 1; depth = r .depth; nodes = n })
+  pub operated : Goes Doing.step 1 (acts c m r (Act.operate o d)) m (r .nodes) m₂ (record { pc = r .pc + 1; flag = r .flag; base = r .base; top = t + 1; depth = r .depth; nodes = n })
   operated = record {
     is = ap (λ t. Doing.step (machine (suc (r .pc)) (r .flag) (search.work o (t .first) (t .second) ∷ t .rest) (frameAt f₀ m (r .depth)) (callers f₀ m (r .depth) (r .base)) (32 - r .depth)))
         (p .is f₀ (reads (nodesIn m (r .nodes))))

@@ -1,11 +1,11 @@
 // The machine of `simulation`, over lent memory.
 ghost use mathlib.Core.Path.{_≡_};
-ghost use Prim.Native.Nat.{suc, _+_, _-_, _*_, _<_, _≤_};
+ghost use Prim.Native.Nat.{ℕ, suc, _+_, _-_, _*_, _<_, _≤_};
 ghost use lib.ListN.{length, getD};
 ghost use Rattle.semantics.specs.Program.{slot};
 ghost use Rattle.semantics.specs.Search.{known, work as workS};
 ghost use Rattle.simulation.specs.Machine.{Doing, leafNumber, ownPair, extent as extentS, landing as landingS, advance as advanceS};
-ghost use Rattle.simulation.specs.Code.{operate as operateS, store as storeS, return as returnS, fail as failS, call as callS, act};
+ghost use Rattle.simulation.specs.Code.{Code, operate as operateS, store as storeS, return as returnS, fail as failS, call as callS, act};
 ghost use Rattle.simulation.specs.Words.{codeIn};
 ghost use Rattle.ints.specs.Numbers.{operation};
 ghost use Rattle.intervals.specs.Meaning.{ofWindow, Filled};
@@ -234,12 +234,11 @@ fn pair(code: &[u32], size: usize, mem: &[u32], run: Run, d: usize) -> Both
     }
 }
 
-// An operation.
-fn operate(code: &[u32], size: usize, mem: &mut [u32], run: Run, op: u32, d: usize) -> Run
-    requires { ⌜ (2 * size ≤ length (now code)) × Ready (now mem) run × (op < 3) × (run .pc < size) × Room (now mem) (run .top + 1) × Room (now mem) (run .nodes + 1) ⌝ }
-    ensures { λ r. ⌜ Goes Doing.step 1 (acts (codeIn (now (code .entry)) size) (now (mem .entry)) run (operateS (operation op) d)) (now (mem .entry)) (run .nodes) (now (mem .exit)) r ⌝ }
+// An operation on two operands.
+fn operate(mem: &mut [u32], run: Run, op: u32, p: Both) -> Run
+    requires { ⌜ Ready (now mem) run × (op < 3) × (run .pc < 65536) × Room (now mem) (run .top + 1) × Room (now mem) (run .nodes + 1) × Sized (p .left) × Sized (p .right) × (p .top ≤ run .top) ⌝ }
+    ensures { λ r. ⌜ ((c : Code) (d : ℕ) → Paired c (now (mem .entry)) run d (p .left) (p .right) (p .top) → Goes Doing.step 1 (acts c (now (mem .entry)) run (operateS (operation op) d)) (now (mem .entry)) (run .nodes) (now (mem .exit)) r) ⌝ }
 {
-    let p = pair(code, size, mem, run, d);
     let x = p.left;
     let y = p.right;
     let made = work(mem, run.nodes, op, x, y);
@@ -513,9 +512,11 @@ pub fn advance(code: &[u32], size: usize, mem: &mut [u32], job: Window, run: Run
     let w = code[2 * run.pc + 1] as usize;
     match kind {
         entry::NUMBER..=entry::ARGUMENT => Did::Silent(moved(run, run.pc + 1)),
-        entry::ADD..=entry::MUL => Did::Step(operate(code, size, mem, run, kind - entry::ADD, w)),
-        entry::COMPARE..=entry::COMPARE_LAST => {
+        entry::ADD..=entry::COMPARE_LAST => {
             let p = pair(code, size, mem, run, w);
+            if kind < entry::COMPARE {
+                return Did::Step(operate(mem, run, kind - entry::ADD, p));
+            }
             let x = p.left;
             let y = p.right;
             let rest = Run {

@@ -125,132 +125,135 @@ add-moved-4 c = search needs
 moved-requires-6 : tie.Need-moved-requires-6
 moved-requires-6 c κs = search needs
 
-operate-requires : tie.Need-operate-requires
-operate-requires c κs =
-    let s = c .before .before .before .before .before .before .before .before .before .before .before .before .before in (
-      omega (arith, s .pre .0),
-      s .pre .2,
-      omega (arith, c .before .if6 .taken, c .before .before .if5 .left),
-      c .before .before .before .before .before .before .before .before .before .if1 .left,
-      s .pre .3,
-      s .pre .4,
-    )
-
 pair-requires : tie.Need-pair-requires
 pair-requires c κs = search needs
 
-add-t73 : tie.Need-add-t73
-add-t73 c = search needs
+operate-requires : tie.Need-operate-requires
+operate-requires c κs =
+    let s = c .before .before .before .before .before .before .before .before .before .before .before .before .before .before .before .before in
+    let p = c .before .before .pair in (
+      s .pre .2,
+      omega (arith, c .before .if7 .taken, c .before .before .before .before .before .if5 .left),
+      omega (arith, c .before .before .before .before .before .before .before .before .before .before .before .before .if1 .left, s .pre .1),
+      s .pre .3,
+      s .pre .4,
+      p .ensures .left-sized,
+      p .ensures .right-sized,
+      p .ensures .high,
+    )
 
 same-length-2 : tie.Need-same-length-2
 same-length-2 c = search needs
 
 returns-4 : tie.Need-returns-4
 returns-4 c =
-    let a = c .before .before .before .before .before .before .before .before .before .before .before .before .before .before .before .args in
-    goes-from (adv-call (a .code .now) (a .size) (a .mem .now) (a .run) (c .before .before .before .before .before .before .before .before .before .before .before .if1 .left)
-    (c .before .before .before .before .before .before .match .keys1)) (c .before .before .enter .ensures)
+    let a = c .before .before .before .before .before .before .before .before .before .before .before .before .before .before .before .before .before .before .before .args in
+    goes-from (adv-op (a .code .now) (a .size) (a .mem .now) (a .run) (c .before .before .before .before .before .before .before .before .before .before .before .before .before .before .before .if1 .left) (c .before .before .before .before .before .before .before .before .if5 .left) (c .before .before .before .before .if7 .taken))
+    (c .before .before .operate .ensures _ _ (c .before .before .before .before .before .pair .ensures))
+
+add-t74 : tie.Need-add-t74
+add-t74 c = search needs
+
+same-length-3 : tie.Need-same-length-3
+same-length-3 c = search needs
 
 returns-5 : tie.Need-returns-5
 returns-5 c =
-    let s = c .before .before .before .before .before .before .before .before .before .before in
-    let a = s .args in
-    goes-run (c .flagged .ensures) (adv-false (a .code .now) (a .size) (a .mem .now) (a .run) (c .before .before .before .before .before .before .if1 .left) (c .before .match .keys2) (s .pre .2))
+    let a = c .before .before .before .before .before .before .before .before .before .before .before .before .before .before .before .args in
+    goes-from (adv-call (a .code .now) (a .size) (a .mem .now) (a .run) (c .before .before .before .before .before .before .before .before .before .before .before .if1 .left)
+    (c .before .before .before .before .before .before .match .keys1)) (c .before .before .enter .ensures)
 
 returns-6 : tie.Need-returns-6
 returns-6 c =
     let s = c .before .before .before .before .before .before .before .before .before .before in
     let a = s .args in
-    goes-run (c .flagged2 .ensures) (adv-true (a .code .now) (a .size) (a .mem .now) (a .run) (c .before .before .before .before .before .before .if1 .left) (c .before .match .keys3) (s .pre .2))
+    goes-run (c .flagged .ensures) (adv-false (a .code .now) (a .size) (a .mem .now) (a .run) (c .before .before .before .before .before .before .if1 .left) (c .before .match .keys2) (s .pre .2))
 
 returns-7 : tie.Need-returns-7
 returns-7 c =
-    let s = c .before .before .before .before .before .before .before .before .before .before .before in
+    let s = c .before .before .before .before .before .before .before .before .before .before in
     let a = s .args in
-    goes-run (c .moved .ensures) (adv-jump-false (a .code .now) (a .size) (a .mem .now) (a .run) (c .before .before .before .before .before .before .before .if1 .left)
-    (c .before .before .match .keys4) (c .before .landing .result) (c .before .landing .ensures) (s .pre .2))
+    goes-run (c .flagged2 .ensures) (adv-true (a .code .now) (a .size) (a .mem .now) (a .run) (c .before .before .before .before .before .before .if1 .left) (c .before .match .keys3) (s .pre .2))
 
 returns-8 : tie.Need-returns-8
 returns-8 c =
     let s = c .before .before .before .before .before .before .before .before .before .before .before in
     let a = s .args in
-    goes-run (c .moved2 .ensures) (adv-jump-true (a .code .now) (a .size) (a .mem .now) (a .run) (c .before .before .before .before .before .before .before .if1 .left)
-    (c .before .before .match .keys5) (c .before .landing2 .result) (c .before .landing2 .ensures) (s .pre .2))
+    goes-run (c .moved .ensures) (adv-jump-false (a .code .now) (a .size) (a .mem .now) (a .run) (c .before .before .before .before .before .before .before .if1 .left)
+    (c .before .before .match .keys4) (c .before .landing .result) (c .before .landing .ensures) (s .pre .2))
 
 returns-9 : tie.Need-returns-9
 returns-9 c =
     let s = c .before .before .before .before .before .before .before .before .before .before .before in
     let a = s .args in
-    goes-run (c .moved3 .ensures) (adv-skip (a .code .now) (a .size) (a .mem .now) (a .run) (c .before .before .before .before .before .before .before .if1 .left)
-    (c .before .before .match .keys6) (s .pre .2))
+    goes-run (c .moved2 .ensures) (adv-jump-true (a .code .now) (a .size) (a .mem .now) (a .run) (c .before .before .before .before .before .before .before .if1 .left)
+    (c .before .before .match .keys5) (c .before .landing2 .result) (c .before .landing2 .ensures) (s .pre .2))
 
 returns-10 : tie.Need-returns-10
 returns-10 c =
     let s = c .before .before .before .before .before .before .before .before .before .before .before in
     let a = s .args in
-    goes-run (c .moved4 .ensures) (adv-again (a .code .now) (a .size) (a .mem .now) (a .run) (c .before .before .before .before .before .before .before .if1 .left) (c .before .before .match .keys7)
-    (c .before .monus .result) (c .before .monus .ensures) (s .pre .2))
+    goes-run (c .moved3 .ensures) (adv-skip (a .code .now) (a .size) (a .mem .now) (a .run) (c .before .before .before .before .before .before .before .if1 .left)
+    (c .before .before .match .keys6) (s .pre .2))
 
 returns-11 : tie.Need-returns-11
 returns-11 c =
     let s = c .before .before .before .before .before .before .before .before .before .before .before in
     let a = s .args in
-    goes-run (c .moved5 .ensures) (adv-begin (a .code .now) (a .size) (a .mem .now) (a .run) (c .before .before .before .before .before .before .before .if1 .left)
-    (c .before .before .match .keys8) (s .pre .2))
-
-same-length-3 : tie.Need-same-length-3
-same-length-3 c = search needs
+    goes-run (c .moved4 .ensures) (adv-again (a .code .now) (a .size) (a .mem .now) (a .run) (c .before .before .before .before .before .before .before .if1 .left) (c .before .before .match .keys7)
+    (c .before .monus .result) (c .before .monus .ensures) (s .pre .2))
 
 returns-12 : tie.Need-returns-12
 returns-12 c =
-    let s = c .before .before .before .before .before .before .before .before .before .before .before .before .before in
+    let s = c .before .before .before .before .before .before .before .before .before .before .before in
     let a = s .args in
-    adv-ask (a .code .now) (a .size) (a .mem .now) (a .run) (c .before .before .before .before .before .before .before .before .before .if1 .left)
-    (c .before .before .before .before .match .keys9) (ofWindow (a .job)) (s .pre .5) _ (a .k) _ (c .before .before .ask .ensures)
+    goes-run (c .moved5 .ensures) (adv-begin (a .code .now) (a .size) (a .mem .now) (a .run) (c .before .before .before .before .before .before .before .if1 .left)
+    (c .before .before .match .keys8) (s .pre .2))
 
 same-length-4 : tie.Need-same-length-4
 same-length-4 c = search needs
 
 returns-13 : tie.Need-returns-13
 returns-13 c =
-    let a = c .before .before .before .before .before .before .before .before .before .before .before .before .before .args in
-    goes-from (adv-store (a .code .now) (a .size) (a .mem .now) (a .run) (c .before .before .before .before .before .before .before .before .before .if1 .left)
-    (c .before .before .before .before .match .keys10)) (c .before .before .store .ensures)
+    let s = c .before .before .before .before .before .before .before .before .before .before .before .before .before in
+    let a = s .args in
+    adv-ask (a .code .now) (a .size) (a .mem .now) (a .run) (c .before .before .before .before .before .before .before .before .before .if1 .left)
+    (c .before .before .before .before .match .keys9) (ofWindow (a .job)) (s .pre .5) _ (a .k) _ (c .before .before .ask .ensures)
 
 same-length-5 : tie.Need-same-length-5
 same-length-5 c = search needs
 
 returns-14 : tie.Need-returns-14
 returns-14 c =
-    let a = c .before .before .before .before .before .before .before .before .before .before .before .before .before .before .before .args in
-    goes-from (adv-return (a .code .now) (a .size) (a .mem .now) (a .run) (c .before .before .before .before .before .before .before .before .before .before .before .if1 .left)
-    (c .before .before .before .before .before .before .match .keys11)) (c .before .before .leave .ensures)
+    let a = c .before .before .before .before .before .before .before .before .before .before .before .before .before .args in
+    goes-from (adv-store (a .code .now) (a .size) (a .mem .now) (a .run) (c .before .before .before .before .before .before .before .before .before .if1 .left)
+    (c .before .before .before .before .match .keys10)) (c .before .before .store .ensures)
 
 same-length-6 : tie.Need-same-length-6
 same-length-6 c = search needs
 
 returns-15 : tie.Need-returns-15
 returns-15 c =
+    let a = c .before .before .before .before .before .before .before .before .before .before .before .before .before .before .before .args in
+    goes-from (adv-return (a .code .now) (a .size) (a .mem .now) (a .run) (c .before .before .before .before .before .before .before .before .before .before .before .if1 .left)
+    (c .before .before .before .before .before .before .match .keys11)) (c .before .before .leave .ensures)
+
+same-length-7 : tie.Need-same-length-7
+same-length-7 c = search needs
+
+returns-16 : tie.Need-returns-16
+returns-16 c =
     let a = c .before .before .before .before .before .before .before .before .before .before .before .before .before .before .args in
     let o = c .before .before .before .before .own-pair in
     adv-own (a .code .now) (a .size) (a .mem .now) (a .run) (c .before .before .before .before .before .before .before .before .before .before .if1 .left)
     (c .before .before .before .before .before .match .keys12) (ofWindow (a .job)) (ofWindow (o .result)) (o .ensures .0) (o .ensures .1) _ (a .k) _ (c .before .before .ask2 .ensures)
 
-returns-16 : tie.Need-returns-16
-returns-16 c =
+returns-17 : tie.Need-returns-17
+returns-17 c =
     let s = c .before .before .before .before .before .before .before .before .before .before .before .before .before in
     let a = s .args in
     goes-run (c .moved6 .ensures) (adv-leaf (a .code .now) (a .size) (a .mem .now) (a .run) (c .before .before .before .before .before .before .before .before .before .if1 .left)
     (c .before .before .before .if4 .left) (c .before .before .if5 .taken) (s .pre .2))
-
-same-length-7 : tie.Need-same-length-7
-same-length-7 c = search needs
-
-returns-17 : tie.Need-returns-17
-returns-17 c =
-    let a = c .before .before .before .before .before .before .before .before .before .before .before .before .before .before .before .before .args in
-    goes-from (adv-op (a .code .now) (a .size) (a .mem .now) (a .run) (c .before .before .before .before .before .before .before .before .before .before .before .before .if1 .left)
-    (c .before .before .before .before .before .if5 .left) (c .before .before .before .before .if6 .taken)) (c .before .before .operate .ensures)
 
 same-length-8 : tie.Need-same-length-8
 same-length-8 c = search needs
@@ -259,9 +262,8 @@ returns-18 : tie.Need-returns-18
 returns-18 c =
     let s = c .before .before .before .before .before .before .before .before .before .before .before .before .before .before .before .before in
     let a = s .args in
-    adv-cmp (a .code .now) (a .size) (a .mem .now) (a .run) (c .before .before .before .before .before .before .before .before .before .before .before .before .if1 .left)
-    (c .before .before .before .before .if6 .left) (c .before .before .before .if7 .taken) (c .before .pair .result .left) (c .before .pair .result .right) (c .before .pair .result .top)
-    (s .pre .2) (c .before .pair .ensures)
+    let p = c .before .before .pair in
+    adv-cmp (a .code .now) (a .size) (a .mem .now) (a .run) (c .before .before .before .before .before .before .before .before .before .before .before .before .if1 .left) (c .before .if7 .left) (c .before .before .before .before .if6 .taken) (p .result .left) (p .result .right) (p .result .top) (s .pre .2) (p .ensures)
 
 returns-19 : tie.Need-returns-19
 returns-19 c =
@@ -270,10 +272,10 @@ returns-19 c =
 
 returns-20 : tie.Need-returns-20
 returns-20 c =
-    let a = c .before .before .before .before .before .before .before .before .before .before .before .before .before .args in
-    let r = c .before .before .before .before .match .rest in (
-      adv-big (a .code .now) (a .size) (a .mem .now) (a .run) (c .before .before .before .before .before .before .before .before .before .if1 .left)
-          (past-all (getD (a .code .now) (2 * a .run .pc) 0) (c .if7 .left) (r .0 .0 .0 .0 .0 .0 .0 .0 .0 .0 .0 .1) (r .0 .0 .0 .0 .0 .0 .0 .0 .0 .0 .1) (r .0 .0 .0 .0 .0 .0 .0 .0 .0 .1)
+    let a = c .before .before .before .before .before .before .before .before .before .before .before .before .args in
+    let r = c .before .before .before .match .rest in (
+      adv-big (a .code .now) (a .size) (a .mem .now) (a .run) (c .before .before .before .before .before .before .before .before .if1 .left)
+          (past-all (getD (a .code .now) (2 * a .run .pc) 0) (c .if6 .left) (r .0 .0 .0 .0 .0 .0 .0 .0 .0 .0 .0 .1) (r .0 .0 .0 .0 .0 .0 .0 .0 .0 .0 .1) (r .0 .0 .0 .0 .0 .0 .0 .0 .0 .1)
           (r .0 .0 .0 .0 .0 .0 .0 .0 .1) (r .0 .0 .0 .0 .0 .0 .0 .1) (r .0 .0 .0 .0 .0 .0 .1)
           (r .0 .0 .0 .0 .0 .1) (r .0 .0 .0 .0 .1) (r .0 .0 .0 .1) (r .0 .0 .1) (r .0 .1) (r .1)),
       refl,
@@ -317,11 +319,12 @@ advance-spec =
     ask-requires-2
     add-moved-4
     moved-requires-6
-    operate-requires
     pair-requires
-    add-t73
+    operate-requires
     same-length-2
     returns-4
+    add-t74
+    same-length-3
     returns-5
     returns-6
     returns-7
@@ -329,7 +332,6 @@ advance-spec =
     returns-9
     returns-10
     returns-11
-    same-length-3
     returns-12
     same-length-4
     returns-13
@@ -337,8 +339,8 @@ advance-spec =
     returns-14
     same-length-6
     returns-15
-    returns-16
     same-length-7
+    returns-16
     returns-17
     same-length-8
     returns-18
