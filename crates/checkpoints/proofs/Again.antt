@@ -1,5 +1,6 @@
 -- Once the live words are back and the ranges are worked anew, what stands in the memory is what stood at the checkpoint.
 use mathlib.Core.Path.{_≡_, refl, sym, ap, ap₂, _∙_, subst}
+use mathlib.Core.Logic.{⊎-elim}
 use mathlib.Core.List.{List, [], _∷_, map}
 use Prim.Native.Nat.{ℕ, zero, suc, _+_, _-_, _*_, _≤_, _<_}
 use native.Mathlib.Omega.{arith}
@@ -14,11 +15,11 @@ use Rattle.simulation.specs.Resume.{forcing}
 use Rattle.simulation.specs.Nodes.{Cell, Node, Noted, meaning, Within, testOf, ranges}
 use Rattle.intervals.specs.Meaning.{ofPair, ofPairs}
 use Rattle.window_memory.specs.Memory.{pairAt, pairsAt}
-use Rattle.machine.specs.Layout.{framePlace, callersPlace, callerPlace, windowsPlace, startsPlace, tempPlace, tempEnd, nodePlace, nodeEnd, rangeLow, rangeEnd, testPlace, outcomePlace, outcomeEnd, indexEnd}
+use Rattle.machine.specs.Layout.{frameWords, framePlace, callersPlace, callerPlace, windowsPlace, startsPlace, tempPlace, tempEnd, nodePlace, nodeEnd, rangeLow, rangeEnd, testPlace, outcomePlace, outcomeEnd, indexEnd}
 use Rattle.machine.specs.Memory.{nodeAt, nodesIn, machineAt, windowsIn, startsIn, rangesIn, testAt, testsIn, outcomesIn}
 use Rattle.machine.specs.Contracts.{Room, Ready}
 use Rattle.machine.proofs.Tables.{Same, stacked-same, frame-same, temps-same, callers-same, room-same}
-use Rattle.machine.proofs.Stays.{held-stays, framed-stays}
+use Rattle.machine.proofs.Stays.{three, held-stays, framed-stays}
 use Rattle.paths.specs.declared.Point.{Point}
 use Rattle.paths.specs.Table.{Windows, Anew}
 use Rattle.paths.specs.Choice.{Named, Tables}
@@ -60,7 +61,7 @@ module _ (m m₀ m₁ : List ℕ) (p : Point) (w : ℕ) (saved : Saved m m₀ p 
   live₁ i x l v = back .words m₀ (saved .lives) i x l v
 
   table₁ : (x j : ℕ) → nodePlace j ≤ x → x < indexEnd j → getD m₁ x 0 ≡ getD m x 0
-  table₁ x j a b = back .other x (λ i l v. live-table deep few v j a b)
+  table₁ x j a b = back .other x (omega arith) (λ i l v. live-table deep few v j a b)
 
   windows₁ : windowsIn m₁ k ≡ windowsIn m₀ k
   windows₁ = pairs-front m₀ m₁ windowsPlace 8 k (λ x a b. live₁ (called d + (x - windowsPlace)) x (omega arith) (window (omega arith) (omega arith) (omega arith)))
@@ -111,7 +112,12 @@ module _ (m m₀ m₁ : List ℕ) (p : Point) (w : ℕ) (saved : Saved m m₀ p 
     same = record {
       d-fits = omega (arith, deep);
       c-fits = deep;
-      frames = λ x l. live₂ x x (omega arith) (frame (omega arith) refl);
+      frames = λ x l. ⊎-elim
+          (λ e. live₂ (x - frameWords) x (omega arith) (frame (omega arith) (omega arith)))
+          (λ h. ⊎-elim
+          (λ h. anew .other x (λ j g u v. omega arith) ∙ back .unused .blank x h ∙ sym (saved .unused .blank x h))
+          (λ h. live₂ (x - frameWords) x (omega arith) (frame (omega arith) (omega arith))) h)
+          (three x frameWords);
       saved = λ x a b. live₂ (framed d + (x - callersPlace)) x (omega arith) (caller (omega arith) (omega arith) (omega arith));
       held = λ x j l a b. live₂ (paired d k + 2 * j + (x - tempPlace j)) x (omega arith) (temporary j (x - tempPlace j) (omega arith) refl (omega arith));
     }

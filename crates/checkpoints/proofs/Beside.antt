@@ -19,7 +19,7 @@ use Rattle.paths.proofs.Choice.{outcomes-same}
 use Rattle.paths.proofs.Choosing.{test-same, tests-same}
 use Rattle.paths.proofs.Machinery.{ready-stays}
 use Rattle.checkpoints.specs.Live.{liveWords, sizeOf, numberWords}
-use Rattle.checkpoints.specs.Words.{bitOf, numbersOf, wordAt, pointAt, Marking, Copied, Numbered, Saved}
+use Rattle.checkpoints.specs.Words.{bitOf, numbersOf, wordAt, pointAt, Marking, Copied, Numbered, Unused, Saved}
 use Rattle.checkpoints.proofs.Places.{mark-apart}
 
 -- ---- only words of the checkpoints changed
@@ -113,17 +113,19 @@ point-is m p w e h = λ i. record {
 pub saved-stays : (m m′ m₀ : List ℕ) (p : Point) (w : ℕ) → ((v : ℕ) → w ≤ v → v < w + sizeOf p → wordAt m′ v ≡ wordAt m v) → length m′ ≡ length m → Saved m m₀ p w → Saved m′ m₀ p w
 saved-stays m m′ m₀ p w h len s = record {
   lives = record { words = λ i x l v. h (w + i) (omega arith) (omega arith) ∙ s .lives .words i x l v };
+  unused = s .unused;
   numbers = point-same m m′ (w + liveWords p) (λ v a b. h v (omega arith) (omega arith)) ∙ s .numbers;
   going = s .going;
   same-length = s .same-length ∙ sym len;
 }
 
 -- it is written
-pub saved-so : (m m₁ m₂ : List ℕ) (p : Point) (w : ℕ) → Going m p → p .forced ≡ 0 → length m₂ ≡ length m → Copied m m₁ p w (liveWords p) → Numbered m₁ m₂ (numbersOf p) (w + liveWords p) numberWords
+pub saved-so : (m m₁ m₂ : List ℕ) (p : Point) (w : ℕ) → Going m p → Unused m → p .forced ≡ 0 → length m₂ ≡ length m → Copied m m₁ p w (liveWords p) → Numbered m₁ m₂ (numbersOf p) (w + liveWords p) numberWords
     → Saved m₂ m p w × Marking m m₂ w (sizeOf p)
-saved-so m m₁ m₂ p w g e len a b = (
+saved-so m m₁ m₂ p w g u e len a b = (
   record {
-    lives = record { words = λ i x l v. b .marking .other (markPlace (w + i)) (λ u c d. mark-apart (w + i) u (omega arith)) ∙ a .words i x l v };
+    lives = record { words = λ i x l v. b .marking .other (markPlace (w + i)) (λ q c d. mark-apart (w + i) q (omega arith)) ∙ a .words i x l v };
+    unused = u;
     numbers = point-is m₂ p (w + liveWords p) e (b .words);
     going = g;
     same-length = sym len;

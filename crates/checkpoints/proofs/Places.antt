@@ -4,7 +4,7 @@ use mathlib.Core.List.{List}
 use Prim.Native.Nat.{ℕ, _+_, _*_, _/_, _≤_, _<_}
 use native.Mathlib.Omega.{arith}
 use lib.ListN.{length}
-use Rattle.machine.specs.Layout.{tablesPlace, stride, nodePlace, indexEnd, markPlace}
+use Rattle.machine.specs.Layout.{frameWords, tablesPlace, stride, nodePlace, indexEnd, markPlace}
 use Rattle.checkpoints.specs.Live.{Live, frame, caller, window, pair, temporary, paired, Space}
 
 -- ---- the words of the checkpoints
@@ -53,6 +53,14 @@ module _ {d k i x : ℕ} (deep : d ≤ 32) (few : k ≤ 8) where
   live-below t (window a b c) l = omega arith
   live-below t (pair a b c) l = omega arith
   live-below t (temporary j b a c e) l = omega arith
+
+  -- behind the first frame
+  pub live-high : Live d k i x → frameWords ≤ x
+  live-high (frame a b) = omega arith
+  live-high (caller a b c) = omega arith
+  live-high (window a b c) = omega arith
+  live-high (pair a b c) = omega arith
+  live-high (temporary j b a c e) = omega arith
 
   -- no live word is a word of the checkpoints, or of any table but the temporaries
   pub live-table : Live d k i x → (j : ℕ) → nodePlace j ≤ x → x < indexEnd j → ⊥

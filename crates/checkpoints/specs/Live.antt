@@ -6,9 +6,9 @@ use Rattle.machine.specs.Layout.{frameWords, callersPlace, windowsPlace, starts
 use Rattle.machine.specs.Contracts.{Room}
 use Rattle.paths.specs.declared.Point.{Point}
 
--- how many there are, at depth d with k windows: those of the frames; with the callers'; with the windows'; with the pairs that these started as
+-- how many there are, at depth d with k windows: those of the frames, but for the first, which is blank; with the callers'; with the windows'; with the pairs that these started as
 abbrev pub framed : ℕ → ℕ
-framed d = frameWords * d + frameWords
+framed d = frameWords * d
 
 abbrev pub called : ℕ → ℕ
 called d = framed d + 2 * d
@@ -21,7 +21,7 @@ paired d k = windowed d k + 2 * k
 
 -- live word i stands at x
 pub data Live (d k i x : ℕ) : Type 0 where
-  frame : i < framed d → x ≡ i → Live d k i x
+  frame : i < framed d → x ≡ frameWords + i → Live d k i x
   caller : framed d ≤ i → i < called d → x ≡ callersPlace + (i - framed d) → Live d k i x
   window : called d ≤ i → i < windowed d k → x ≡ windowsPlace + (i - called d) → Live d k i x
   pair : windowed d k ≤ i → i < paired d k → x ≡ startsPlace + (i - windowed d k) → Live d k i x

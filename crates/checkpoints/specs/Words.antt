@@ -5,8 +5,9 @@ use mathlib.Core.Bool.{Bool, true, false}
 use mathlib.Core.List.{List, [], _∷_}
 use lib.ListN.{length, getD}
 use Rattle.simulation.specs.Resume.{forcing}
-use Rattle.machine.specs.Layout.{nodePlace, nodeEnd, testPlace, outcomeEnd, markPlace}
+use Rattle.machine.specs.Layout.{frameWords, nodePlace, nodeEnd, testPlace, outcomeEnd, markPlace}
 use Rattle.machine.specs.Memory.{machineAt, outcomeAs, outcomesIn}
+use Rattle.machine.specs.Contracts.{Other}
 use Rattle.machine.specs.declared.Run.{Run}
 use Rattle.paths.specs.declared.Point.{Point}
 use Rattle.paths.specs.Point.{stateAt, Going, Stays}
@@ -50,6 +51,20 @@ pub record Sized (p : Point) : Type 0 where
 pub record Marking (m m′ : List ℕ) (w n : ℕ) : Type 0 where
   pub other : (x : ℕ) → ((v : ℕ) → w ≤ v → v < w + n → x ≡ markPlace v → ⊥) → getD m′ x 0 ≡ getD m x 0
 
+-- none of n words from x on is a word of the checkpoints
+pub record Clear (x n : ℕ) : Type 0 where
+  pub apart : (i v : ℕ) → i < n → x + i ≡ markPlace v → ⊥
+
+-- n words from x on were copied to words of the checkpoints, from word w on
+pub record RunSaved (m m′ : List ℕ) (x n w : ℕ) : Type 0 where
+  pub marking : Marking m m′ w n
+  pub words : (i : ℕ) → i < n → getD m′ (markPlace (w + i)) 0 ≡ getD m (x + i) 0
+
+-- and back
+pub record RunBack (m m′ : List ℕ) (x n w : ℕ) : Type 0 where
+  pub other : Other m m′ x (x + n)
+  pub words : (i : ℕ) → i < n → getD m′ (x + i) 0 ≡ getD m (markPlace (w + i)) 0
+
 -- the first n live words were copied there
 pub record Copied (m m′ : List ℕ) (p : Point) (w n : ℕ) : Type 0 where
   pub marking : Marking m m′ w n
@@ -64,9 +79,14 @@ pub record Numbered (m m′ : List ℕ) (h : List ℕ) (w n : ℕ) : Type 0 wher
 pub record Lives (m m₀ : List ℕ) (p : Point) (w : ℕ) : Type 0 where
   pub words : (i x : ℕ) → i < liveWords p → Live (p .run .depth) (p .windows) i x → getD m (markPlace (w + i)) 0 ≡ getD m₀ x 0
 
--- the first n live words are back, from word w of the checkpoints on
+-- the first frame, that of the start, which calls main, is blank: nothing is ever stored there
+pub record Unused (m : List ℕ) : Type 0 where
+  pub blank : (x : ℕ) → x < frameWords → getD m x 0 ≡ 0
+
+-- the first n live words are back, from word w of the checkpoints on, and the first frame is blank
 pub record Back (m m′ : List ℕ) (p : Point) (w n : ℕ) : Type 0 where
-  pub other : (x : ℕ) → ((i : ℕ) → i < n → Live (p .run .depth) (p .windows) i x → ⊥) → getD m′ x 0 ≡ getD m x 0
+  pub unused : Unused m′
+  pub other : (x : ℕ) → frameWords ≤ x → ((i : ℕ) → i < n → Live (p .run .depth) (p .windows) i x → ⊥) → getD m′ x 0 ≡ getD m x 0
   pub words : (m₀ : List ℕ) → Lives m m₀ p w → (i x : ℕ) → i < n → Live (p .run .depth) (p .windows) i x → getD m′ x 0 ≡ getD m₀ x 0
 
 -- ---- a checkpoint
@@ -74,6 +94,7 @@ pub record Back (m m′ : List ℕ) (p : Point) (w n : ℕ) : Type 0 where
 -- the memory m₀ at the point p is kept from word w on; a checkpoint has no forced outcome
 pub record Saved (m m₀ : List ℕ) (p : Point) (w : ℕ) : Type 0 where
   pub lives : Lives m m₀ p w
+  pub unused : Unused m₀
   pub numbers : pointAt m (w + liveWords p) ≡ p
   pub going : Going m₀ p
   pub same-length : length m₀ ≡ length m

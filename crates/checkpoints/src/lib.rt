@@ -2,11 +2,14 @@
 ghost use mathlib.Core.Path.{_≡_};
 ghost use mathlib.Core.List.{List};
 ghost use Prim.Native.Nat.{ℕ, _+_, _-_, _<_, _≤_};
-ghost use Rattle.machine.specs.Layout.{markPlace};
+ghost use mathlib.Core.Bool.{true};
+ghost use lib.ListN.{length};
+ghost use Rattle.machine.specs.Layout.{frameWords, tablesPlace, markPlace};
+ghost use Rattle.machine.specs.Contracts.{Other};
 ghost use Rattle.paths.specs.declared.Point as point;
 ghost use Rattle.paths.specs.Point.{Going};
-ghost use Rattle.checkpoints.specs.Live.{Live, liveWords, sizeOf, numberWords, Small, Reaches, Space};
-ghost use Rattle.checkpoints.specs.Words.{bitOf, numbersOf, wordAt, pointAt, Sized, Marking, Copied, Numbered, Back, Saved, Agrees, forced as forcedS, Restored, Ends};
+ghost use Rattle.checkpoints.specs.Live.{paired, liveWords, sizeOf, numberWords, Small, Reaches, Space};
+ghost use Rattle.checkpoints.specs.Words.{bitOf, numbersOf, wordAt, pointAt, Sized, Marking, Clear, RunSaved, RunBack, Unused, Copied, Numbered, Back, Saved, Agrees, forced as forcedS, Restored, Ends};
 use machine::Run;
 use machine::layout;
 use paths::Point;
@@ -22,39 +25,13 @@ fn mark_place(w: usize) -> usize
     layout::MARKS + layout::STRIDE * (w / layout::MARK_WORDS) + w % layout::MARK_WORDS
 }
 
-// Where live word i stands, at this depth and with so many windows: frames, callers, windows, the pairs that they started as, temporaries.
-fn live_place(depth: usize, windows: usize, i: usize) -> usize
-    requires { ⌜ (depth ≤ 32) × (windows ≤ 8) × (i < 17179869184) ⌝ }
-    ensures { λ r. ⌜ Live depth windows i r ⌝ }
-{
-    let frames = layout::FRAME * depth + layout::FRAME;
-    if i < frames {
-        return i;
-    }
-    let callers = frames + layout::CALLER * depth;
-    if i < callers {
-        return layout::CALLERS + (i - frames);
-    }
-    let pairs = callers + layout::WINDOW * windows;
-    if i < pairs {
-        return layout::WINDOWS + (i - callers);
-    }
-    let temporaries = pairs + layout::WINDOW * windows;
-    if i < temporaries {
-        return layout::STARTS + (i - pairs);
-    }
-    let j = i - temporaries;
-    layout::TEMPORARIES + layout::STRIDE * (j / layout::CELL) + j % layout::CELL
-}
-
 // How many words are live at a point.
 fn live_words(p: Point) -> usize
     requires { ⌜ Small p ⌝ }
     ensures { λ r. ⌜ r ≡ liveWords p ⌝ }
 {
     let run = p.run;
-    let frames = layout::FRAME * run.depth + layout::FRAME;
-    let callers = frames + layout::CALLER * run.depth;
+    let callers = layout::FRAME * run.depth + layout::CALLER * run.depth;
     let pairs = callers + layout::WINDOW * p.windows;
     pairs + layout::WINDOW * p.windows + layout::CELL * run.top
 }
@@ -67,20 +44,52 @@ pub fn size_of(p: Point) -> usize
     live_words(p) + NUMBERS
 }
 
-// The live words become words of the checkpoints, from word w on.
+// Copies n words from x on to words of the checkpoints, from word w on.
+fn save_run(mem: &mut [u32], x: usize, n: usize, w: usize)
+    requires { ⌜ (x + n ≤ length (now mem)) × Space (now mem) (w + n) × Clear x n ⌝ }
+    ensures { λ _. ⌜ RunSaved (now (mem .entry)) (now (mem .exit)) x n w ⌝ }
+{
+    let mut i: usize = 0;
+    while i < n {
+        let to = mark_place(w + i);
+        mem[to] = mem[x + i];
+        i += 1;
+    }
+}
+
+// The temporaries of the point p, live words from word i on, become words of the checkpoints.
+fn save_temporaries(mem: &mut [u32], p: Point, w: usize, i: usize)
+    requires { ⌜ Reaches (now mem) p × Space (now mem) (w + liveWords p) × (i ≡ paired (p .run .depth) (p .windows)) ⌝ }
+    ensures { λ _. ⌜ ((m : List ℕ) → Copied m (now (mem .entry)) p w i → Copied m (now (mem .exit)) p w (liveWords p)) ⌝ }
+{
+    let run = p.run;
+    let top = run.top;
+    let mut j: usize = 0;
+    while j < top {
+        save_run(
+            mem,
+            layout::TEMPORARIES + layout::STRIDE * j,
+            layout::CELL,
+            w + i + layout::CELL * j,
+        );
+        j += 1;
+    }
+}
+
+// The live words become words of the checkpoints, from word w on: frames, callers, windows, the pairs that they started as, temporaries.
 fn save_words(mem: &mut [u32], p: Point, w: usize)
     requires { ⌜ Reaches (now mem) p × Space (now mem) (w + liveWords p) ⌝ }
     ensures { λ _. ⌜ Copied (now (mem .entry)) (now (mem .exit)) p w (liveWords p) ⌝ }
 {
     let run = p.run;
-    let n = live_words(p);
-    let mut i: usize = 0;
-    while i < n {
-        let x = live_place(run.depth, p.windows, i);
-        let to = mark_place(w + i);
-        mem[to] = mem[x];
-        i += 1;
-    }
+    let frames = layout::FRAME * run.depth;
+    let callers = layout::CALLER * run.depth;
+    let pairs = layout::WINDOW * p.windows;
+    save_run(mem, layout::FRAME, frames, w);
+    save_run(mem, layout::CALLERS, callers, w + frames);
+    save_run(mem, layout::WINDOWS, pairs, w + frames + callers);
+    save_run(mem, layout::STARTS, pairs, w + frames + callers + pairs);
+    save_temporaries(mem, p, w, frames + callers + pairs + pairs);
 }
 
 // Nine numbers become words of the checkpoints, from word w on.
@@ -153,12 +162,71 @@ pub fn point_at(mem: &[u32], w: usize) -> Point
 
 // Saves the point p from word w of the checkpoints on.
 pub fn save(mem: &mut [u32], p: Point, w: usize)
-    requires { ⌜ Going (now mem) p × Sized p × (p .forced ≡ 0) × Space (now mem) (w + sizeOf p) ⌝ }
+    requires { ⌜ Going (now mem) p × Sized p × (p .forced ≡ 0) × Space (now mem) (w + sizeOf p) × Unused (now mem) ⌝ }
     ensures { λ _. ⌜ Saved (now (mem .exit)) (now (mem .entry)) p w × Marking (now (mem .entry)) (now (mem .exit)) w (sizeOf p) ⌝ }
 {
     let n = live_words(p);
     save_words(mem, p, w);
     put_numbers(mem, numbers_of(p), w + n);
+}
+
+// Whether the first frame is blank.
+pub fn unused(mem: &[u32]) -> bool
+    requires { ⌜ tablesPlace ≤ length (now mem) ⌝ }
+    ensures { λ r. ⌜ (r ≡ true → Unused (now (mem .entry))) ⌝ }
+{
+    let mut i: usize = 0;
+    while i < layout::FRAME {
+        if mem[i] != 0 {
+            return false;
+        }
+        i += 1;
+    }
+    true
+}
+
+// Makes the first frame blank.
+fn clear_first(mem: &mut [u32])
+    requires { ⌜ tablesPlace ≤ length (now mem) ⌝ }
+    ensures { λ _. ⌜ Unused (now (mem .exit)) × Other (now (mem .entry)) (now (mem .exit)) 0 frameWords ⌝ }
+{
+    let mut i: usize = 0;
+    while i < layout::FRAME {
+        mem[i] = 0;
+        i += 1;
+    }
+}
+
+// Copies n words of the checkpoints, from word w on, to the words from x on.
+fn restore_run(mem: &mut [u32], x: usize, n: usize, w: usize)
+    requires { ⌜ (x + n ≤ length (now mem)) × Space (now mem) (w + n) × Clear x n ⌝ }
+    ensures { λ _. ⌜ RunBack (now (mem .entry)) (now (mem .exit)) x n w ⌝ }
+{
+    let mut i: usize = 0;
+    while i < n {
+        let from = mark_place(w + i);
+        mem[x + i] = mem[from];
+        i += 1;
+    }
+}
+
+// The temporaries of the point p, live words from word i on, are put back.
+fn restore_temporaries(mem: &mut [u32], p: Point, w: usize, i: usize)
+    requires { ⌜ Reaches (now mem) p × Space (now mem) (w + liveWords p) × (i ≡ paired (p .run .depth) (p .windows)) ⌝ }
+    ensures { λ _. ⌜ ((m : List ℕ) → Back m (now (mem .entry)) p w i → Back m (now (mem .exit)) p w (liveWords p)) ⌝ }
+{
+    let run = p.run;
+    let end = run.top;
+    let mut j: usize = 0;
+    while j < end {
+        restore_run(
+            mem,
+            layout::TEMPORARIES + layout::STRIDE * j,
+            layout::CELL,
+            w + i + layout::CELL * j,
+        );
+        j += 1;
+    }
 }
 
 // The live words of the point p are put back, from word w of the checkpoints on.
@@ -167,14 +235,15 @@ fn restore_words(mem: &mut [u32], p: Point, w: usize)
     ensures { λ _. ⌜ Back (now (mem .entry)) (now (mem .exit)) p w (liveWords p) ⌝ }
 {
     let run = p.run;
-    let n = live_words(p);
-    let mut i: usize = 0;
-    while i < n {
-        let x = live_place(run.depth, p.windows, i);
-        let from = mark_place(w + i);
-        mem[x] = mem[from];
-        i += 1;
-    }
+    let frames = layout::FRAME * run.depth;
+    let callers = layout::CALLER * run.depth;
+    let pairs = layout::WINDOW * p.windows;
+    clear_first(mem);
+    restore_run(mem, layout::FRAME, frames, w);
+    restore_run(mem, layout::CALLERS, callers, w + frames);
+    restore_run(mem, layout::WINDOWS, pairs, w + frames + callers);
+    restore_run(mem, layout::STARTS, pairs, w + frames + callers + pairs);
+    restore_temporaries(mem, p, w, frames + callers + pairs + pairs);
 }
 
 // The same point with f outcomes forced.

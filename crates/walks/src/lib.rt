@@ -7,13 +7,14 @@ ghost use Rattle.simulation.specs.Words.{codeIn};
 ghost use Rattle.intervals.specs.Meaning.{Filled, ofWindow};
 ghost use Rattle.machine.specs.Layout.{tablesPlace, markWords};
 ghost use Rattle.machine.specs.Memory.{machineAt, outcomesIn};
-ghost use Rattle.machine.specs.Contracts.{Started};
+ghost use Rattle.machine.specs.Contracts.{Ready, Started};
 ghost use Rattle.paths.specs.Point.{stateAt, Going};
 ghost use Rattle.checkpoints.specs.Live.{Small, Space};
 ghost use Rattle.walks.specs.Marks.{Due, Keeping, Dropped};
 ghost use Rattle.walks.specs.Walk.{atStart, Stands, Walking, Begins, FromMain};
 use code::entry;
 use intervals::Window;
+use machine::Run;
 use machine::Value;
 use machine::layout;
 use paths::Point;
@@ -48,9 +49,46 @@ fn compares(code: &[u32], size: usize, pc: usize) -> bool
     false
 }
 
+// The cells of a frame, as a word, and more entries than a program has.
+const FRAME_CELLS: u32 = layout::CELLS as u32;
+
+const MOST_ENTRIES: u32 = 65536;
+
+// Whether the operand that ends with entry e is open, where nothing was taken before it.
+fn open_at(code: &[u32], size: usize, mem: &[u32], run: Run, e: usize) -> bool
+    requires { ⌜ (2 * size ≤ length (now code)) × Ready (now mem) run ⌝ }
+{
+    if size <= e {
+        return false;
+    }
+    let kind = code[entry::WORDS * e];
+    if kind == entry::NUMBER {
+        return false;
+    }
+    if kind == entry::NAME {
+        let a = (code[entry::WORDS * e + entry::NUMBER_WORD] % FRAME_CELLS) as usize;
+        return mem[layout::FRAME * run.depth + layout::CELL * a] != 0;
+    }
+    if run.top == 0 {
+        return false;
+    }
+    mem[layout::TEMPORARIES + layout::STRIDE * (run.top - 1)] != 0
+}
+
+// Whether one of the operands of the comparison at pc is open, as far as can be seen at once: no test on known values is a choice.
+fn opens(code: &[u32], size: usize, mem: &[u32], run: Run) -> bool
+    requires { ⌜ (2 * size ≤ length (now code)) × (run .pc < size) × Ready (now mem) run ⌝ }
+{
+    let d = (code[entry::WORDS * run.pc + entry::NUMBER_WORD] % MOST_ENTRIES) as usize;
+    if open_at(code, size, mem, run, ints::monus(run.pc, 1)) {
+        return true;
+    }
+    open_at(code, size, mem, run, ints::monus(run.pc, d + 1))
+}
+
 // Whether a checkpoint is due: a choice may follow that no path has made yet, and the steps so far pay for one more, three words a step.
-fn is_due(code: &[u32], size: usize, p: Point, s: Stack) -> bool
-    requires { ⌜ (2 * size ≤ length (now code)) × Small p × (p .steps < 4294967296) × (s .limit < 4294967296) × (s .words ≤ markWords * s .limit) ⌝ }
+fn is_due(code: &[u32], size: usize, mem: &[u32], p: Point, s: Stack) -> bool
+    requires { ⌜ (2 * size ≤ length (now code)) × Small p × (p .steps < 4294967296) × (s .limit < 4294967296) × (s .words ≤ markWords * s .limit) × Ready (now mem) (p .run) ⌝ }
     ensures { λ r. ⌜ (r ≡ true → Due size p s) ⌝ }
 {
     if p.forced != 0 {
@@ -61,8 +99,10 @@ fn is_due(code: &[u32], size: usize, p: Point, s: Stack) -> bool
     }
     let run = p.run;
     if compares(code, size, run.pc) {
-        return s.words + checkpoints::size_of(p) + layout::MARK_WORDS * p.steps
-            <= layout::MARK_WORDS * s.limit;
+        if opens(code, size, mem, run) {
+            return s.words + checkpoints::size_of(p) + layout::MARK_WORDS * p.steps
+                <= layout::MARK_WORDS * s.limit;
+        }
     }
     false
 }
@@ -72,12 +112,14 @@ fn keep(code: &[u32], size: usize, mem: &mut [u32], p: Point, s: Stack) -> Stack
     requires { ⌜ (2 * size ≤ length (now code)) × (size < 65536) × Going (now mem) p × Space (now mem) (markWords * s .limit) × (s .limit < 4294967296) × (s .words ≤ markWords * s .limit) ⌝ }
     ensures { λ r. ⌜ Keeping size (now (mem .entry)) (now (mem .exit)) p s r ⌝ }
 {
-    if is_due(code, size, p, s) {
-        checkpoints::save(mem, p, s.words);
-        return Stack {
-            words: s.words + checkpoints::size_of(p),
-            limit: s.limit,
-        };
+    if is_due(code, size, mem, p, s) {
+        if checkpoints::unused(mem) {
+            checkpoints::save(mem, p, s.words);
+            return Stack {
+                words: s.words + checkpoints::size_of(p),
+                limit: s.limit,
+            };
+        }
     }
     s
 }

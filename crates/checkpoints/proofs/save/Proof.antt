@@ -48,7 +48,7 @@ returns : tie.Need-returns
 returns c =
     let m₁ = c .before .before .before .before .before .before .before .save-words .last .0 in
     let m₂ = c .before .before .put-numbers .last .0 in
-    saved-so (c .before .before .before .before .before .before .before .before .before .before .before .args .mem .now) m₁ m₂ (c .before .before .before .before .before .before .before .before .before .before .before .args .p) (c .before .before .before .before .before .before .before .before .before .before .before .args .w) (c .before .before .before .before .before .before .before .before .before .before .before .pre .0) (c .before .before .before .before .before .before .before .before .before .before .before .pre .2) (c .before .before .put-numbers .kept .0 ∙ c .before .before .before .before .before .before .before .save-words .kept .0) (c .before .before .before .before .before .before .before .save-words .ensures)
+    saved-so (c .before .before .before .before .before .before .before .before .before .before .before .args .mem .now) m₁ m₂ (c .before .before .before .before .before .before .before .before .before .before .before .args .p) (c .before .before .before .before .before .before .before .before .before .before .before .args .w) (c .before .before .before .before .before .before .before .before .before .before .before .pre .0) (c .before .before .before .before .before .before .before .before .before .before .before .pre .4) (c .before .before .before .before .before .before .before .before .before .before .before .pre .2) (c .before .before .put-numbers .kept .0 ∙ c .before .before .before .before .before .before .before .save-words .kept .0) (c .before .before .before .before .before .before .before .save-words .ensures)
     (subst (λ (h : List ℕ). Numbered m₁ m₂ h (c .before .before .before .before .before .before .before .before .before .before .before .args .w + liveWords (c .before .before .before .before .before .before .before .before .before .before .before .args .p)) numberWords) (c .before .before .before .numbers-of .ensures)
     (subst (λ (n : ℕ). Numbered m₁ m₂ (c .before .before .before .numbers-of .result) (c .before .before .before .before .before .before .before .before .before .before .before .args .w + n) numberWords) (c .before .before .before .before .before .before .before .before .before .live-words .ensures) (c .before .before .put-numbers .ensures)))
 
