@@ -1,6 +1,5 @@
 -- The checkpoints of a search: they are paid for, and they stay where what they rest on does; one more is added.
 use mathlib.Core.Path.{_≡_, refl, sym, ap, ap₂, _∙_, subst}
-use mathlib.Core.Bool.{Bool, true, false}
 use mathlib.Core.List.{List}
 use Prim.Native.Nat.{ℕ, _+_, _-_, _*_, _/_, _≤_, _<_}
 use native.Mathlib.Omega.{arith}
@@ -24,13 +23,6 @@ use Rattle.checkpoints.proofs.Beside.{off, machinery-is, state-is, going-is, sa
 use Rattle.walks.specs.declared.Stack.{Stack}
 use Rattle.walks.specs.Marks.{ComesTo, Mark, Marks, none, mark, Stacked, Due, added, Keeping, passed, kept}
 use Rattle.walks.specs.Walk.{Stands}
-
-abbrev Never : Bool → Type 0
-Never true = ⊥
-Never false = Unit {0}
-
-pub never : {A : Type 0} → false ≡ true → A
-never e = absurd (subst Never e tt)
 
 -- the numbers of a point fit into words
 pub small-so : {m : List ℕ} {p : Point} → Going m p → Small p

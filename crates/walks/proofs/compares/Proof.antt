@@ -1,5 +1,5 @@
 use borrow.Author.Needs.{needs}
-use Rattle.walks.proofs.Marks.{never}
+use Rattle.checkpoints.proofs.Copying.{never}
 use Rattle.walks.proofs.compares.Statement.{statement}
 use Rattle.walks.proofs.compares.Tie as tie
 use Rattle.walks.proofs.compares.Reads as reads

@@ -1,7 +1,7 @@
 use native.Mathlib.Omega.{arith}
 use Prim.Native.Nat.{_+_, _*_}
 use borrow.Author.Tests.{leb-true}
-use Rattle.walks.proofs.Marks.{never}
+use Rattle.checkpoints.proofs.Copying.{never}
 use borrow.Author.Needs.{needs}
 use Rattle.walks.proofs.is_due.Statement.{statement}
 use Rattle.walks.proofs.is_due.Tie as tie
