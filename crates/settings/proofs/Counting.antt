@@ -14,7 +14,7 @@ use Rattle.semantics.specs.Search.{Value, Test, under, meets, Answer, full, spe
 use Rattle.simulation.specs.Lister as lister
 use Rattle.simulation.specs.Lister.{Next, then, go, over, closed, tally}
 use Rattle.settings.specs.Rows.{rowsAt, rowWith, rowAt, wordsOf, wordsFrom, Written}
-use Rattle.settings.specs.Tries.{tallyOf, tallyIn, spending, Moved, Charged, Rowed, Placing, Trying}
+use Rattle.settings.specs.Tries.{tallyOf, tallyIn, spending, cutting, Moved, Charged, Rowed, Placing, Trying}
 use Rattle.settings.specs.declared.Tally.{Tally}
 use Rattle.settings.specs.declared.Tried.{Tried}
 use Rattle.settings.specs.declared.Tried.the-variants.{Go, Full, Spent}
@@ -178,9 +178,6 @@ module _ (v : Value) (ts : List Test) (s : List ℤ) where
         (subst (λ (x : Row). Placing rows rows′ u (lister.place x (tallyOf rows u)) r) (ap₂ rowWith b c) p))
 
 -- ---- a setting tried at a cut
-
-abbrev pub cutting : Tally → Bool → Tally
-cutting t b = record { budget = t .budget; skip = t .skip; room = t .room; written = t .written; moves = t .moves; cut = b }
 
 module _ (ts : List Test) (s : List ℤ) where
   probe-over : (T : lister.Tally) {a : Answer} → over a ≡ lister.charge T → over a ≡ lister.probe ts s T

@@ -160,9 +160,9 @@ module _ (ts : List Test) (ws : List Window) (t₀ : Tally) where
   unfolding lister.probes
   miss s ss t e = ap (λ (b : Bool). elim b as (λ b. Next lister.Tally) [ true ↦ go t | false ↦ then (lister.probe ts s t) (lister.probes ts ss) ]) (sym e)
 
-  -- a cut run was found
-  pub probes-hit : {s : List ℤ} {t : Tally} → Probes s t → t .cut ≡ true → Counted t₀ probing (Go t)
-  probes-hit {s} {t} p e = record { is = λ rows. hit (from ws s) (tallyOf rows t) e ∙ p .is rows; counts = p .counts; same = p .same }
+  -- a cut run was found before
+  pub probes-before : t₀ .cut ≡ true → Counted t₀ probing (Go t₀)
+  probes-before e = record { is = λ rows. hit (settings ws) (tallyOf rows t₀) e; counts = counts-none t₀; same = refl }
 
   module _ {s : List ℤ} {t : Tally} (p : Probes s t) (m : t .cut ≡ false) {r : Tried} (q : Charged t (λ rows. lister.probe ts s (tallyOf rows t)) r) where
     probed : (rows : List ℤ) → then (nextOf rows r) (lister.probes ts (onward ws (after ws s))) ≡ probing rows
@@ -195,6 +195,14 @@ module _ (ts : List Test) (ws : List Window) (t₀ : Tally) where
     unfolding lister.probes
     probes-last e = record {
       is = λ rows. ap (λ (x : Option (List ℤ)). lister.probes ts (onward ws x) (tallyOf rows u)) (sym e) ∙ probed p m q rows;
+      counts = counts-more (p .counts) (q .counted .counts);
+      same = q .counted .same ∙ p .same;
+    }
+
+    -- a cut run was found
+    pub probes-done : u .cut ≡ true → Counted t₀ probing (Go u)
+    probes-done e = record {
+      is = λ rows. hit (onward ws (after ws s)) (tallyOf rows u) e ∙ probed p m q rows;
       counts = counts-more (p .counts) (q .counted .counts);
       same = q .counted .same ∙ p .same;
     }

@@ -6,5 +6,10 @@ pub mod Sheet
 pub mod Counting
 pub mod Slice
 pub mod Renumbered
+pub mod Placed
+pub mod Planning
+pub mod Rising
+pub mod Seeking
 pub mod Going
+pub mod Missing
 pub mod Loops

@@ -2,26 +2,35 @@
 use mathlib.Core.Path.{_≡_, refl, sym, ap, ap₂, _∙_, subst}
 use mathlib.Core.Bool.{Bool, true, false, not}
 use mathlib.Core.List.{List}
-use Prim.Native.Nat.{ℕ, _*_, _≤_}
+use Prim.Native.Nat.{ℕ, suc, _+_, _-_, _*_, _≤_, _<_}
 use native.Mathlib.Omega.{arith}
 use lib.Dec.{T}
 use lib.ListN.{length}
 use lib.IntN.{ℤ}
 use Rattle.semantics.specs.Program.{Window}
-use Rattle.semantics.specs.Search.{Value, Test, Answer}
+use Rattle.semantics.specs.Search as search
+use Rattle.semantics.specs.Search.{Value, Test, Answer, under}
 use Rattle.simulation.specs.Nodes.{Cell, Node, meaning}
 use Rattle.simulation.specs.Odometer.{filled, lowest, after}
 use Rattle.simulation.specs.Lister as lister
-use Rattle.simulation.specs.Lister.{Next, over}
+use Rattle.simulation.specs.Lister.{Next}
 use Rattle.machine.specs.Memory.{nodesIn, settingIn, windowsIn}
-use Rattle.settings.specs.Table.{First, nextAs, Follows, Renumbered, Steady}
-use Rattle.settings.specs.Tries.{tallyOf, nextOf, tests, Fair, Counts, Counted, Charged, Placing, Trying}
+use Rattle.settings.specs.Table.{Worked, First, nextAs, Follows, Renumbered, Steady}
+use Rattle.settings.specs.Plan.{Front}
+use Rattle.settings.specs.Seek.{Missed, Seeks, met, over, out, Seeking}
+use Rattle.settings.specs.Rows.{rowWith}
+use Rattle.settings.specs.Tries.{tallyOf, nextOf, leaving, cutting, tests, Fair, Counts, Counted, Placing, Trying}
 use Rattle.settings.specs.declared.Tally.{Tally}
 use Rattle.settings.specs.declared.Tried.{Tried}
-use Rattle.settings.specs.declared.Tried.the-variants.{Go}
+use Rattle.settings.specs.declared.Tried.the-variants.{Go, Spent}
+use Rattle.settings.specs.declared.Sought.{Sought}
+use Rattle.settings.specs.declared.Sought.the-variants.{Met, Over, Out}
 use Rattle.settings.proofs.Pass.{not-true, not-false}
-use Rattle.settings.proofs.Renumbered.{setting-stays, nodes-steady, tests-steady, windows-steady, steady-none, steady-numbers, steady-setting}
-use Rattle.settings.proofs.Going.{whole, Tries, tries-none, tries-first, tries-over, tries-next, tries-last, probing, Probes, probes-none, probes-first, probes-hit, probes-over, probes-next, probes-last}
+use Rattle.settings.proofs.Renumbered.{setting-stays, nodes-steady, tests-steady, windows-steady, steady-none, steady-numbers, steady-setting, steady-more}
+use Rattle.settings.proofs.Going.{whole, Tries, tries-none, tries-first, tries-over, tries-next, tries-last, probing, Probes, probes-none, probes-before, probes-first}
+use Rattle.settings.proofs.Counting.{trying-placed}
+use Rattle.settings.proofs.Planning.{front-tests}
+use Rattle.settings.proofs.Missing.{leaving-one, tries-missed, tries-end, tries-spent, probes-met, probes-end, probes-spent}
 
 pub fair-more : {t u : Tally} (size size′ : ℕ) → size′ ≡ size → Fair size t → Counts t u → Fair size′ u
 fair-more size size′ e f c = record { sum = omega (arith, f .sum, c .sum); place = subst (λ (n : ℕ). 10 * n ≤ size′) (sym (c .places)) (omega (arith, f .place)) }
@@ -51,9 +60,6 @@ module _ (m₀ m m₁ m₂ : List ℕ) (k : ℕ) (few : k ≤ 8) (s : Steady m�
 
   goes-steady : Steady m₀ m₂
   goes-steady = steady-setting m₀ m₁ m₂ k few (steady-numbers m₀ m m₁ s r) (f .other)
-
-steady-more : (m m₁ m₂ : List ℕ) → Steady m m₁ → Steady m₁ m₂ → Steady m m₂
-steady-more m m₁ m₂ a b = record { other = λ i h g. b .other i h g ∙ a .other i h g }
 
 -- ---- at a return
 
@@ -91,7 +97,7 @@ module _ {m₀ : List ℕ} {n c k : ℕ} {v : Cell} {rows₀ : List ℤ} {t₀ :
   tried u a = subst (λ (u : Tried). Trying rows rows′ t (lister.trial (meant m₀ n v) (tests m₀ n c) (settingIn m k) (tallyOf rows t)) u) a
       (there m₀ m n c v (p .steady) (λ w ts. Trying rows rows′ t (lister.trial w ts (settingIn m k) (tallyOf rows t)) r) q)
 
-  pub trialling-over : (u : Tried) {a : Answer} → r ≡ u → nextOf rows′ u ≡ over a → Placing rows₀ rows′ t₀ (Whole m₀ n c k v rows₀ t₀) u × Steady m₀ m₁
+  pub trialling-over : (u : Tried) {a : Answer} → r ≡ u → nextOf rows′ u ≡ lister.over a → Placing rows₀ rows′ t₀ (Whole m₀ n c k v rows₀ t₀) u × Steady m₀ m₁
   trialling-over u a b = (tries-over (meant m₀ n v) (tests m₀ n c) (windowsIn m₀ k) rows₀ t₀ (p .tries) (tried u a) b, steady-numbers m₀ m m₁ (p .steady) e)
 
   pub trialling-next : (m₂ : List ℕ) (u : Tally) → r ≡ Go u → Follows m₁ m₂ k true → length m₂ ≡ length m → length rows′ ≡ length rows → Trialling m₀ n c k v rows₀ t₀ m₂ rows′ u
@@ -105,6 +111,79 @@ module _ {m₀ : List ℕ} {n c k : ℕ} {v : Cell} {rows₀ : List ℤ} {t₀ :
   pub trialling-last : (m₂ : List ℕ) (u : Tally) → r ≡ Go u → Follows m₁ m₂ k false → Placing rows₀ rows′ t₀ (Whole m₀ n c k v rows₀ t₀) (Go u) × Steady m₀ m₂
   trialling-last m₂ u a f =
       (tries-last (meant m₀ n v) (tests m₀ n c) (windowsIn m₀ k) rows₀ t₀ (p .tries) (tried (Go u) a) (after-is m₀ m m₁ m₂ k few (p .steady) e f), goes-steady m₀ m m₁ m₂ k few (p .steady) e f)
+
+-- ---- what seeking answers, at a return
+
+-- a setting that meets the tests, with so many moves left before it is tried
+pub record MetAs (ws : List Window) (ts : List Test) (s : List ℤ) (most : ℕ) (m : List ℕ) (n k left : ℕ) : Type 0 where
+  pub count : ℕ
+  pub missed : Missed ws ts s count (settingIn m k)
+  pub sum : count + left ≡ most
+  pub more : 0 < left
+  pub meets : search.meets ts (settingIn m k) ≡ true
+  pub worked : Worked m n k
+
+met-as : {ws : List Window} {ts : List Test} {s : List ℤ} {most : ℕ} {m : List ℕ} {n k left : ℕ} → Seeks ws ts s most m n k (Met left) → MetAs ws ts s most m n k left
+met-as (met {j} a b c d e) = record { count = j; missed = a; sum = b; more = c; meets = d; worked = e }
+
+over-left : {ws : List Window} {ts : List Test} {s : List ℤ} {most : ℕ} {m : List ℕ} {n k left : ℕ} → Seeks ws ts s most m n k (Over left) → left ≤ most
+over-left (over a b c d) = omega arith
+
+-- no more moves are left than there were
+pub over-within : (m m₁ : List ℕ) (n c k most : ℕ) (r : Sought) (left : ℕ) → Seeking m m₁ n c k most r → r ≡ Over left → left ≤ most
+over-within m m₁ n c k most r left g e = over-left (subst (λ (u : Sought). Seeking m m₁ n c k most u) e g)
+
+module _ (m₀ : List ℕ) (n c k upto : ℕ) (few : k ≤ 8) (front : Front m₀ n c upto) (m m₁ : List ℕ) (s : Steady m₀ m) (most : ℕ) (r : Sought) (g : Seeking m m₁ upto c k most r) where
+  -- said of the first memory, and of all its nodes
+  sought : (u : Sought) → r ≡ u → Seeks (windowsIn m₀ k) (tests m₀ n c) (settingIn m k) most m₁ upto k u
+  sought u e = subst (λ (ts : List Test). Seeks (windowsIn m₀ k) ts (settingIn m k) most m₁ upto k u) (tests-steady m₀ m s upto c ∙ front-tests m₀ n c upto front)
+      (subst (λ (ws : List Window). Seeks ws (tests m upto c) (settingIn m k) most m₁ upto k u) (windows-steady m₀ m s k few)
+      (subst (λ (u : Sought). Seeking m m₁ upto c k most u) e g))
+
+  pub sought-met : (left : ℕ) → r ≡ Met left → MetAs (windowsIn m₀ k) (tests m₀ n c) (settingIn m k) most m₁ upto k left
+  sought-met left e = met-as (sought (Met left) e)
+
+module _ {m₀ : List ℕ} {n c k : ℕ} {v : Cell} {rows₀ : List ℤ} {t₀ : Tally} {m : List ℕ} {rows : List ℤ} {t : Tally} (few : k ≤ 8) (p : Trialling m₀ n c k v rows₀ t₀ m rows t) (upto : ℕ)
+    (front : Front m₀ n c upto) (m₁ : List ℕ) (r : Sought) (g : Seeking m m₁ upto c k (t .budget) r) (s : Steady m m₁) where
+  is-met : (left : ℕ) → r ≡ Met left → MetAs (windowsIn m₀ k) (tests m₀ n c) (settingIn m k) (t .budget) m₁ upto k left
+  is-met left e = sought-met m₀ n c k upto few front m m₁ (p .steady) (t .budget) r g left e
+
+  pub met-within : (left : ℕ) → r ≡ Met left → (0 < left) × (left ≤ t .budget)
+  met-within left e = (is-met left e .more, omega (arith, is-met left e .sum))
+
+  pub met-worked : (left : ℕ) → r ≡ Met left → Worked m₁ upto k
+  met-worked left e = is-met left e .worked
+
+  pub trialling-met : (left : ℕ) → r ≡ Met left → length m₁ ≡ length m → Trialling m₀ n c k v rows₀ t₀ m₁ rows (leaving t left)
+  trialling-met left e x = record {
+    size = x ∙ p .size;
+    sheet = p .sheet;
+    steady = steady-more m₀ m m₁ (p .steady) s;
+    tries = tries-missed (meant m₀ n v) (tests m₀ n c) (windowsIn m₀ k) rows₀ t₀ (p .tries) (is-met left e .missed) (omega (arith, is-met left e .sum)) left (is-met left e .sum);
+  }
+
+  -- its row
+  pub trialling-row : (left : ℕ) → r ≡ Met left → (rows′ : List ℤ) (u : Tally) → u ≡ leaving t (left - 1) → (x : Tried)
+      → Placing rows rows′ u (lister.place (rowWith (under (settingIn m₁ k) (meant m₁ n v)) (settingIn m₁ k)) (tallyOf rows u)) x
+      → Trying rows rows′ (leaving t left) (lister.trial (meant m₁ n v) (tests m₁ n c) (settingIn m₁ k) (tallyOf rows (leaving t left))) x
+  trialling-row left e rows′ u a x q = trying-placed (meant m₁ n v) (tests m₁ n c) (settingIn m₁ k) rows (leaving t left) rows′ x u (under (settingIn m₁ k) (meant m₁ n v)) (settingIn m₁ k)
+      (λ z. omega (arith, is-met left e .more))
+      (ap (λ (ts : List Test). search.meets ts (settingIn m₁ k)) (tests-steady m₀ m₁ (steady-more m₀ m m₁ (p .steady) s) n c) ∙ is-met left e .meets)
+      (a ∙ leaving-one t left (is-met left e .more) (omega (arith, is-met left e .sum))) refl refl q
+
+  ended : {left : ℕ} → Seeks (windowsIn m₀ k) (tests m₀ n c) (settingIn m k) (t .budget) m₁ upto k (Over left) → Placing rows₀ rows t₀ (Whole m₀ n c k v rows₀ t₀) (Go (leaving t left)) × Steady m₀ m₁
+  ended {left} (over a b d e) = (tries-end (meant m₀ n v) (tests m₀ n c) (windowsIn m₀ k) rows₀ t₀ (p .tries) a left b d e, steady-more m₀ m m₁ (p .steady) s)
+
+  pub trialling-end : (left : ℕ) → r ≡ Over left → (u : Tally) → u ≡ leaving t left → Placing rows₀ rows t₀ (Whole m₀ n c k v rows₀ t₀) (Go u) × Steady m₀ m₁
+  trialling-end left e u a = subst (λ (u : Tally). Placing rows₀ rows t₀ (Whole m₀ n c k v rows₀ t₀) (Go u) × Steady m₀ m₁) (sym a)
+      (ended (sought m₀ n c k upto few front m m₁ (p .steady) (t .budget) r g (Over left) e))
+
+  stopped : Seeks (windowsIn m₀ k) (tests m₀ n c) (settingIn m k) (t .budget) m₁ upto k Out → Placing rows₀ rows t₀ (Whole m₀ n c k v rows₀ t₀) (Spent (leaving t 0)) × Steady m₀ m₁
+  stopped (out a) = (tries-spent (meant m₀ n v) (tests m₀ n c) (windowsIn m₀ k) rows₀ t₀ (p .tries) a, steady-more m₀ m m₁ (p .steady) s)
+
+  pub trialling-spent : r ≡ Out → (u : Tally) → u ≡ leaving t 0 → Placing rows₀ rows t₀ (Whole m₀ n c k v rows₀ t₀) (Spent u) × Steady m₀ m₁
+  trialling-spent e u a = subst (λ (u : Tally). Placing rows₀ rows t₀ (Whole m₀ n c k v rows₀ t₀) (Spent u) × Steady m₀ m₁) (sym a)
+      (stopped (sought m₀ n c k upto few front m m₁ (p .steady) (t .budget) r g Out e))
 
 -- said of the memory before the first setting
 pub trialling-all : (m m₀ m₂ : List ℕ) (n c k : ℕ) (v : Cell) (rows rows′ : List ℤ) (t : Tally) (r : Tried) → k ≤ 8 → First m m₀ k → Placing rows rows′ t (Whole m₀ n c k v rows t) r × Steady m₀ m₂
@@ -121,42 +200,40 @@ trialling-all m m₀ m₂ n c k v rows rows′ t r few f p =
 abbrev pub Probing : List ℕ → ℕ → ℕ → ℕ → Tally → List ℤ → Next lister.Tally
 Probing m n c k t rows = probing (tests m n c) (windowsIn m k) t rows
 
-pub record Cutting (m₀ : List ℕ) (n c k : ℕ) (t₀ : Tally) (m : List ℕ) (t : Tally) : Type 0 where
-  pub size : length m ≡ length m₀
-  pub steady : Steady m₀ m
-  pub tries : Probes (tests m₀ n c) (windowsIn m₀ k) t₀ (settingIn m k) t
-
 pub cutting-none : (m : List ℕ) (n c k : ℕ) (t : Tally) → T (not (filled (windowsIn m k))) → Counted t (Probing m n c k t) (Go t) × Steady m m
 cutting-none m n c k t h = (probes-none (tests m n c) (windowsIn m k) t h, steady-none m)
 
-pub cutting-first : (m m₀ : List ℕ) (n c k : ℕ) (t : Tally) → k ≤ 8 → First m m₀ k → T (filled (windowsIn m k)) → Cutting m₀ n c k t m₀ t
-cutting-first m m₀ n c k t few f h = record {
-  size = refl;
-  steady = steady-none m₀;
-  tries = probes-first (tests m₀ n c) (windowsIn m₀ k) t (first-filled m m₀ k few f h) (settingIn m₀ k) (first-lowest m m₀ k few f);
-}
+pub cutting-before : (m : List ℕ) (n c k : ℕ) (t : Tally) → t .cut ≡ true → Counted t (Probing m n c k t) (Go t) × Steady m m
+cutting-before m n c k t e = (probes-before (tests m n c) (windowsIn m k) t e, steady-none m)
 
-module _ {m₀ : List ℕ} {n c k : ℕ} {t₀ : Tally} {m : List ℕ} {t : Tally} (few : k ≤ 8) (p : Cutting m₀ n c k t₀ m t) where
-  pub cutting-hit : t .cut ≡ true → Counted t₀ (Probing m₀ n c k t₀) (Go t) × Steady m₀ m
-  cutting-hit a = (probes-hit (tests m₀ n c) (windowsIn m₀ k) t₀ (p .tries) a, p .steady)
+module _ (m m₀ : List ℕ) (n c k : ℕ) (t : Tally) (few : k ≤ 8) (f : First m m₀ k) (h : T (filled (windowsIn m k))) (miss : t .cut ≡ false) (upto : ℕ) (front : Front m₀ n c upto) (m₁ : List ℕ)
+    (r : Sought) (g : Seeking m₀ m₁ upto c k (t .budget) r) (s : Steady m₀ m₁) where
+  begun : Probes (tests m₀ n c) (windowsIn m₀ k) t (settingIn m₀ k) t
+  begun = probes-first (tests m₀ n c) (windowsIn m₀ k) t (first-filled m m₀ k few f h) (settingIn m₀ k) (first-lowest m m₀ k few f)
 
-  module _ (miss : t .cut ≡ false) (m₁ : List ℕ) (r : Tried) (q : Charged t (λ rows. lister.probe (tests m n c) (settingIn m k) (tallyOf rows t)) r) (e : Renumbered m m₁) where
-    probed : (u : Tried) → r ≡ u → Charged t (λ rows. lister.probe (tests m₀ n c) (settingIn m k) (tallyOf rows t)) u
-    probed u a = subst (λ (u : Tried). Charged t (λ rows. lister.probe (tests m₀ n c) (settingIn m k) (tallyOf rows t)) u) a
-        (subst (λ (ts : List Test). Charged t (λ rows. lister.probe ts (settingIn m k) (tallyOf rows t)) r) (tests-steady m₀ m (p .steady) n c) q)
+  seeks : (u : Sought) → r ≡ u → Seeks (windowsIn m₀ k) (tests m₀ n c) (settingIn m₀ k) (t .budget) m₁ upto k u
+  seeks u e = sought m₀ n c k upto few front m₀ m₁ (steady-none m₀) (t .budget) r g u e
 
-    pub cutting-over : (u : Tried) (a : List ℤ → Answer) → r ≡ u → ((rows : List ℤ) → nextOf rows u ≡ over (a rows)) → Counted t₀ (Probing m₀ n c k t₀) u × Steady m₀ m₁
-    cutting-over u a x b = (probes-over (tests m₀ n c) (windowsIn m₀ k) t₀ (p .tries) miss (probed u x) a b, steady-numbers m₀ m m₁ (p .steady) e)
+  pub cut-within : (left : ℕ) → r ≡ Met left → (0 < left) × (left ≤ t .budget)
+  cut-within left e = let q = met-as (seeks (Met left) e) in (q .more, omega (arith, q .sum))
 
-    pub cutting-next : (m₂ : List ℕ) (u : Tally) → r ≡ Go u → Follows m₁ m₂ k true → length m₂ ≡ length m → Cutting m₀ n c k t₀ m₂ u
-    cutting-next m₂ u a f x = record {
-      size = x ∙ p .size;
-      steady = goes-steady m₀ m m₁ m₂ k few (p .steady) e f;
-      tries = probes-next (tests m₀ n c) (windowsIn m₀ k) t₀ (p .tries) miss (probed (Go u) a) (settingIn m₂ k) (after-is m₀ m m₁ m₂ k few (p .steady) e f);
-    }
+  cut-met : {left : ℕ} → Seeks (windowsIn m₀ k) (tests m₀ n c) (settingIn m₀ k) (t .budget) m₁ upto k (Met left) → Counted t (Probing m₀ n c k t) (Go (cutting (leaving t (left - 1)) true)) × Steady m₀ m₁
+  cut-met {left} (met a b d e x) = (probes-met (tests m₀ n c) (windowsIn m₀ k) t t miss begun a left b d e, s)
 
-    pub cutting-last : (m₂ : List ℕ) (u : Tally) → r ≡ Go u → Follows m₁ m₂ k false → Counted t₀ (Probing m₀ n c k t₀) (Go u) × Steady m₀ m₂
-    cutting-last m₂ u a f = (probes-last (tests m₀ n c) (windowsIn m₀ k) t₀ (p .tries) miss (probed (Go u) a) (after-is m₀ m m₁ m₂ k few (p .steady) e f), goes-steady m₀ m m₁ m₂ k few (p .steady) e f)
+  cut-end : {left : ℕ} → Seeks (windowsIn m₀ k) (tests m₀ n c) (settingIn m₀ k) (t .budget) m₁ upto k (Over left) → Counted t (Probing m₀ n c k t) (Go (leaving t left)) × Steady m₀ m₁
+  cut-end {left} (over a b d e) = (probes-end (tests m₀ n c) (windowsIn m₀ k) t t miss begun a left b d e, s)
+
+  cut-spent : Seeks (windowsIn m₀ k) (tests m₀ n c) (settingIn m₀ k) (t .budget) m₁ upto k Out → Counted t (Probing m₀ n c k t) (Spent (leaving t 0)) × Steady m₀ m₁
+  cut-spent (out a) = (probes-spent (tests m₀ n c) (windowsIn m₀ k) t t miss begun a, s)
+
+  pub cutting-met : (left : ℕ) → r ≡ Met left → (x u : Tally) → x ≡ leaving t (left - 1) → u ≡ cutting x true → Counted t (Probing m₀ n c k t) (Go u) × Steady m₀ m₁
+  cutting-met left e x u a b = subst (λ (u : Tally). Counted t (Probing m₀ n c k t) (Go u) × Steady m₀ m₁) (sym (b ∙ ap (λ (x : Tally). cutting x true) a)) (cut-met (seeks (Met left) e))
+
+  pub cutting-end : (left : ℕ) → r ≡ Over left → (u : Tally) → u ≡ leaving t left → Counted t (Probing m₀ n c k t) (Go u) × Steady m₀ m₁
+  cutting-end left e u a = subst (λ (u : Tally). Counted t (Probing m₀ n c k t) (Go u) × Steady m₀ m₁) (sym a) (cut-end (seeks (Over left) e))
+
+  pub cutting-spent : r ≡ Out → (u : Tally) → u ≡ leaving t 0 → Counted t (Probing m₀ n c k t) (Spent u) × Steady m₀ m₁
+  cutting-spent e u a = subst (λ (u : Tally). Counted t (Probing m₀ n c k t) (Spent u) × Steady m₀ m₁) (sym a) (cut-spent (seeks Out e))
 
 pub cutting-all : (m m₀ m₂ : List ℕ) (n c k : ℕ) (t : Tally) (r : Tried) → k ≤ 8 → First m m₀ k → Counted t (Probing m₀ n c k t) r × Steady m₀ m₂ → Counted t (Probing m n c k t) r × Steady m m₂
 cutting-all m m₀ m₂ n c k t r few f p =

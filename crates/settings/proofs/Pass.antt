@@ -17,7 +17,7 @@ use Rattle.simulation.specs.Nodes.{Node, node, pass, numbers, meetsIn}
 use Rattle.simulation.proofs.Nodes.{numbers-last}
 use Rattle.machine.specs.Layout.{windowLow, valuePlace, tablesPlace, nodePlace, nodeLeft, nodeRight, nodeEnd, numberPlace}
 use Rattle.machine.specs.Memory.{nodeAt, nodesIn, settingIn, numbersIn, testsIn}
-use Rattle.settings.specs.Table.{windowAt, valueAt, numberAt, holdsAt, Wrote, Numbered, Anew}
+use Rattle.settings.specs.Table.{windowAt, valueAt, numberAt, holdsAt, Wrote, Worked, Anew}
 use Rattle.settings.proofs.Entries.{upTo-same, numberWord, setting-is, numbers-is, nodes-is}
 
 -- ---- what stays where words stay
@@ -40,32 +40,37 @@ nodes-same m m′ h n = nodes-is m′ n ∙ upTo-same (nodeAt m′) (nodeAt m) n
 
 -- ---- numbers
 
-pub numbered-none : (m : List ℕ) (k : ℕ) → Numbered m m 0 k
+pub worked-none : (m : List ℕ) (k : ℕ) → Worked m 0 k
+worked-none m k = record { right = λ j l. absurd (omega arith) }
+
+pub worked-less : (m : List ℕ) (n i k : ℕ) → i ≤ n → Worked m n k → Worked m i k
+worked-less m n i k l w = record { right = λ j u. w .right j (omega arith) }
+
+-- the numbers that are each what those before give are those of one pass
+pub worked-is : (m : List ℕ) (n k : ℕ) → Worked m n k → numbersIn m n ≡ numbers (settingIn m k) (nodesIn m n)
 unfolding numbersIn nodesIn numbers pass
-numbered-none m k = record { is = refl; other = λ i h. refl }
+worked-is m zero k w = refl
+worked-is m (suc n) k w =
+    let e = worked-is m n k (worked-less m (suc n) n k (omega arith) w) in
+    ap₂ (λ (zs : List ℤ) (z : ℤ). zs ++ z ∷ []) e
+    (w .right n (omega arith) ∙ ap (λ (zs : List ℤ). node (λ z. z) (λ i. getD (settingIn m k) i (pos 0)) int.arith zs (nodeAt m n)) e)
+    ∙ sym (numbers-last (settingIn m k) (nodesIn m n) (nodeAt m n))
 
-module _ (m₀ m m′ : List ℕ) (j k : ℕ) (small : k ≤ 8) (p : Numbered m₀ m j k) (w : Wrote m m′ (numberPlace j) (numberAt m k j)) where
-  stays : settingIn m k ≡ settingIn m₀ k
-  stays = setting-same m₀ m k (λ i l. p .other (valuePlace i) (λ q g e. omega arith))
+module _ (m m′ : List ℕ) (j k : ℕ) (small : k ≤ 8) (w : Worked m j k) (p : Wrote m m′ (numberPlace j) (numberAt m k j)) where
+  stays : (i : ℕ) → i ≤ j → numberAt m k i ≡ numberAt m′ k i
+  stays i l =
+      let a = setting-same m m′ k (λ q g. p .other .outside (valuePlace q) (λ x y. omega arith)) in
+      let b = numbers-same m m′ i (λ q g. p .other .outside (numberPlace q) (λ x y. omega arith)) in
+      let c = node-same m m′ (λ q h x y. p .other .outside q (λ u v. omega arith)) i in
+      sym (ap (λ (s : List ℤ). node (λ z. z) (λ i. getD s i (pos 0)) int.arith (numbersIn m′ i) (nodeAt m′ i)) a
+      ∙ ap₂ (λ (zs : List ℤ) (x : Node). node (λ z. z) (λ i. getD (settingIn m k) i (pos 0)) int.arith zs x) b c)
 
-  node-stays : nodeAt m j ≡ nodeAt m₀ j
-  node-stays = node-same m₀ m (λ i h l u. p .other i (λ q g e. omega arith)) j
-
-  number-is : numberWord m′ j ≡ node (λ z. z) (λ i. getD (settingIn m₀ k) i (pos 0)) int.arith (numbers (settingIn m₀ k) (nodesIn m₀ j)) (nodeAt m₀ j)
-  number-is = w .is
-      ∙ ap (λ (s : List ℤ). node (λ z. z) (λ i. getD s i (pos 0)) int.arith (numbersIn m j) (nodeAt m j)) stays
-      ∙ ap₂ (λ (zs : List ℤ) (x : Node). node (λ z. z) (λ i. getD (settingIn m₀ k) i (pos 0)) int.arith zs x) (p .is) node-stays
-
-  numbered-suc : numbersIn m′ (suc j) ≡ numbers (settingIn m₀ k) (nodesIn m₀ (suc j))
-  unfolding numbersIn nodesIn
-  numbered-suc =
-      ap₂ (λ (zs : List ℤ) (z : ℤ). zs ++ z ∷ []) (numbers-same m m′ j (λ i l. w .other .outside (numberPlace i) (λ a b. omega arith)) ∙ p .is) number-is
-      ∙ sym (numbers-last (settingIn m₀ k) (nodesIn m₀ j) (nodeAt m₀ j))
-
-  pub numbered-more : Numbered m₀ m′ (j + 1) k
-  numbered-more = record {
-    is = subst (λ (n : ℕ). numbersIn m′ n ≡ numbers (settingIn m₀ k) (nodesIn m₀ n)) (sym (add-one j)) numbered-suc;
-    other = λ i h. w .other .outside i (λ a b. h j (omega arith) (omega arith)) ∙ p .other i (λ q g e. h q (omega arith) e);
+  pub worked-more : Worked m′ (j + 1) k
+  worked-more = record {
+    right = λ i l. ⊎-elim
+        (λ e. ap (numberWord m′) e ∙ p .is ∙ stays j (omega arith) ∙ ap (numberAt m′ k) (sym e))
+        (λ g. ap (toZ w32) (p .other .outside (numberPlace i) (λ x y. omega arith)) ∙ w .right i g ∙ stays i (omega arith))
+        (eq-or-lt-of-le {n = i} {m = j} (omega arith));
   }
 
 -- ---- tests

@@ -11,10 +11,10 @@ use mir.Val.{toZ}
 use Rattle.semantics.specs.Int.{arith, holds}
 use Rattle.semantics.specs.Program.{Window}
 use Rattle.semantics.specs.Search.{to}
-use Rattle.simulation.specs.Nodes.{node, numbers, numberIn}
+use Rattle.simulation.specs.Nodes.{node, numberIn}
 use Rattle.simulation.specs.Odometer.{lowest, after}
 use Rattle.machine.specs.Layout.{windowLow, windowHigh, settingPlace, valuePlace, settingEnd, numberPlace}
-use Rattle.machine.specs.Memory.{nodeAt, nodesIn, windowsIn, settingIn, numbersIn, testAt}
+use Rattle.machine.specs.Memory.{nodeAt, windowsIn, settingIn, numbersIn, testAt}
 use Rattle.machine.specs.Contracts.{Room, Other}
 
 -- ---- single entries
@@ -41,10 +41,9 @@ pub record Wrote (m m′ : List ℕ) (i : ℕ) (z : ℤ) : Type 0 where
   pub other : Other m m′ i (i + 1)
   pub is : toZ w32 (getD m′ i 0) ≡ z
 
--- the n nodes have their numbers under the setting of k free variables, and no other word changed
-pub record Numbered (m m′ : List ℕ) (n k : ℕ) : Type 0 where
-  pub is : numbersIn m′ n ≡ numbers (settingIn m k) (nodesIn m n)
-  pub other : (i : ℕ) → ((j : ℕ) → j < n → i ≡ numberPlace j → ⊥) → getD m′ i 0 ≡ getD m i 0
+-- the first n nodes have their numbers under the setting of k free variables: each the one that those before it give
+pub record Worked (m : List ℕ) (n k : ℕ) : Type 0 where
+  pub right : (j : ℕ) → j < n → toZ w32 (getD m (numberPlace j) 0) ≡ numberAt m k j
 
 -- the free variables from i on, of k, start anew, each at its window's low end, and no other word changed
 pub record Anew (m m′ : List ℕ) (i k : ℕ) : Type 0 where

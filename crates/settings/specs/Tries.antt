@@ -1,5 +1,6 @@
 -- What has been counted, as the code holds it, and what trying settings answers.
 use mathlib.Core.Path.{_≡_}
+use mathlib.Core.Bool.{Bool}
 use mathlib.Core.List.{List, map}
 use Prim.Native.Nat.{ℕ, _+_, _-_, _*_, _≤_, _<_}
 use lib.ListN.{getD}
@@ -9,10 +10,10 @@ use Rattle.semantics.specs.Search.{full, spent}
 use Rattle.simulation.specs.Nodes.{meaning, testOf}
 use Rattle.simulation.specs.Lister as lister
 use Rattle.simulation.specs.Lister.{Next, go, over, closed, tally}
-use Rattle.machine.specs.Memory.{nodesIn, windowsIn, settingIn, testsIn}
+use Rattle.machine.specs.Memory.{nodesIn, windowsIn, testsIn}
 use Rattle.machine.specs.Contracts.{cellOf}
 use Rattle.machine.specs.declared.Value.{Value}
-use Rattle.settings.specs.Table.{Renumbered, Steady}
+use Rattle.settings.specs.Table.{Steady}
 use Rattle.settings.specs.Rows.{rowsAt, rowAt, wordsFrom, wordsOf}
 use Rattle.settings.specs.declared.Tally.{Tally}
 use Rattle.settings.specs.declared.Tried.{Tried}
@@ -36,6 +37,14 @@ tallyIn (Spent t) = t
 -- one move made
 abbrev pub spending : Tally → Tally
 spending t = record { budget = t .budget - 1; skip = t .skip; room = t .room; written = t .written; moves = t .moves + 1; cut = t .cut }
+
+-- so many moves left of the budget: the others were made
+abbrev pub leaving : Tally → ℕ → Tally
+leaving t left = record { budget = left; skip = t .skip; room = t .room; written = t .written; moves = t .moves + (t .budget - left); cut = t .cut }
+
+-- whether a cut run was found
+abbrev pub cutting : Tally → Bool → Tally
+cutting t b = record { budget = t .budget; skip = t .skip; room = t .room; written = t .written; moves = t .moves; cut = b }
 
 -- the tests of a memory, with n nodes
 abbrev pub tests : List ℕ → ℕ → ℕ → List search.Test
@@ -88,18 +97,11 @@ pub record Trying (rows rows′ : List ℤ) (t : Tally) (d : Next lister.Tally) 
 
 -- ---- settings of a path with n nodes, c tests and k windows, in the memory m, which then is m′
 
--- at a return of v: the present setting was tried, and all of them
-abbrev pub OneTrial : List ℕ → List ℕ → ℕ → ℕ → ℕ → Value → List ℤ → List ℤ → Tally → Tried → Type 0
-OneTrial m m′ n c k v rows rows′ t r =
-    Trying rows rows′ t (lister.trial (meaning (nodesIn m n) (cellOf v)) (tests m n c) (settingIn m k) (tallyOf rows t)) r × Renumbered m m′
-
+-- at a return of v
 abbrev pub AllTrials : List ℕ → List ℕ → ℕ → ℕ → ℕ → Value → List ℤ → List ℤ → Tally → Tried → Type 0
 AllTrials m m′ n c k v rows rows′ t r =
     Placing rows rows′ t (lister.trials (meaning (nodesIn m n) (cellOf v)) (tests m n c) (search.settings (windowsIn m k)) (tallyOf rows t)) r × Steady m m′
 
 -- at a cut
-abbrev pub OneProbe : List ℕ → List ℕ → ℕ → ℕ → ℕ → Tally → Tried → Type 0
-OneProbe m m′ n c k t r = Charged t (λ rows. lister.probe (tests m n c) (settingIn m k) (tallyOf rows t)) r × Renumbered m m′
-
 abbrev pub AllProbes : List ℕ → List ℕ → ℕ → ℕ → ℕ → Tally → Tried → Type 0
 AllProbes m m′ n c k t r = Counted t (λ rows. lister.probes (tests m n c) (search.settings (windowsIn m k)) (tallyOf rows t)) r × Steady m m′

@@ -1,19 +1,23 @@
 // The settings of a path: what the nodes are under one, whether it meets the tests, the one after it, and the rows and cut runs that trying them finds.
 ghost use mathlib.Core.Path.{_≡_};
-ghost use Prim.Native.Nat.{_+_, _*_, _<_, _≤_};
+ghost use mathlib.Core.Bool.{true, false};
+ghost use Prim.Native.Nat.{_+_, _-_, _*_, _<_, _≤_};
 ghost use lib.Dec.{T};
 ghost use lib.ListN.{length, getD};
 ghost use lib.IntN.{pos, sucℤ};
 ghost use lib.Signed.{ltZ, leZ};
-ghost use Rattle.simulation.specs.Nodes.{numberIn, meetsIn};
+ghost use Rattle.simulation.specs.Nodes.{unknown, meaning, numberIn, meetsIn, Within};
 ghost use Rattle.simulation.specs.Odometer.{filled as filledS};
 ghost use Rattle.simulation.specs.Lister.{charge as chargeS, place as placeS};
 ghost use Rattle.machine.specs.Layout.{valuePlace, tablesPlace, numberPlace};
-ghost use Rattle.machine.specs.Memory.{cellAs, windowsIn, settingIn, numbersIn, testsIn};
+ghost use Rattle.semantics.specs.Search.{under};
+ghost use Rattle.machine.specs.Memory.{cellAs, nodeAt, nodesIn, testAt, windowsIn, settingIn, numbersIn, testsIn};
 ghost use Rattle.machine.specs.Contracts.{Room, cellOf};
-ghost use Rattle.settings.specs.Table.{windowAt, valueAt, numberAt, holdsAt, Wrote, Numbered, Anew, First, Follows, Holding};
+ghost use Rattle.settings.specs.Table.{windowAt, valueAt, numberAt, holdsAt, Wrote, Worked, Anew, First, Follows, Renumbered, Steady, Holding};
+ghost use Rattle.settings.specs.Plan.{Decides, NotFree, Off, Clear, FreeNode, FirstBehind, Apart, Rests, Front, Planned};
+ghost use Rattle.settings.specs.Seek.{CanRise, Rising, Rose, Advanced, Seeking};
 ghost use Rattle.settings.specs.Rows.{wordsOf, rowWith, Written};
-ghost use Rattle.settings.specs.Tries.{tallyOf, spending, Fair, Charged, Placing, OneTrial, AllTrials, OneProbe, AllProbes};
+ghost use Rattle.settings.specs.Tries.{tallyOf, spending, leaving as leavingS, cutting, Fair, Charged, Placing, AllTrials, AllProbes};
 use machine::Value;
 use machine::kinds;
 use machine::layout;
@@ -33,6 +37,26 @@ pub enum Tried {
     Go(Tally),
     Full(Tally),
     Spent(Tally),
+}
+
+// What is worked for the settings of a path: the nodes before `upto`, on which its tests rest; where the last free variable alone goes up, of these only node `moving`, which is that variable, and those from `first` on.
+pub struct Plan {
+    pub moving: usize,
+    pub first: usize,
+    pub upto: usize,
+}
+
+// There is a next setting, for which the nodes are to be worked from this one on; or there is none.
+pub enum Onward {
+    From(usize),
+    Ended,
+}
+
+// Settings that do not meet the tests were passed over, each a move, with so many moves left: the present one meets them; or there is none left; or there is no move left.
+pub enum Sought {
+    Met(u32),
+    Over(u32),
+    Out,
 }
 
 // The number of free variable i, of k, under the present setting; 0, where there is none.
@@ -129,12 +153,12 @@ fn write_number(mem: &mut [u32], k: usize, j: usize)
     mem[layout::NUMBERS + layout::STRIDE * j] = ints::word(number_at(mem, k, j));
 }
 
-// Every node gets its number under the present setting of k free variables, in one pass.
-fn numbers(mem: &mut [u32], n: usize, k: usize)
-    requires { ⌜ (k ≤ 8) × Room (now mem) n ⌝ }
-    ensures { λ _. ⌜ Numbered (now (mem .entry)) (now (mem .exit)) n k ⌝ }
+// The nodes from i to n get their numbers under the present setting of k free variables; those before have theirs.
+fn work(mem: &mut [u32], i: usize, n: usize, k: usize)
+    requires { ⌜ (k ≤ 8) × Room (now mem) n × Worked (now mem) i k ⌝ }
+    ensures { λ _. ⌜ Worked (now (mem .exit)) n k × Renumbered (now (mem .entry)) (now (mem .exit)) ⌝ }
 {
-    let mut j: usize = 0;
+    let mut j = i;
     while j < n {
         write_number(mem, k, j);
         j += 1;
@@ -206,6 +230,215 @@ fn next_setting(mem: &mut [u32], k: usize) -> bool
         }
     }
     false
+}
+
+// Whether node j is free variable i.
+fn is_free(mem: &[u32], i: usize, j: usize) -> bool
+    requires { ⌜ Room (now mem) (j + 1) ⌝ }
+    ensures { λ r. ⌜ Decides r (nodeAt (now (mem .entry)) j ≡ unknown i) (NotFree i (nodeAt (now (mem .entry)) j)) ⌝ }
+{
+    let kind = mem[layout::NODES + layout::STRIDE * j];
+    let x = mem[layout::NODE_LEFTS + layout::STRIDE * j] as usize;
+    if kind % kinds::NODE_LEFT != kinds::FREE {
+        return false;
+    }
+    if x == i {
+        return true;
+    }
+    false
+}
+
+// The first of n nodes that is free variable i; n, where none is.
+fn free_node(mem: &[u32], i: usize, n: usize) -> usize
+    requires { ⌜ Room (now mem) n ⌝ }
+    ensures { λ r. ⌜ FreeNode (now (mem .entry)) i n r ⌝ }
+{
+    let mut j: usize = 0;
+    while j < n {
+        if is_free(mem, i, j) {
+            return j;
+        }
+        j += 1;
+    }
+    n
+}
+
+// Whether a cell, by its two words, is node a.
+fn names(kind: u32, x: u32, a: usize) -> bool
+    ensures { λ r. ⌜ (r ≡ false → Off a (cellAs kind x)) ⌝ }
+{
+    if kind == 0 {
+        return false;
+    }
+    if x as usize == a {
+        return true;
+    }
+    false
+}
+
+// Whether node j may differ where node a, which lies before it, does: it is a free variable, or one of its sides is node a.
+fn depends(mem: &[u32], a: usize, j: usize) -> bool
+    requires { ⌜ Room (now mem) (j + 1) ⌝ }
+    ensures { λ r. ⌜ (r ≡ false → Clear a (nodeAt (now (mem .entry)) j)) ⌝ }
+{
+    let kind = mem[layout::NODES + layout::STRIDE * j];
+    let x = mem[layout::NODE_LEFTS + layout::STRIDE * j];
+    let y = mem[layout::NODE_RIGHTS + layout::STRIDE * j];
+    if kind % kinds::NODE_LEFT == kinds::FREE {
+        return true;
+    }
+    if names(kind / kinds::NODE_LEFT % 2, x, a) {
+        return true;
+    }
+    names(kind / kinds::NODE_RIGHT, y, a)
+}
+
+// The first node behind node a, of n, that may differ where node a does; n, where none may.
+fn first_behind(mem: &[u32], a: usize, n: usize) -> usize
+    requires { ⌜ Room (now mem) n ⌝ }
+    ensures { λ r. ⌜ FirstBehind (now (mem .entry)) a n r ⌝ }
+{
+    if n <= a {
+        return n;
+    }
+    let mut j = a + 1;
+    while j < n {
+        if depends(mem, a, j) {
+            return j;
+        }
+        j += 1;
+    }
+    n
+}
+
+fn larger(a: usize, b: usize) -> usize
+    ensures { λ r. ⌜ (a ≤ r) × (b ≤ r) ⌝ }
+{
+    if a < b { b } else { a }
+}
+
+// Where the nodes end on which a cell rests, by its two words.
+fn cell_end(kind: u32, x: u32) -> usize
+    ensures { λ r. ⌜ Within r (cellAs kind x) ⌝ }
+{
+    if kind == 0 {
+        return 0;
+    }
+    x as usize + 1
+}
+
+// Where the nodes end on which test j rests.
+fn test_end(mem: &[u32], j: usize) -> usize
+    requires { ⌜ Room (now mem) (j + 1) ⌝ }
+    ensures { λ r. ⌜ Rests r (testAt (now (mem .entry)) j) ⌝ }
+{
+    let kind = mem[layout::TESTS + layout::STRIDE * j];
+    let x = mem[layout::TEST_LEFTS + layout::STRIDE * j];
+    let y = mem[layout::TEST_RIGHTS + layout::STRIDE * j];
+    larger(
+        cell_end(kind / kinds::TEST_LEFT % 2, x),
+        cell_end(kind / kinds::TEST_RIGHT, y),
+    )
+}
+
+// Where the nodes, of n, end on which the tests rest.
+fn tests_end(mem: &[u32], n: usize, tests: usize) -> usize
+    requires { ⌜ Room (now mem) tests ⌝ }
+    ensures { λ r. ⌜ Front (now (mem .entry)) n tests r ⌝ }
+{
+    let mut end: usize = 0;
+    let mut j: usize = 0;
+    while j < tests {
+        end = larger(end, test_end(mem, j));
+        j += 1;
+    }
+    if n < end {
+        return n;
+    }
+    end
+}
+
+// What is worked for the settings of k free variables.
+fn plan_of(mem: &[u32], nodes: usize, tests: usize, k: usize) -> Plan
+    requires { ⌜ Holding (now mem) nodes tests k ⌝ }
+    ensures { λ r. ⌜ Planned (now (mem .entry)) nodes tests (k - 1) r ⌝ }
+{
+    let upto = tests_end(mem, nodes, tests);
+    let moving = free_node(mem, ints::monus(k, 1), upto);
+    let first = first_behind(mem, moving, upto);
+    Plan {
+        moving: moving,
+        first: first,
+        upto: upto,
+    }
+}
+
+// Node a gets the number of free variable i.
+fn copy_value(mem: &mut [u32], i: usize, a: usize)
+    requires { ⌜ (i < 8) × Room (now mem) (a + 1) ⌝ }
+    ensures { λ _. ⌜ Wrote (now (mem .entry)) (now (mem .exit)) (numberPlace a) (valueAt (now (mem .entry)) i) ⌝ }
+{
+    mem[layout::NUMBERS + layout::STRIDE * a] = mem[layout::SETTING + i];
+}
+
+// The last of k free variables goes up by one, and node a with it, if it is among those before `first`.
+fn rise(mem: &mut [u32], a: usize, first: usize, k: usize)
+    requires { ⌜ Rising (now mem) a first k ⌝ }
+    ensures { λ _. ⌜ Rose (now (mem .entry)) (now (mem .exit)) first k ⌝ }
+{
+    raise(mem, k - 1);
+    if first <= a {
+        return;
+    }
+    copy_value(mem, k - 1, a);
+}
+
+// Whether the last of k free variables is below its window's high end.
+fn can_rise(mem: &[u32], k: usize) -> bool
+    requires { ⌜ (k ≤ 8) × (tablesPlace ≤ length (now mem)) ⌝ }
+    ensures { λ r. ⌜ CanRise (now (mem .entry)) k r ⌝ }
+{
+    if k == 0 {
+        return false;
+    }
+    below(mem, k - 1)
+}
+
+// The next setting of k free variables, if there is one; most often only the last variable goes up.
+fn advance(mem: &mut [u32], a: usize, first: usize, k: usize) -> Onward
+    requires { ⌜ (k ≤ 8) × Room (now mem) first × Apart (now mem) (k - 1) a first × Worked (now mem) first k ⌝ }
+    ensures { λ r. ⌜ Advanced (now (mem .entry)) (now (mem .exit)) k r ⌝ }
+{
+    if can_rise(mem, k) {
+        rise(mem, a, first, k);
+        return Onward::From(first);
+    }
+    if next_setting(mem, k) {
+        return Onward::From(0);
+    }
+    Onward::Ended
+}
+
+// From the present setting on, the first one that meets the tests, with so many moves at the most.
+fn seek(mem: &mut [u32], plan: Plan, tests: usize, k: usize, most: u32) -> Sought
+    requires { ⌜ Holding (now mem) (plan .upto) tests k × Apart (now mem) (k - 1) (plan .moving) (plan .first) × (plan .first ≤ plan .upto) ⌝ }
+    ensures { λ r. ⌜ Seeking (now (mem .entry)) (now (mem .exit)) (plan .upto) tests k most r × Steady (now (mem .entry)) (now (mem .exit)) ⌝ }
+{
+    let upto = plan.upto;
+    let mut from: usize = 0;
+    let mut left = most;
+    while 0 < left {
+        work(mem, from, upto, k);
+        if meets(mem, upto, tests) {
+            return Sought::Met(left);
+        }
+        left -= 1;
+        match advance(mem, plan.moving, plan.first, k) {
+            Onward::From(i) => from = i,
+            Onward::Ended => return Sought::Over(left),
+        }
+    }
+    Sought::Out
 }
 
 // What a value is, where n nodes have their numbers.
@@ -305,48 +538,36 @@ fn place(rows: &mut [i32], t: Tally, result: i32, mem: &[u32], k: usize) -> Trie
     })
 }
 
-// The present setting tried at a return: a row, if it meets the tests.
-fn trial(
+// What was counted, where so many moves are left of the budget.
+fn leaving(t: Tally, left: u32) -> Tally
+    requires { ⌜ (left ≤ t .budget) × (t .moves + t .budget < 4294967296) ⌝ }
+    ensures { λ r. ⌜ r ≡ leavingS t left ⌝ }
+{
+    Tally {
+        budget: left,
+        skip: t.skip,
+        room: t.room,
+        written: t.written,
+        moves: t.moves + (t.budget - left),
+        cut: t.cut,
+    }
+}
+
+// A setting that meets the tests, at a return of v: its row. The nodes before `from` have their numbers.
+fn found(
     mem: &mut [u32],
+    from: usize,
     nodes: usize,
-    tests: usize,
     k: usize,
     v: Value,
     t: Tally,
     rows: &mut [i32],
 ) -> Tried
-    requires { ⌜ Holding (now mem) nodes tests k × Fair (length (now rows)) t ⌝ }
-    ensures { λ r. ⌜ OneTrial (now (mem .entry)) (now (mem .exit)) nodes tests k v (now (rows .entry)) (now (rows .exit)) t r ⌝ }
+    requires { ⌜ (k ≤ 8) × Room (now mem) nodes × Worked (now mem) from k × (10 * (t .written + t .room) ≤ length (now rows)) ⌝ }
+    ensures { λ r. ⌜ Placing (now (rows .entry)) (now (rows .exit)) t (placeS (rowWith (under (settingIn (now (mem .entry)) k) (meaning (nodesIn (now (mem .entry)) nodes) (cellOf v))) (settingIn (now (mem .entry)) k)) (tallyOf (now (rows .entry)) t)) r × Renumbered (now (mem .entry)) (now (mem .exit)) ⌝ }
 {
-    if t.budget == 0 {
-        return Tried::Spent(t);
-    }
-    let u = spend(t);
-    numbers(mem, nodes, k);
-    if meets(mem, nodes, tests) {
-        return place(rows, u, result(mem, nodes, v), mem, k);
-    }
-    Tried::Go(u)
-}
-
-// The present setting tried at a cut: a cut run, if it meets the tests.
-fn probe(mem: &mut [u32], nodes: usize, tests: usize, k: usize, t: Tally) -> Tried
-    requires { ⌜ Holding (now mem) nodes tests k × (t .moves + t .budget < 4294967296) ⌝ }
-    ensures { λ r. ⌜ OneProbe (now (mem .entry)) (now (mem .exit)) nodes tests k t r ⌝ }
-{
-    if t.budget == 0 {
-        return Tried::Spent(t);
-    }
-    let u = spend(t);
-    numbers(mem, nodes, k);
-    Tried::Go(Tally {
-        budget: u.budget,
-        skip: u.skip,
-        room: u.room,
-        written: u.written,
-        moves: u.moves,
-        cut: meets(mem, nodes, tests),
-    })
+    work(mem, from, nodes, k);
+    place(rows, t, result(mem, nodes, v), mem, k)
 }
 
 // All settings of k free variables in their windows tried at a return.
@@ -366,18 +587,39 @@ pub fn trials(
         return Tried::Go(t);
     }
     first_setting(mem, k);
+    let p = plan_of(mem, nodes, tests, k);
     let mut u = t;
     loop {
-        match trial(mem, nodes, tests, k, v, u, rows) {
-            Tried::Go(w) => {
-                if !next_setting(mem, k) {
-                    return Tried::Go(w);
+        match seek(mem, p, tests, k, u.budget) {
+            Sought::Met(left) => {
+                match found(mem, p.upto, nodes, k, v, leaving(u, left - 1), rows) {
+                    Tried::Go(w) => {
+                        if !next_setting(mem, k) {
+                            return Tried::Go(w);
+                        }
+                        u = w;
+                    }
+                    Tried::Full(w) => return Tried::Full(w),
+                    Tried::Spent(w) => return Tried::Spent(w),
                 }
-                u = w;
             }
-            Tried::Full(w) => return Tried::Full(w),
-            Tried::Spent(w) => return Tried::Spent(w),
+            Sought::Over(left) => return Tried::Go(leaving(u, left)),
+            Sought::Out => return Tried::Spent(leaving(u, 0)),
         }
+    }
+}
+
+// What was counted, where a cut run was found.
+fn with_cut(t: Tally) -> Tally
+    ensures { λ r. ⌜ r ≡ cutting t true ⌝ }
+{
+    Tally {
+        budget: t.budget,
+        skip: t.skip,
+        room: t.room,
+        written: t.written,
+        moves: t.moves,
+        cut: true,
     }
 }
 
@@ -386,22 +628,17 @@ pub fn probes(mem: &mut [u32], nodes: usize, tests: usize, k: usize, t: Tally) -
     requires { ⌜ Holding (now mem) nodes tests k × (t .moves + t .budget < 4294967296) ⌝ }
     ensures { λ r. ⌜ AllProbes (now (mem .entry)) (now (mem .exit)) nodes tests k t r ⌝ }
 {
+    if t.cut {
+        return Tried::Go(t);
+    }
     if !filled(mem, k) {
         return Tried::Go(t);
     }
     first_setting(mem, k);
-    let mut u = t;
-    while !u.cut {
-        match probe(mem, nodes, tests, k, u) {
-            Tried::Go(w) => {
-                if !next_setting(mem, k) {
-                    return Tried::Go(w);
-                }
-                u = w;
-            }
-            Tried::Full(w) => return Tried::Full(w),
-            Tried::Spent(w) => return Tried::Spent(w),
-        }
+    let p = plan_of(mem, nodes, tests, k);
+    match seek(mem, p, tests, k, t.budget) {
+        Sought::Met(left) => Tried::Go(with_cut(leaving(t, left - 1))),
+        Sought::Over(left) => Tried::Go(leaving(t, left)),
+        Sought::Out => Tried::Spent(leaving(t, 0)),
     }
-    Tried::Go(u)
 }

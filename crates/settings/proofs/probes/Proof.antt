@@ -1,170 +1,204 @@
 use mathlib.Core.Path.{refl, subst}
-use mathlib.Core.Bool.{Bool}
-use mathlib.Core.List.{List}
 use native.Mathlib.Omega.{arith}
-use lib.IntN.{ℤ}
+use Rattle.settings.specs.declared.Tried.the-variants.{Go, Spent}
+use Rattle.settings.proofs.Loops.{some-setting, no-setting, cutting-none, cutting-before, cut-within, over-within, cutting-met, cutting-end, cutting-spent, cutting-all}
 use borrow.Author.Needs.{needs}
-use Rattle.semantics.specs.Search.{full, spent}
-use Rattle.simulation.specs.Lister.{closed}
-use Rattle.settings.specs.declared.Tried.the-variants.{Go, Full, Spent}
-use Rattle.settings.specs.Table.{Follows}
-use Rattle.settings.specs.Tries.{tallyOf, Moved}
-use Rattle.settings.proofs.Pass.{not-true, not-false}
-use Rattle.settings.proofs.Renumbered.{holding-same}
-use Rattle.settings.proofs.Loops.{some-setting, no-setting, cutting-none, Cutting, cutting-first, cutting-hit, cutting-over, cutting-next, cutting-last, cutting-all}
 use Rattle.settings.proofs.probes.Statement.{statement}
 use Rattle.settings.proofs.probes.Tie as tie
+use Rattle.settings.proofs.probes.Reads as reads
+use Rattle.settings.proofs.probes.Lts as lts
+use Rattle.settings.proofs.filled.Reads as filled-reads
+use Rattle.settings.proofs.first_setting.Reads as first-setting-reads
+use Rattle.settings.proofs.leaving.Reads as leaving-reads
+use Rattle.settings.proofs.plan_of.Reads as plan-of-reads
+use Rattle.settings.proofs.seek.Reads as seek-reads
+use Rattle.settings.proofs.with_cut.Reads as with-cut-reads
 
-abbrev Inv-loop : tie.InvT-loop
-Inv-loop mem₀ nodes tests k u₀ mem u = Cutting mem₀ nodes tests k u₀ mem u
 
-abbrev μ-loop : tie.MeasureT-loop
-μ-loop mem₀ nodes tests k u₀ mem u = u .budget
 
-filled-requires : tie.Need-filled-requires Inv-loop μ-loop
-filled-requires c κs = (c .before .before .pre .0 .few, omega (arith, c .before .before .pre .0 .nodes .words))
+-- src/lib.rt:632:9
+returns : tie.Need-returns
+returns c =
+    let a = c .before .before .args in
+    cutting-before (a .mem .now) (a .nodes) (a .tests) (a .k) (a .t) (c .if1 .taken)
 
-same-length : tie.Need-same-length Inv-loop μ-loop
+-- src/lib.rt:634:9
+filled-requires : tie.Need-filled-requires
+filled-requires c κs = search needs
+
+-- src/lib.rt:635:9
+same-length : tie.Need-same-length
 same-length c = search needs
 
-returns : tie.Need-returns Inv-loop μ-loop
-returns c =
-    let s = c .before .before .before .before .args in
-    cutting-none (s .mem .now) (s .nodes) (s .tests) (s .k) (s .t) (no-setting (c .before .filled .ensures) (c .if1 .taken))
-
-first-setting-requires : tie.Need-first-setting-requires Inv-loop μ-loop
-first-setting-requires c κs = (c .before .before .before .before .before .pre .0 .few, omega (arith, c .before .before .before .before .before .pre .0 .nodes .words))
-
-loop-holds : tie.Need-loop-holds Inv-loop μ-loop
-loop-holds c =
-    let s = c .before .before .before .before .before .before .before .before in
-    cutting-first (s .args .mem .now) _ (s .args .nodes) (s .args .tests) (s .args .k) (s .args .t) (s .pre .0 .few) (c .before .before .first-setting .ensures)
-    (some-setting (c .before .before .before .before .before .filled .ensures) (c .before .before .before .before .if1 .left))
-
-probe-requires : tie.Need-probe-requires Inv-loop μ-loop
-probe-requires c κs =
-    let s = c .before .before .before .before .before .before .before .before .before .before .before .before in
-    let l = c .before .before .before .loop in
-    (holding-same (s .args .mem .now) (l .mem) (s .args .nodes) (s .args .tests) (s .args .k) (omega (arith, l .inv .size)) (s .pre .0), omega (arith, l .inv .tries .counts .sum, s .pre .1))
-
-enum-known-w : tie.Need-enum-known-w Inv-loop μ-loop
-enum-known-w c = search needs
-
-next-setting-requires : tie.Need-next-setting-requires Inv-loop μ-loop
-next-setting-requires c κs = (
-  c .before .before .before .before .before .before .before .before .before .before .before .before .before .before .before .before .before .before .before .pre .0 .few,
-  omega (
-    arith,
-    c .before .before .before .before .before .before .before .before .before .before .loop .inv .size,
-    c .before .before .before .before .before .before .before .before .before .before .before .before .before .before .before .before .before .before .before .pre .0 .nodes .words,
-  ),
-)
-
-same-length-2 : tie.Need-same-length-2 Inv-loop μ-loop
-same-length-2 c = omega (arith, c .before .before .before .before .before .before .before .before .before .before .before .before .before .before .loop .inv .size)
-
-returns-2 : tie.Need-returns-2 Inv-loop μ-loop
+-- src/lib.rt:635:9
+returns-2 : tie.Need-returns-2
 returns-2 c =
-    let s = c .before .before .before .before .before .before .before .before .before .before .before .before .before .before .before .before .before .before .before .before .before .before .before in
-    let l = c .before .before .before .before .before .before .before .before .before .before .before .before .before .before .loop in
-    cutting-all (s .args .mem .now)
-    (c .before .before .before .before .before .before .before .before .before .before .before .before .before .before .before .before .before .first-setting .last .0)
-    (c .before .before .before .next-setting .last .0) (s .args .nodes) (s .args .tests) (s .args .k) (s .args .t) (Go (c .before .before .before .before .before .before .w .given .0 .0))
-    (s .pre .0 .few) (c .before .before .before .before .before .before .before .before .before .before .before .before .before .before .before .before .before .first-setting .ensures)
-    (cutting-last (s .pre .0 .few) (l .inv) (not-true _ (c .before .before .before .before .before .before .before .before .before .before .before .before .if2 .taken))
-    (c .before .before .before .before .before .before .before .before .before .before .probe .last .0)
-    (c .before .before .before .before .before .before .before .before .before .before .probe .result)
-    (c .before .before .before .before .before .before .before .before .before .before .probe .ensures .0)
-    (c .before .before .before .before .before .before .before .before .before .before .probe .ensures .1) (c .before .before .before .next-setting .last .0)
-    (c .before .before .before .before .before .before .w .given .0 .0) (c .before .before .before .before .before .before .w .given .1)
-    (subst (λ (b : Bool). Follows (c .before .before .before .before .before .before .before .before .before .before .probe .last .0) (c .before .before .before .next-setting .last .0)
-    (s .args .k) b) (not-true _ (c .if3 .taken)) (c .before .before .before .next-setting .ensures)))
+    let a = c .before .before .before .before .before .args in
+    cutting-none (a .mem .now) (a .nodes) (a .tests) (a .k) (a .t) (no-setting (c .before .filled .ensures) (c .if2 .taken))
 
-loop-less : tie.Need-loop-less Inv-loop μ-loop
-loop-less c = subst (Moved (c .before .before .before .before .before .before .before .before .before .before .before .before .before .before .loop .u .budget))
-    (c .before .before .before .before .before .before .w .given .1) (c .before .before .before .before .before .before .before .before .before .before .probe .ensures .0 .moved)
+-- src/lib.rt:637:5
+first-setting-requires : tie.Need-first-setting-requires
+first-setting-requires c κs = search needs
 
-loop-again : tie.Need-loop-again Inv-loop μ-loop
-loop-again c =
-    let s = c .before .before .before .before .before .before .before .before .before .before .before .before .before .before .before .before .before .before .before .before .before .before .before in
-    let l = c .before .before .before .before .before .before .before .before .before .before .before .before .before .before .loop in
-    cutting-next (s .pre .0 .few) (l .inv) (not-true _ (c .before .before .before .before .before .before .before .before .before .before .before .before .if2 .taken))
-    (c .before .before .before .before .before .before .before .before .before .before .probe .last .0)
-    (c .before .before .before .before .before .before .before .before .before .before .probe .result)
-    (c .before .before .before .before .before .before .before .before .before .before .probe .ensures .0)
-    (c .before .before .before .before .before .before .before .before .before .before .probe .ensures .1) (c .before .before .before .next-setting .last .0)
-    (c .before .before .before .before .before .before .w .given .0 .0) (c .before .before .before .before .before .before .w .given .1)
-    (subst (λ (b : Bool). Follows (c .before .before .before .before .before .before .before .before .before .before .probe .last .0) (c .before .before .before .next-setting .last .0)
-    (s .args .k) b) (not-false _ (c .if3 .left)) (c .before .before .before .next-setting .ensures)) (omega arith)
+-- src/lib.rt:638:9
+plan-of-requires : tie.Need-plan-of-requires
+plan-of-requires c κs = search needs
 
-enum-known-w-2 : tie.Need-enum-known-w-2 Inv-loop μ-loop
-enum-known-w-2 c = search needs
+-- src/lib.rt:639:11
+seek-requires : tie.Need-seek-requires
+seek-requires c κs = search needs
 
-same-length-3 : tie.Need-same-length-3 Inv-loop μ-loop
-same-length-3 c = omega (arith, c .before .before .before .before .before .before .before .before .before .loop .inv .size)
+-- src/lib.rt:640:21
+enum-known-left : tie.Need-enum-known-left
+enum-known-left c = search needs
 
-returns-3 : tie.Need-returns-3 Inv-loop μ-loop
+-- src/lib.rt:640:60
+sub-leaving : tie.Need-sub-leaving
+sub-leaving c =
+    let s = c .before .before .before .before .before .before .before .before .before .before .before .before .before .before .before .before .before .before in
+    let a = s .args in
+    let m₀ = c .before .before .before .before .before .before .before .before .before .before .before .first-setting .last .0 in
+    let f = c .before .before .before .before .before .before .before .before .before .before .before .first-setting .ensures in
+    let few = s .pre .0 .few in
+    let upto = c .before .before .before .before .before .before .before .plan-of .result .upto in
+    let front = c .before .before .before .before .before .before .before .plan-of .ensures .front in
+    let m₁ = c .before .before .before .before .before .seek .last .0 in
+    let r = c .before .before .before .before .before .seek .result in
+    let g = c .before .before .before .before .before .seek .ensures .0 in
+    let y = c .before .before .before .before .before .seek .ensures .1 in
+    let h = some-setting (c .before .before .before .before .before .before .before .before .before .before .before .before .before .before .filled .ensures) (c .before .before .before .before .before .before .before .before .before .before .before .before .before .if2 .left) in
+    let miss = c .before .before .before .before .before .before .before .before .before .before .before .before .before .before .before .before .if1 .left in
+    omega (arith, cut-within (a .mem .now) m₀ (a .nodes) (a .tests) (a .k) (a .t) few f h miss upto front m₁ r g y (c .before .left .given .0 .0) (c .before .left .given .1) .0)
+
+-- src/lib.rt:640:49
+leaving-requires : tie.Need-leaving-requires
+leaving-requires c κs =
+    let s = c .before .before .before .before .before .before .before .before .before .before .before .before .before .before .before .before .before .before in
+    let a = s .args in
+    let m₀ = c .before .before .before .before .before .before .before .before .before .before .before .first-setting .last .0 in
+    let f = c .before .before .before .before .before .before .before .before .before .before .before .first-setting .ensures in
+    let few = s .pre .0 .few in
+    let upto = c .before .before .before .before .before .before .before .plan-of .result .upto in
+    let front = c .before .before .before .before .before .before .before .plan-of .ensures .front in
+    let m₁ = c .before .before .before .before .before .seek .last .0 in
+    let r = c .before .before .before .before .before .seek .result in
+    let g = c .before .before .before .before .before .seek .ensures .0 in
+    let y = c .before .before .before .before .before .seek .ensures .1 in
+    let h = some-setting (c .before .before .before .before .before .before .before .before .before .before .before .before .before .before .filled .ensures) (c .before .before .before .before .before .before .before .before .before .before .before .before .before .if2 .left) in
+    let miss = c .before .before .before .before .before .before .before .before .before .before .before .before .before .before .before .before .if1 .left in
+    (omega (arith, cut-within (a .mem .now) m₀ (a .nodes) (a .tests) (a .k) (a .t) few f h miss upto front m₁ r g y (c .before .left .given .0 .0) (c .before .left .given .1) .1), s .pre .1)
+
+-- src/lib.rt:640:40
+with-cut-requires : tie.Need-with-cut-requires
+with-cut-requires c κs = search needs
+
+-- src/lib.rt:641:22
+enum-known-left-2 : tie.Need-enum-known-left-2
+enum-known-left-2 c = search needs
+
+-- src/lib.rt:641:41
+leaving-requires-2 : tie.Need-leaving-requires-2
+leaving-requires-2 c κs = (over-within (c .before .before .before .before .before .before .before .before .before .before .before .first-setting .last .0) (c .before .before .before .before .before .seek .last .0) (c .before .before .before .before .before .before .before .plan-of .result .upto) (c .before .before .before .before .before .before .before .before .before .before .before .before .before .before .before .before .before .before .args .tests) (c .before .before .before .before .before .before .before .before .before .before .before .before .before .before .before .before .before .before .args .k) (c .before .before .before .before .before .before .before .before .before .before .before .before .before .before .before .before .before .before .args .t .budget) (c .before .before .before .before .before .seek .result) (c .before .left2 .given .0 .0) (c .before .before .before .before .before .seek .ensures .0) (c .before .left2 .given .1), c .before .before .before .before .before .before .before .before .before .before .before .before .before .before .before .before .before .before .pre .1)
+
+-- src/lib.rt:642:37
+enum-told : tie.Need-enum-told
+enum-told c = search needs
+
+-- src/lib.rt:642:37
+leaving-requires-3 : tie.Need-leaving-requires-3
+leaving-requires-3 c κs = search needs
+
+-- src/lib.rt:627:1
+same-length-2 : tie.Need-same-length-2
+same-length-2 c = search needs
+
+-- src/lib.rt:627:1
+returns-3 : tie.Need-returns-3
 returns-3 c =
-    let s = c .before .before .before .before .before .before .before .before .before .before .before .before .before .before .before .before .before .before in
-    let l = c .before .before .before .before .before .before .before .before .before .loop in
-    cutting-all (s .args .mem .now) (c .before .before .before .before .before .before .before .before .before .before .before .before .first-setting .last .0)
-    (c .before .before .before .before .before .probe .last .0) (s .args .nodes) (s .args .tests) (s .args .k) (s .args .t) (Full (c .before .w2 .given .0 .0)) (s .pre .0 .few)
-    (c .before .before .before .before .before .before .before .before .before .before .before .before .first-setting .ensures)
-    (cutting-over (s .pre .0 .few) (l .inv) (not-true _ (c .before .before .before .before .before .before .before .if2 .taken)) (c .before .before .before .before .before .probe .last .0)
-    (c .before .before .before .before .before .probe .result) (c .before .before .before .before .before .probe .ensures .0) (c .before .before .before .before .before .probe .ensures .1)
-    (Full (c .before .w2 .given .0 .0)) (λ (rows : List ℤ). closed full (tallyOf rows (c .before .w2 .given .0 .0))) (c .before .w2 .given .1) (λ rows. refl))
+    let s = c .before .before .before .before .before .before .before .before .before .before .before .before .before .before .before .before .before .before .before .before in
+    let a = s .args in
+    let m₀ = c .before .before .before .before .before .before .before .before .before .before .before .before .before .first-setting .last .0 in
+    let f = c .before .before .before .before .before .before .before .before .before .before .before .before .before .first-setting .ensures in
+    let few = s .pre .0 .few in
+    let upto = c .before .before .before .before .before .before .before .before .before .plan-of .result .upto in
+    let front = c .before .before .before .before .before .before .before .before .before .plan-of .ensures .front in
+    let m₁ = c .before .before .before .before .before .before .before .seek .last .0 in
+    let r = c .before .before .before .before .before .before .before .seek .result in
+    let g = c .before .before .before .before .before .before .before .seek .ensures .0 in
+    let y = c .before .before .before .before .before .before .before .seek .ensures .1 in
+    let h = some-setting (c .before .before .before .before .before .before .before .before .before .before .before .before .before .before .before .before .filled .ensures) (c .before .before .before .before .before .before .before .before .before .before .before .before .before .before .before .if2 .left) in
+    let miss = c .before .before .before .before .before .before .before .before .before .before .before .before .before .before .before .before .before .before .if1 .left in
+    cutting-all (a .mem .now) m₀ m₁ (a .nodes) (a .tests) (a .k) (a .t) (Go (c .with-cut .result)) few f
+    (cutting-met (a .mem .now) m₀ (a .nodes) (a .tests) (a .k) (a .t) few f h miss upto front m₁ r g y (c .before .before .before .left .given .0 .0) (c .before .before .before .left .given .1) (c .before .leaving .result) (c .with-cut .result) (c .before .leaving .ensures) (c .with-cut .ensures))
 
-enum-known-w-3 : tie.Need-enum-known-w-3 Inv-loop μ-loop
-enum-known-w-3 c = search needs
+-- src/lib.rt:627:1
+same-length-3 : tie.Need-same-length-3
+same-length-3 c = search needs
 
-same-length-4 : tie.Need-same-length-4 Inv-loop μ-loop
-same-length-4 c = omega (arith, c .before .before .before .before .before .before .before .before .before .loop .inv .size)
-
-returns-4 : tie.Need-returns-4 Inv-loop μ-loop
+-- src/lib.rt:627:1
+returns-4 : tie.Need-returns-4
 returns-4 c =
-    let s = c .before .before .before .before .before .before .before .before .before .before .before .before .before .before .before .before .before .before in
-    let l = c .before .before .before .before .before .before .before .before .before .loop in
-    cutting-all (s .args .mem .now) (c .before .before .before .before .before .before .before .before .before .before .before .before .first-setting .last .0)
-    (c .before .before .before .before .before .probe .last .0) (s .args .nodes) (s .args .tests) (s .args .k) (s .args .t) (Spent (c .before .w3 .given .0 .0)) (s .pre .0 .few)
-    (c .before .before .before .before .before .before .before .before .before .before .before .before .first-setting .ensures)
-    (cutting-over (s .pre .0 .few) (l .inv) (not-true _ (c .before .before .before .before .before .before .before .if2 .taken)) (c .before .before .before .before .before .probe .last .0)
-    (c .before .before .before .before .before .probe .result) (c .before .before .before .before .before .probe .ensures .0) (c .before .before .before .before .before .probe .ensures .1)
-    (Spent (c .before .w3 .given .0 .0)) (λ (rows : List ℤ). closed spent (tallyOf rows (c .before .w3 .given .0 .0))) (c .before .w3 .given .1) (λ rows. refl))
+    let s = c .before .before .before .before .before .before .before .before .before .before .before .before .before .before .before .before .before .before .before in
+    let a = s .args in
+    let m₀ = c .before .before .before .before .before .before .before .before .before .before .before .before .first-setting .last .0 in
+    let f = c .before .before .before .before .before .before .before .before .before .before .before .before .first-setting .ensures in
+    let few = s .pre .0 .few in
+    let upto = c .before .before .before .before .before .before .before .before .plan-of .result .upto in
+    let front = c .before .before .before .before .before .before .before .before .plan-of .ensures .front in
+    let m₁ = c .before .before .before .before .before .before .seek .last .0 in
+    let r = c .before .before .before .before .before .before .seek .result in
+    let g = c .before .before .before .before .before .before .seek .ensures .0 in
+    let y = c .before .before .before .before .before .before .seek .ensures .1 in
+    let h = some-setting (c .before .before .before .before .before .before .before .before .before .before .before .before .before .before .before .filled .ensures) (c .before .before .before .before .before .before .before .before .before .before .before .before .before .before .if2 .left) in
+    let miss = c .before .before .before .before .before .before .before .before .before .before .before .before .before .before .before .before .before .if1 .left in
+    cutting-all (a .mem .now) m₀ m₁ (a .nodes) (a .tests) (a .k) (a .t) (Go (c .leaving2 .result)) few f
+    (cutting-end (a .mem .now) m₀ (a .nodes) (a .tests) (a .k) (a .t) few f h miss upto front m₁ r g y (c .before .before .left2 .given .0 .0) (c .before .before .left2 .given .1) (c .leaving2 .result) (c .leaving2 .ensures))
 
-same-length-5 : tie.Need-same-length-5 Inv-loop μ-loop
-same-length-5 c = omega (arith, c .before .before .loop .inv .size)
+-- src/lib.rt:627:1
+same-length-4 : tie.Need-same-length-4
+same-length-4 c = search needs
 
-returns-5 : tie.Need-returns-5 Inv-loop μ-loop
+-- src/lib.rt:627:1
+returns-5 : tie.Need-returns-5
 returns-5 c =
-    let s = c .before .before .before .before .before .before .before .before .before .before .before in
-    let l = c .before .before .loop in
-    cutting-all (s .args .mem .now) (c .before .before .before .before .before .first-setting .last .0) (l .mem) (s .args .nodes) (s .args .tests) (s .args .k) (s .args .t) (Go (l .u))
-    (s .pre .0 .few) (c .before .before .before .before .before .first-setting .ensures)
-    (cutting-hit (s .pre .0 .few) (l .inv) (not-false _ (c .if2 .left)))
+    let s = c .before .before .before .before .before .before .before .before .before .before .before .before .before .before .before .before .before .before in
+    let a = s .args in
+    let m₀ = c .before .before .before .before .before .before .before .before .before .before .before .first-setting .last .0 in
+    let f = c .before .before .before .before .before .before .before .before .before .before .before .first-setting .ensures in
+    let few = s .pre .0 .few in
+    let upto = c .before .before .before .before .before .before .before .plan-of .result .upto in
+    let front = c .before .before .before .before .before .before .before .plan-of .ensures .front in
+    let m₁ = c .before .before .before .before .before .seek .last .0 in
+    let r = c .before .before .before .before .before .seek .result in
+    let g = c .before .before .before .before .before .seek .ensures .0 in
+    let y = c .before .before .before .before .before .seek .ensures .1 in
+    let h = some-setting (c .before .before .before .before .before .before .before .before .before .before .before .before .before .before .filled .ensures) (c .before .before .before .before .before .before .before .before .before .before .before .before .before .if2 .left) in
+    let miss = c .before .before .before .before .before .before .before .before .before .before .before .before .before .before .before .before .if1 .left in
+    cutting-all (a .mem .now) m₀ m₁ (a .nodes) (a .tests) (a .k) (a .t) (Spent (c .leaving3 .result)) few f
+    (cutting-spent (a .mem .now) m₀ (a .nodes) (a .tests) (a .k) (a .t) few f h miss upto front m₁ r g y (c .before .enum-told .given .1) (c .leaving3 .result) (c .leaving3 .ensures))
 
 pub probes-spec : {M : Type 1} → statement M
 probes-spec =
     tie.close
     (tie.spec
-    Inv-loop
-    μ-loop
+    returns
     filled-requires
     same-length
-    returns
-    first-setting-requires
-    loop-holds
-    probe-requires
-    enum-known-w
-    next-setting-requires
-    same-length-2
     returns-2
-    loop-less
-    loop-again
-    enum-known-w-2
-    same-length-3
+    first-setting-requires
+    plan-of-requires
+    seek-requires
+    enum-known-left
+    sub-leaving
+    leaving-requires
+    with-cut-requires
+    enum-known-left-2
+    leaving-requires-2
+    enum-told
+    leaving-requires-3
+    same-length-2
     returns-3
-    enum-known-w-3
-    same-length-4
+    same-length-3
     returns-4
-    same-length-5
+    same-length-4
     returns-5)
