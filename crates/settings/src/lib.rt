@@ -10,12 +10,10 @@ ghost use Rattle.simulation.specs.Nodes.{unknown, meaning, numberIn, meetsIn, W
 ghost use Rattle.simulation.specs.Odometer.{filled as filledS};
 ghost use Rattle.simulation.specs.Lister.{charge as chargeS, place as placeS};
 ghost use Rattle.machine.specs.Layout.{valuePlace, tablesPlace, numberPlace};
-ghost use Rattle.semantics.specs.Int.{arith, holds};
 ghost use Rattle.semantics.specs.Search.{under};
-ghost use Rattle.ints.specs.Numbers.{operation, comparison};
-ghost use Rattle.machine.specs.Memory.{cellAs, nodeAs, nodeAt, nodesIn, testAs, testAt, windowsIn, settingIn, numbersIn, testsIn};
+ghost use Rattle.machine.specs.Memory.{cellAs, nodeAt, nodesIn, testAt, windowsIn, settingIn, numbersIn, testsIn};
 ghost use Rattle.machine.specs.Contracts.{Room, cellOf};
-ghost use Rattle.settings.specs.Table.{windowAt, valueAt, numberBy, numberAt, holdsBy, holdsAt, Wrote, Worked, Anew, First, Follows, Renumbered, Steady, Holding};
+ghost use Rattle.settings.specs.Table.{windowAt, valueAt, numberAt, holdsAt, Wrote, Worked, Anew, First, Follows, Renumbered, Steady, Holding};
 ghost use Rattle.settings.specs.Plan.{Decides, NotFree, Off, Clear, FreeNode, FirstBehind, Apart, Rests, Front, Planned};
 ghost use Rattle.settings.specs.Seek.{CanRise, Rising, Rose, Advanced, Seeking};
 ghost use Rattle.settings.specs.Rows.{wordsOf, rowWith, Written};
@@ -23,8 +21,6 @@ ghost use Rattle.settings.specs.Tries.{tallyOf, spending, leaving as lea
 use machine::Value;
 use machine::kinds;
 use machine::layout;
-
-mod arms;
 
 // What has been counted: the moves that the budget still allows, the rows still to be skipped, the places still free, the rows written, the moves made, and whether a cut run was found.
 pub struct Tally {
@@ -89,53 +85,6 @@ fn number(mem: &[u32], n: usize, kind: u32, x: u32) -> i32
     0
 }
 
-// An operation on two cells, each by whether it is open and its second word, where n nodes have their numbers.
-fn operated(mem: &[u32], n: usize, op: u32, left: u32, x: u32, right: u32, y: u32) -> i32
-    requires { ⌜ Room (now mem) n ⌝ }
-    ensures { λ r. ⌜ r ≡ arith (operation op) (numberIn (numbersIn (now (mem .entry)) n) (cellAs left x)) (numberIn (numbersIn (now (mem .entry)) n) (cellAs right y)) ⌝ }
-{
-    ints::operate(op, number(mem, n, left, x), number(mem, n, right, y))
-}
-
-// The number of a node of any kind, by its three words, where the j nodes before it have theirs.
-fn number_else(mem: &[u32], k: usize, j: usize, kind: u32, x: u32, y: u32) -> i32
-    requires { ⌜ (k ≤ 8) × Room (now mem) j × (tablesPlace ≤ length (now mem)) ⌝ }
-    ensures { λ r. ⌜ r ≡ numberBy (now (mem .entry)) k j (nodeAs kind x y) ⌝ }
-{
-    let op = kind % kinds::NODE_LEFT;
-    if op == kinds::FREE {
-        return value(mem, k, x as usize);
-    }
-    operated(
-        mem,
-        j,
-        op - kinds::OPERATION,
-        kind / kinds::NODE_LEFT % 2,
-        x,
-        kind / kinds::NODE_RIGHT,
-        y,
-    )
-}
-
-// The number of a node, by its three words, where the j nodes before it have theirs. There is an arm for each kind that a path makes, so that a kind is looked at once.
-fn number_by(mem: &[u32], k: usize, j: usize, kind: u32, x: u32, y: u32) -> i32
-    requires { ⌜ (k ≤ 8) × Room (now mem) j × (tablesPlace ≤ length (now mem)) ⌝ }
-    ensures { λ r. ⌜ r ≡ numberBy (now (mem .entry)) k j (nodeAs kind x y) ⌝ }
-{
-    match kind {
-        arms::ADD_OPEN_KNOWN => operated(mem, j, arms::ADD, arms::OPEN, x, arms::KNOWN, y),
-        arms::SUB_OPEN_KNOWN => operated(mem, j, arms::SUB, arms::OPEN, x, arms::KNOWN, y),
-        arms::MUL_OPEN_KNOWN => operated(mem, j, arms::MUL, arms::OPEN, x, arms::KNOWN, y),
-        arms::ADD_KNOWN_OPEN => operated(mem, j, arms::ADD, arms::KNOWN, x, arms::OPEN, y),
-        arms::SUB_KNOWN_OPEN => operated(mem, j, arms::SUB, arms::KNOWN, x, arms::OPEN, y),
-        arms::MUL_KNOWN_OPEN => operated(mem, j, arms::MUL, arms::KNOWN, x, arms::OPEN, y),
-        arms::ADD_OPEN_OPEN => operated(mem, j, arms::ADD, arms::OPEN, x, arms::OPEN, y),
-        arms::SUB_OPEN_OPEN => operated(mem, j, arms::SUB, arms::OPEN, x, arms::OPEN, y),
-        arms::MUL_OPEN_OPEN => operated(mem, j, arms::MUL, arms::OPEN, x, arms::OPEN, y),
-        _ => number_else(mem, k, j, kind, x, y),
-    }
-}
-
 // The number of node j, where the nodes before it have theirs.
 fn number_at(mem: &[u32], k: usize, j: usize) -> i32
     requires { ⌜ (k ≤ 8) × Room (now mem) (j + 1) ⌝ }
@@ -144,51 +93,15 @@ fn number_at(mem: &[u32], k: usize, j: usize) -> i32
     let kind = mem[layout::NODES + layout::STRIDE * j];
     let x = mem[layout::NODE_LEFTS + layout::STRIDE * j];
     let y = mem[layout::NODE_RIGHTS + layout::STRIDE * j];
-    number_by(mem, k, j, kind, x, y)
-}
-
-// Whether a comparison of two cells holds, each by whether it is open and its second word, where n nodes have their numbers.
-fn compared(mem: &[u32], n: usize, c: u32, left: u32, x: u32, right: u32, y: u32) -> bool
-    requires { ⌜ Room (now mem) n ⌝ }
-    ensures { λ r. ⌜ r ≡ holds (comparison c) (numberIn (numbersIn (now (mem .entry)) n) (cellAs left x)) (numberIn (numbersIn (now (mem .entry)) n) (cellAs right y)) ⌝ }
-{
-    ints::holds(c, number(mem, n, left, x), number(mem, n, right, y))
-}
-
-// Whether a test holds, by its three words. There is an arm for each kind that a path makes, so that a kind is looked at once.
-fn holds_by(mem: &[u32], n: usize, kind: u32, x: u32, y: u32) -> bool
-    requires { ⌜ Room (now mem) n ⌝ }
-    ensures { λ r. ⌜ r ≡ holdsBy (now (mem .entry)) n (testAs kind x y) ⌝ }
-{
-    match kind {
-        arms::LT_OPEN_KNOWN => compared(mem, n, arms::LT, arms::OPEN, x, arms::KNOWN, y),
-        arms::LE_OPEN_KNOWN => compared(mem, n, arms::LE, arms::OPEN, x, arms::KNOWN, y),
-        arms::GT_OPEN_KNOWN => compared(mem, n, arms::GT, arms::OPEN, x, arms::KNOWN, y),
-        arms::GE_OPEN_KNOWN => compared(mem, n, arms::GE, arms::OPEN, x, arms::KNOWN, y),
-        arms::EQ_OPEN_KNOWN => compared(mem, n, arms::EQ, arms::OPEN, x, arms::KNOWN, y),
-        arms::NE_OPEN_KNOWN => compared(mem, n, arms::NE, arms::OPEN, x, arms::KNOWN, y),
-        arms::LT_KNOWN_OPEN => compared(mem, n, arms::LT, arms::KNOWN, x, arms::OPEN, y),
-        arms::LE_KNOWN_OPEN => compared(mem, n, arms::LE, arms::KNOWN, x, arms::OPEN, y),
-        arms::GT_KNOWN_OPEN => compared(mem, n, arms::GT, arms::KNOWN, x, arms::OPEN, y),
-        arms::GE_KNOWN_OPEN => compared(mem, n, arms::GE, arms::KNOWN, x, arms::OPEN, y),
-        arms::EQ_KNOWN_OPEN => compared(mem, n, arms::EQ, arms::KNOWN, x, arms::OPEN, y),
-        arms::NE_KNOWN_OPEN => compared(mem, n, arms::NE, arms::KNOWN, x, arms::OPEN, y),
-        arms::LT_OPEN_OPEN => compared(mem, n, arms::LT, arms::OPEN, x, arms::OPEN, y),
-        arms::LE_OPEN_OPEN => compared(mem, n, arms::LE, arms::OPEN, x, arms::OPEN, y),
-        arms::GT_OPEN_OPEN => compared(mem, n, arms::GT, arms::OPEN, x, arms::OPEN, y),
-        arms::GE_OPEN_OPEN => compared(mem, n, arms::GE, arms::OPEN, x, arms::OPEN, y),
-        arms::EQ_OPEN_OPEN => compared(mem, n, arms::EQ, arms::OPEN, x, arms::OPEN, y),
-        arms::NE_OPEN_OPEN => compared(mem, n, arms::NE, arms::OPEN, x, arms::OPEN, y),
-        _ => compared(
-            mem,
-            n,
-            kind % kinds::TEST_LEFT,
-            kind / kinds::TEST_LEFT % 2,
-            x,
-            kind / kinds::TEST_RIGHT,
-            y,
-        ),
+    let op = kind % kinds::NODE_LEFT;
+    if op == kinds::FREE {
+        return value(mem, k, x as usize);
     }
+    ints::operate(
+        op - kinds::OPERATION,
+        number(mem, j, kind / kinds::NODE_LEFT % 2, x),
+        number(mem, j, kind / kinds::NODE_RIGHT, y),
+    )
 }
 
 // Whether test j holds.
@@ -199,7 +112,11 @@ fn holds_at(mem: &[u32], n: usize, j: usize) -> bool
     let kind = mem[layout::TESTS + layout::STRIDE * j];
     let x = mem[layout::TEST_LEFTS + layout::STRIDE * j];
     let y = mem[layout::TEST_RIGHTS + layout::STRIDE * j];
-    holds_by(mem, n, kind, x, y)
+    ints::holds(
+        kind % kinds::TEST_LEFT,
+        number(mem, n, kind / kinds::TEST_LEFT % 2, x),
+        number(mem, n, kind / kinds::TEST_RIGHT, y),
+    )
 }
 
 // Whether free variable i is below its window's high end.
