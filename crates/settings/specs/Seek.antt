@@ -15,8 +15,8 @@ use Rattle.machine.specs.Contracts.{Room}
 use Rattle.settings.specs.Table.{windowAt, valueAt, Worked, Steady}
 use Rattle.settings.specs.Plan.{Apart}
 use Rattle.settings.specs.Tries.{tests}
-use Rattle.settings.specs.declared.Onward.{Onward}
-use Rattle.settings.specs.declared.Onward.the-variants.{From, Ended}
+use Rattle.settings.specs.declared.Swept.{Swept}
+use Rattle.settings.specs.declared.Swept.the-variants.{Here, Top, Short}
 use Rattle.settings.specs.declared.Sought.{Sought}
 use Rattle.settings.specs.declared.Sought.the-variants.{Met, Over, Out}
 
@@ -42,21 +42,21 @@ pub record Rose (m m′ : List ℕ) (first k : ℕ) : Type 0 where
   pub worked : Worked m′ first k
   pub steady : Steady m m′
 
--- the same where there is a next setting, whatever variables differ
-pub data Goes (m m′ : List ℕ) (k : ℕ) : Onward → Type 0 where
-  goes : {i : ℕ} → after (windowsIn m k) (settingIn m k) ≡ some (settingIn m′ k) → Worked m′ i k → Goes m m′ k (From i)
-  ends : after (windowsIn m k) (settingIn m k) ≡ none → Goes m m′ k Ended
-
-pub record Advanced (m m′ : List ℕ) (k : ℕ) (r : Onward) : Type 0 where
-  pub goes : Goes m m′ k r
-  pub steady : Steady m m′
-
 -- ---- to one that meets the tests
 
 -- j settings from s on do not meet the tests, and s′ comes after them
 pub data Missed (ws : List Window) (ts : List Test) (s : List ℤ) : ℕ → List ℤ → Type 0 where
   none-yet : Missed ws ts s zero s
   one-more : {j : ℕ} {s₁ s₂ : List ℤ} → Missed ws ts s j s₁ → meets ts s₁ ≡ false → after ws s₁ ≡ some s₂ → Missed ws ts s (suc j) s₂
+
+-- the settings from s on, with so many moves at the most: the present one of m, with n nodes worked, meets the tests; or it does not, and those before it do not
+pub data Sweeps (ws : List Window) (ts : List Test) (s : List ℤ) (most : ℕ) (m : List ℕ) (n k : ℕ) : Swept → Type 0 where
+  here : {j left : ℕ} → Missed ws ts s j (settingIn m k) → j + left ≡ most → 0 < left → meets ts (settingIn m k) ≡ true → Worked m n k → Sweeps ws ts s most m n k (Here left)
+  top : {j left : ℕ} → Missed ws ts s j (settingIn m k) → suc j + left ≡ most → meets ts (settingIn m k) ≡ false → Sweeps ws ts s most m n k (Top left)
+  short : {s₁ : List ℤ} → Missed ws ts s most s₁ → Sweeps ws ts s most m n k Short
+
+abbrev pub Sweeping : List ℕ → List ℕ → ℕ → ℕ → ℕ → ℕ → Swept → Type 0
+Sweeping m m′ n c k most r = Sweeps (windowsIn m k) (tests m n c) (settingIn m k) most m′ n k r
 
 -- the settings from s on, with so many moves at the most; the present one of m, with n nodes worked, if it meets the tests
 pub data Seeks (ws : List Window) (ts : List Test) (s : List ℤ) (most : ℕ) (m : List ℕ) (n k : ℕ) : Sought → Type 0 where

@@ -11,7 +11,7 @@ use mir.Val.{toZ}
 use Rattle.semantics.specs.Int.{arith, holds}
 use Rattle.semantics.specs.Program.{Window}
 use Rattle.semantics.specs.Search.{to}
-use Rattle.simulation.specs.Nodes.{node, numberIn}
+use Rattle.simulation.specs.Nodes.{Noted, node, numberIn}
 use Rattle.simulation.specs.Odometer.{lowest, after}
 use Rattle.machine.specs.Layout.{windowLow, windowHigh, settingPlace, valuePlace, settingEnd, numberPlace}
 use Rattle.machine.specs.Memory.{nodeAt, windowsIn, settingIn, numbersIn, testAt}
@@ -30,9 +30,12 @@ valueAt m i = toZ w32 (getD m (valuePlace i) 0)
 abbrev pub numberAt : List ℕ → ℕ → ℕ → ℤ
 numberAt m k j = node (λ z. z) (λ i. getD (settingIn m k) i (pos 0)) arith (numbersIn m j) (nodeAt m j)
 
--- whether test j holds, from the numbers of n nodes
+-- whether a test holds, from the numbers of n nodes; and test j
+abbrev pub holdsBy : List ℕ → ℕ → Noted → Bool
+holdsBy m n t = holds (t .compare) (numberIn (numbersIn m n) (t .left)) (numberIn (numbersIn m n) (t .right))
+
 abbrev pub holdsAt : List ℕ → ℕ → ℕ → Bool
-holdsAt m n j = holds (testAt m j .compare) (numberIn (numbersIn m n) (testAt m j .left)) (numberIn (numbersIn m n) (testAt m j .right))
+holdsAt m n j = holdsBy m n (testAt m j)
 
 -- ---- what is written
 

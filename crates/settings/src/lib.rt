@@ -10,17 +10,21 @@ ghost use Rattle.simulation.specs.Nodes.{unknown, meaning, numberIn, meetsIn, W
 ghost use Rattle.simulation.specs.Odometer.{filled as filledS};
 ghost use Rattle.simulation.specs.Lister.{charge as chargeS, place as placeS};
 ghost use Rattle.machine.specs.Layout.{valuePlace, tablesPlace, numberPlace};
+ghost use Rattle.semantics.specs.Int.{holds};
 ghost use Rattle.semantics.specs.Search.{under};
-ghost use Rattle.machine.specs.Memory.{cellAs, nodeAt, nodesIn, testAt, windowsIn, settingIn, numbersIn, testsIn};
+ghost use Rattle.ints.specs.Numbers.{comparison};
+ghost use Rattle.machine.specs.Memory.{cellAs, nodeAt, nodesIn, testAs, testAt, windowsIn, settingIn, numbersIn, testsIn};
 ghost use Rattle.machine.specs.Contracts.{Room, cellOf};
-ghost use Rattle.settings.specs.Table.{windowAt, valueAt, numberAt, holdsAt, Wrote, Worked, Anew, First, Follows, Renumbered, Steady, Holding};
+ghost use Rattle.settings.specs.Table.{windowAt, valueAt, numberAt, holdsBy, holdsAt, Wrote, Worked, Anew, First, Follows, Renumbered, Steady, Holding};
 ghost use Rattle.settings.specs.Plan.{Decides, NotFree, Off, Clear, FreeNode, FirstBehind, Apart, Rests, Front, Planned};
-ghost use Rattle.settings.specs.Seek.{CanRise, Rising, Rose, Advanced, Seeking};
+ghost use Rattle.settings.specs.Seek.{CanRise, Rising, Rose, Sweeping, Seeking};
 ghost use Rattle.settings.specs.Rows.{wordsOf, rowWith, Written};
 ghost use Rattle.settings.specs.Tries.{tallyOf, spending, leaving as leavingS, cutting, Fair, Charged, Placing, AllTrials, AllProbes};
 use machine::Value;
 use machine::kinds;
 use machine::layout;
+
+mod arms;
 
 // What has been counted: the moves that the budget still allows, the rows still to be skipped, the places still free, the rows written, the moves made, and whether a cut run was found.
 pub struct Tally {
@@ -46,10 +50,11 @@ pub struct Plan {
     pub upto: usize,
 }
 
-// There is a next setting, for which the nodes are to be worked from this one on; or there is none.
-pub enum Onward {
-    From(usize),
-    Ended,
+// Settings that do not meet the tests were passed over, as the last free variable went up, each a move, with so many moves left: the present one meets them; or the present one is passed over too, and that variable is at its window's high end; or there is no move left.
+pub enum Swept {
+    Here(u32),
+    Top(u32),
+    Short,
 }
 
 // Settings that do not meet the tests were passed over, each a move, with so many moves left: the present one meets them; or there is none left; or there is no move left.
@@ -104,6 +109,50 @@ fn number_at(mem: &[u32], k: usize, j: usize) -> i32
     )
 }
 
+// Whether a comparison of two cells holds, each by whether it is open and its second word, where n nodes have their numbers.
+fn compared(mem: &[u32], n: usize, c: u32, left: u32, x: u32, right: u32, y: u32) -> bool
+    requires { ⌜ Room (now mem) n ⌝ }
+    ensures { λ r. ⌜ r ≡ holds (comparison c) (numberIn (numbersIn (now (mem .entry)) n) (cellAs left x)) (numberIn (numbersIn (now (mem .entry)) n) (cellAs right y)) ⌝ }
+{
+    ints::holds(c, number(mem, n, left, x), number(mem, n, right, y))
+}
+
+// Whether a test holds, by its three words. There is an arm for each kind that a path makes, so that a kind is looked at once.
+fn holds_by(mem: &[u32], n: usize, kind: u32, x: u32, y: u32) -> bool
+    requires { ⌜ Room (now mem) n ⌝ }
+    ensures { λ r. ⌜ r ≡ holdsBy (now (mem .entry)) n (testAs kind x y) ⌝ }
+{
+    match kind {
+        arms::LT_OPEN_KNOWN => compared(mem, n, arms::LT, arms::OPEN, x, arms::KNOWN, y),
+        arms::LE_OPEN_KNOWN => compared(mem, n, arms::LE, arms::OPEN, x, arms::KNOWN, y),
+        arms::GT_OPEN_KNOWN => compared(mem, n, arms::GT, arms::OPEN, x, arms::KNOWN, y),
+        arms::GE_OPEN_KNOWN => compared(mem, n, arms::GE, arms::OPEN, x, arms::KNOWN, y),
+        arms::EQ_OPEN_KNOWN => compared(mem, n, arms::EQ, arms::OPEN, x, arms::KNOWN, y),
+        arms::NE_OPEN_KNOWN => compared(mem, n, arms::NE, arms::OPEN, x, arms::KNOWN, y),
+        arms::LT_KNOWN_OPEN => compared(mem, n, arms::LT, arms::KNOWN, x, arms::OPEN, y),
+        arms::LE_KNOWN_OPEN => compared(mem, n, arms::LE, arms::KNOWN, x, arms::OPEN, y),
+        arms::GT_KNOWN_OPEN => compared(mem, n, arms::GT, arms::KNOWN, x, arms::OPEN, y),
+        arms::GE_KNOWN_OPEN => compared(mem, n, arms::GE, arms::KNOWN, x, arms::OPEN, y),
+        arms::EQ_KNOWN_OPEN => compared(mem, n, arms::EQ, arms::KNOWN, x, arms::OPEN, y),
+        arms::NE_KNOWN_OPEN => compared(mem, n, arms::NE, arms::KNOWN, x, arms::OPEN, y),
+        arms::LT_OPEN_OPEN => compared(mem, n, arms::LT, arms::OPEN, x, arms::OPEN, y),
+        arms::LE_OPEN_OPEN => compared(mem, n, arms::LE, arms::OPEN, x, arms::OPEN, y),
+        arms::GT_OPEN_OPEN => compared(mem, n, arms::GT, arms::OPEN, x, arms::OPEN, y),
+        arms::GE_OPEN_OPEN => compared(mem, n, arms::GE, arms::OPEN, x, arms::OPEN, y),
+        arms::EQ_OPEN_OPEN => compared(mem, n, arms::EQ, arms::OPEN, x, arms::OPEN, y),
+        arms::NE_OPEN_OPEN => compared(mem, n, arms::NE, arms::OPEN, x, arms::OPEN, y),
+        _ => compared(
+            mem,
+            n,
+            kind % kinds::TEST_LEFT,
+            kind / kinds::TEST_LEFT % 2,
+            x,
+            kind / kinds::TEST_RIGHT,
+            y,
+        ),
+    }
+}
+
 // Whether test j holds.
 fn holds_at(mem: &[u32], n: usize, j: usize) -> bool
     requires { ⌜ Room (now mem) n × Room (now mem) (j + 1) ⌝ }
@@ -112,11 +161,7 @@ fn holds_at(mem: &[u32], n: usize, j: usize) -> bool
     let kind = mem[layout::TESTS + layout::STRIDE * j];
     let x = mem[layout::TEST_LEFTS + layout::STRIDE * j];
     let y = mem[layout::TEST_RIGHTS + layout::STRIDE * j];
-    ints::holds(
-        kind % kinds::TEST_LEFT,
-        number(mem, n, kind / kinds::TEST_LEFT % 2, x),
-        number(mem, n, kind / kinds::TEST_RIGHT, y),
-    )
+    holds_by(mem, n, kind, x, y)
 }
 
 // Whether free variable i is below its window's high end.
@@ -404,19 +449,26 @@ fn can_rise(mem: &[u32], k: usize) -> bool
     below(mem, k - 1)
 }
 
-// The next setting of k free variables, if there is one; most often only the last variable goes up.
-fn advance(mem: &mut [u32], a: usize, first: usize, k: usize) -> Onward
-    requires { ⌜ (k ≤ 8) × Room (now mem) first × Apart (now mem) (k - 1) a first × Worked (now mem) first k ⌝ }
-    ensures { λ r. ⌜ Advanced (now (mem .entry)) (now (mem .exit)) k r ⌝ }
+// From the present setting on, as only the last free variable goes up, the first one that meets the tests, with so many moves at the most. The nodes before the first that then differs have their numbers.
+fn sweep(mem: &mut [u32], plan: Plan, tests: usize, k: usize, most: u32) -> Swept
+    requires { ⌜ Holding (now mem) (plan .upto) tests k × Apart (now mem) (k - 1) (plan .moving) (plan .first) × (plan .first ≤ plan .upto) × Worked (now mem) (plan .first) k ⌝ }
+    ensures { λ r. ⌜ Sweeping (now (mem .entry)) (now (mem .exit)) (plan .upto) tests k most r × Steady (now (mem .entry)) (now (mem .exit)) ⌝ }
 {
-    if can_rise(mem, k) {
-        rise(mem, a, first, k);
-        return Onward::From(first);
+    let first = plan.first;
+    let upto = plan.upto;
+    let mut left = most;
+    while 0 < left {
+        work(mem, first, upto, k);
+        if meets(mem, upto, tests) {
+            return Swept::Here(left);
+        }
+        left -= 1;
+        if !can_rise(mem, k) {
+            return Swept::Top(left);
+        }
+        rise(mem, plan.moving, first, k);
     }
-    if next_setting(mem, k) {
-        return Onward::From(0);
-    }
-    Onward::Ended
+    Swept::Short
 }
 
 // From the present setting on, the first one that meets the tests, with so many moves at the most.
@@ -424,18 +476,18 @@ fn seek(mem: &mut [u32], plan: Plan, tests: usize, k: usize, most: u32) -> Sough
     requires { ⌜ Holding (now mem) (plan .upto) tests k × Apart (now mem) (k - 1) (plan .moving) (plan .first) × (plan .first ≤ plan .upto) ⌝ }
     ensures { λ r. ⌜ Seeking (now (mem .entry)) (now (mem .exit)) (plan .upto) tests k most r × Steady (now (mem .entry)) (now (mem .exit)) ⌝ }
 {
-    let upto = plan.upto;
-    let mut from: usize = 0;
     let mut left = most;
     while 0 < left {
-        work(mem, from, upto, k);
-        if meets(mem, upto, tests) {
-            return Sought::Met(left);
-        }
-        left -= 1;
-        match advance(mem, plan.moving, plan.first, k) {
-            Onward::From(i) => from = i,
-            Onward::Ended => return Sought::Over(left),
+        work(mem, 0, plan.first, k);
+        match sweep(mem, plan, tests, k, left) {
+            Swept::Here(n) => return Sought::Met(n),
+            Swept::Top(n) => {
+                if !next_setting(mem, k) {
+                    return Sought::Over(n);
+                }
+                left = n;
+            }
+            Swept::Short => return Sought::Out,
         }
     }
     Sought::Out

@@ -6,44 +6,31 @@ use Rattle.settings.proofs.Entries.{wrote}
 use borrow.Author.Needs.{needs}
 use Rattle.settings.proofs.copy_value.Statement.{statement}
 use Rattle.settings.proofs.copy_value.Tie as tie
-use Rattle.settings.proofs.copy_value.Reads as reads
-use Rattle.settings.proofs.copy_value.Lts as lts
 
-
-
--- src/lib.rt:381:53
 add-mem : tie.Need-add-mem
 add-mem c = search needs
 
--- src/lib.rt:381:49
 mul-mem : tie.Need-mul-mem
 mul-mem c = search needs
 
--- src/lib.rt:381:49
 slice-read-mem : tie.Need-slice-read-mem
 slice-read-mem c = search needs
 
--- src/lib.rt:381:27
 mul-mem-2 : tie.Need-mul-mem-2
 mul-mem-2 c = search needs
 
--- src/lib.rt:381:9
 add-mem-2 : tie.Need-add-mem-2
 add-mem-2 c = search needs
 
--- src/lib.rt:381:5
 mul-mem-3 : tie.Need-mul-mem-3
 mul-mem-3 c = search needs
 
--- src/lib.rt:381:5
 slice-write-mem : tie.Need-slice-write-mem
 slice-write-mem c = search needs
 
--- src/lib.rt:377:1
 same-length : tie.Need-same-length
 same-length c = search needs
 
--- src/lib.rt:377:1
 returns : tie.Need-returns
 returns c =
     let s = c .before in

@@ -6,77 +6,55 @@ use Rattle.settings.proofs.Planning.{works-clear, never}
 use borrow.Author.Needs.{needs}
 use Rattle.settings.proofs.depends.Statement.{statement}
 use Rattle.settings.proofs.depends.Tie as tie
-use Rattle.settings.proofs.depends.Reads as reads
-use Rattle.settings.proofs.depends.Lts as lts
-use Rattle.settings.proofs.names.Reads as names-reads
 
-
-
--- src/lib.rt:284:36
 mul-kind : tie.Need-mul-kind
 mul-kind c = search needs
 
--- src/lib.rt:284:20
 add-kind : tie.Need-add-kind
 add-kind c = search needs
 
--- src/lib.rt:284:16
 mul-kind-2 : tie.Need-mul-kind-2
 mul-kind-2 c = search needs
 
--- src/lib.rt:284:16
 shared-slice-read-kind : tie.Need-shared-slice-read-kind
 shared-slice-read-kind c = search needs
 
--- src/lib.rt:285:38
 mul-x : tie.Need-mul-x
 mul-x c = search needs
 
--- src/lib.rt:285:17
 add-x : tie.Need-add-x
 add-x c = search needs
 
--- src/lib.rt:285:13
 mul-x-2 : tie.Need-mul-x-2
 mul-x-2 c = search needs
 
--- src/lib.rt:285:13
 shared-slice-read-x : tie.Need-shared-slice-read-x
 shared-slice-read-x c = search needs
 
--- src/lib.rt:286:39
 mul-y : tie.Need-mul-y
 mul-y c = search needs
 
--- src/lib.rt:286:17
 add-y : tie.Need-add-y
 add-y c = search needs
 
--- src/lib.rt:286:13
 mul-y-2 : tie.Need-mul-y-2
 mul-y-2 c = search needs
 
--- src/lib.rt:286:13
 shared-slice-read-y : tie.Need-shared-slice-read-y
 shared-slice-read-y c = search needs
 
--- src/lib.rt:288:9
 returns : tie.Need-returns
 returns c = λ e. never e
 
--- src/lib.rt:290:8
 names-requires : tie.Need-names-requires
 names-requires c κs = search needs
 
--- src/lib.rt:291:9
 returns-2 : tie.Need-returns-2
 returns-2 c = λ e. never e
 
--- src/lib.rt:293:5
 names-requires-2 : tie.Need-names-requires-2
 names-requires-2 c κs = search needs
 
--- src/lib.rt:280:1
 returns-3 : tie.Need-returns-3
 returns-3 c =
     let s = c .before .before .before .before .before .before .before .before .args in

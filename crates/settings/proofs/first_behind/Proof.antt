@@ -7,11 +7,6 @@ use Rattle.machine.specs.Memory.{nodeAt}
 use Rattle.settings.specs.Plan.{Clear}
 use Rattle.settings.proofs.first_behind.Statement.{statement}
 use Rattle.settings.proofs.first_behind.Tie as tie
-use Rattle.settings.proofs.first_behind.Reads as reads
-use Rattle.settings.proofs.first_behind.Lts as lts
-use Rattle.settings.proofs.depends.Reads as depends-reads
-
-
 
 abbrev Inv-loop : tie.InvT-loop
 Inv-loop mem a n j₀ j = (a < j) × (j ≤ n) × ((q : ℕ) → a < q → q < j → Clear a (nodeAt mem q))
@@ -19,35 +14,27 @@ Inv-loop mem a n j₀ j = (a < j) × (j ≤ n) × ((q : ℕ) → a < q → q < j
 abbrev μ-loop : tie.MeasureT-loop
 μ-loop mem a n j₀ j = n - j
 
--- src/lib.rt:302:9
 returns : tie.Need-returns Inv-loop μ-loop
 returns c = record { within = omega arith; behind = λ l. absurd (omega (arith, c .if1 .taken)); clear = λ j l u. absurd (omega (arith, c .if1 .taken)) }
 
--- src/lib.rt:304:17
 add-j : tie.Need-add-j Inv-loop μ-loop
 add-j c = omega (arith, c .if1 .left)
 
--- src/lib.rt:305:5
 loop-holds : tie.Need-loop-holds Inv-loop μ-loop
 loop-holds c = (omega arith, omega (arith, c .if1 .left), λ q l u. absurd (omega arith))
 
--- src/lib.rt:306:12
 depends-requires : tie.Need-depends-requires Inv-loop μ-loop
 depends-requires c κs = record { words = omega (arith, c .before .before .before .before .pre .words); small = omega (arith, c .before .before .before .before .pre .small) }
 
--- src/lib.rt:307:13
 returns-2 : tie.Need-returns-2 Inv-loop μ-loop
 returns-2 c = record { within = omega arith; behind = λ l. c .before .before .before .loop .inv .0; clear = c .before .before .before .loop .inv .2 }
 
--- src/lib.rt:309:9
 add-j-2 : tie.Need-add-j-2 Inv-loop μ-loop
 add-j-2 c = omega arith
 
--- src/lib.rt:305:5
 loop-less : tie.Need-loop-less Inv-loop μ-loop
 loop-less c = omega arith
 
--- src/lib.rt:305:5
 loop-again : tie.Need-loop-again Inv-loop μ-loop
 loop-again c =
     (omega arith, omega arith, λ q l u. ⊎-elim
@@ -55,7 +42,6 @@ loop-again c =
         (λ g. c .before .before .before .loop .inv .2 q l g)
         (eq-or-lt-of-le {n = q} {m = c .before .before .before .loop .j} (omega arith)))
 
--- src/lib.rt:297:1
 returns-3 : tie.Need-returns-3 Inv-loop μ-loop
 returns-3 c = record { within = omega arith; behind = λ l. l; clear = λ q l u. c .before .loop .inv .2 q l (omega arith) }
 

@@ -14,35 +14,22 @@ use Rattle.settings.proofs.Placed.{placed-as}
 use borrow.Author.Needs.{needs}
 use Rattle.settings.proofs.found.Statement.{statement}
 use Rattle.settings.proofs.found.Tie as tie
-use Rattle.settings.proofs.found.Reads as reads
-use Rattle.settings.proofs.found.Lts as lts
-use Rattle.settings.proofs.place.Reads as place-reads
-use Rattle.settings.proofs.result.Reads as result-reads
-use Rattle.settings.proofs.work.Reads as work-reads
 
-
-
--- src/lib.rt:569:5
 work-requires : tie.Need-work-requires
 work-requires c κs = search needs
 
--- src/lib.rt:570:20
 result-requires : tie.Need-result-requires
 result-requires c κs = search needs
 
--- src/lib.rt:570:5
 place-requires : tie.Need-place-requires
 place-requires c κs = search needs
 
--- src/lib.rt:557:1
 same-length : tie.Need-same-length
 same-length c = search needs
 
--- src/lib.rt:557:1
 same-length-2 : tie.Need-same-length-2
 same-length-2 c = search needs
 
--- src/lib.rt:557:1
 returns : tie.Need-returns
 returns c =
     let s = c .before .before .before .before .before .before .before .before .before .before .before in

@@ -7,11 +7,6 @@ use Rattle.machine.specs.Memory.{nodeAt}
 use Rattle.settings.specs.Plan.{NotFree}
 use Rattle.settings.proofs.free_node.Statement.{statement}
 use Rattle.settings.proofs.free_node.Tie as tie
-use Rattle.settings.proofs.free_node.Reads as reads
-use Rattle.settings.proofs.free_node.Lts as lts
-use Rattle.settings.proofs.is_free.Reads as is-free-reads
-
-
 
 abbrev Inv-loop : tie.InvT-loop
 Inv-loop mem i n j₀ j = (j ≤ n) × ((q : ℕ) → q < j → NotFree i (nodeAt mem q))
@@ -19,27 +14,21 @@ Inv-loop mem i n j₀ j = (j ≤ n) × ((q : ℕ) → q < j → NotFree i (nodeA
 abbrev μ-loop : tie.MeasureT-loop
 μ-loop mem i n j₀ j = n - j
 
--- src/lib.rt:257:5
 loop-holds : tie.Need-loop-holds Inv-loop μ-loop
 loop-holds c = (omega arith, λ q l. absurd (omega arith))
 
--- src/lib.rt:258:12
 is-free-requires : tie.Need-is-free-requires Inv-loop μ-loop
 is-free-requires c κs = record { words = omega (arith, c .before .before .before .pre .words); small = omega (arith, c .before .before .before .pre .small) }
 
--- src/lib.rt:259:13
 returns : tie.Need-returns Inv-loop μ-loop
 returns c = record { within = omega arith; is = λ l. c .before .is-free .ensures .yes (c .if1 .taken); before = c .before .before .before .loop .inv .1 }
 
--- src/lib.rt:261:9
 add-j : tie.Need-add-j Inv-loop μ-loop
 add-j c = omega arith
 
--- src/lib.rt:257:5
 loop-less : tie.Need-loop-less Inv-loop μ-loop
 loop-less c = omega arith
 
--- src/lib.rt:257:5
 loop-again : tie.Need-loop-again Inv-loop μ-loop
 loop-again c =
     (omega arith, λ q l. ⊎-elim
@@ -47,7 +36,6 @@ loop-again c =
         (λ g. c .before .before .before .loop .inv .1 q g)
         (eq-or-lt-of-le {n = q} {m = c .before .before .before .loop .j} (omega arith)))
 
--- src/lib.rt:252:1
 returns-2 : tie.Need-returns-2 Inv-loop μ-loop
 returns-2 c = record { within = omega arith; is = λ l. absurd (omega arith); before = λ q l. c .before .loop .inv .1 q (omega arith) }
 

@@ -1,10 +1,4 @@
-use lib.ListN.{getD}
-use Rattle.semantics.specs.Int.{holds}
-use Rattle.ints.specs.Numbers.{comparison}
-use Rattle.ints.proofs.Read.{read₂}
 use borrow.Author.Needs.{needs}
-use Rattle.machine.specs.Kinds.{testCompare}
-use Rattle.machine.specs.Layout.{testPlace}
 use Rattle.settings.proofs.holds_at.Statement.{statement}
 use Rattle.settings.proofs.holds_at.Tie as tie
 
@@ -44,20 +38,11 @@ mul-y-2 c = search needs
 shared-slice-read-y : tie.Need-shared-slice-read-y
 shared-slice-read-y c = search needs
 
-number-requires : tie.Need-number-requires
-number-requires c κs = search needs
-
-number-requires-2 : tie.Need-number-requires-2
-number-requires-2 c κs = search needs
-
-holds-requires : tie.Need-holds-requires
-holds-requires c κs = search needs
+holds-by-requires : tie.Need-holds-by-requires
+holds-by-requires c κs = search needs
 
 returns : tie.Need-returns
-returns c =
-    let s = c .before .before .before .before .before .before .before .args in
-    read₂ (holds (comparison (testCompare (getD (s .mem .now) (testPlace (s .j)) 0)))) (record { sfits = c .before .before .number .ok }) (record { sfits = c .before .number2 .ok })
-    (c .before .before .number .ensures) (c .before .number2 .ensures) (c .holds .ensures)
+returns c = c .holds-by .ensures
 
 pub holds-at-spec : {M : Type 1} → statement M
 holds-at-spec =
@@ -75,7 +60,5 @@ holds-at-spec =
     add-y
     mul-y-2
     shared-slice-read-y
-    number-requires
-    number-requires-2
-    holds-requires
+    holds-by-requires
     returns)

@@ -7,48 +7,34 @@ use Rattle.settings.proofs.Planning.{decides-yes, decides-no, free-is, 
 use borrow.Author.Needs.{needs}
 use Rattle.settings.proofs.is_free.Statement.{statement}
 use Rattle.settings.proofs.is_free.Tie as tie
-use Rattle.settings.proofs.is_free.Reads as reads
-use Rattle.settings.proofs.is_free.Lts as lts
 
-
-
--- src/lib.rt:240:36
 mul-kind : tie.Need-mul-kind
 mul-kind c = search needs
 
--- src/lib.rt:240:20
 add-kind : tie.Need-add-kind
 add-kind c = search needs
 
--- src/lib.rt:240:16
 mul-kind-2 : tie.Need-mul-kind-2
 mul-kind-2 c = search needs
 
--- src/lib.rt:240:16
 shared-slice-read-kind : tie.Need-shared-slice-read-kind
 shared-slice-read-kind c = search needs
 
--- src/lib.rt:241:38
 mul-x : tie.Need-mul-x
 mul-x c = search needs
 
--- src/lib.rt:241:17
 add-x : tie.Need-add-x
 add-x c = search needs
 
--- src/lib.rt:241:13
 mul-x-2 : tie.Need-mul-x-2
 mul-x-2 c = search needs
 
--- src/lib.rt:241:13
 shared-slice-read-x : tie.Need-shared-slice-read-x
 shared-slice-read-x c = search needs
 
--- src/lib.rt:241:13
 cast-x : tie.Need-cast-x
 cast-x c = omega (arith, c .shared-slice-known2 .given (nodeLeft (c .before .before .args .j)))
 
--- src/lib.rt:243:9
 returns : tie.Need-returns
 returns c =
     let s = c .before .before .before .args in
@@ -56,7 +42,6 @@ returns c =
     let x = getD (s .mem .now) (nodeLeft (s .j)) 0 in
     decides-no (works-not (nodeOp k) x (s .i) (cellAs (leftOpen k) x) (cellAs (rightOpen k) (getD (s .mem .now) (nodeRight (s .j)) 0)) (c .if1 .taken))
 
--- src/lib.rt:246:9
 returns-2 : tie.Need-returns-2
 returns-2 c =
     let s = c .before .before .before .before .args in
@@ -64,7 +49,6 @@ returns-2 c =
     let x = getD (s .mem .now) (nodeLeft (s .j)) 0 in
     decides-yes (free-is (nodeOp k) x (s .i) (cellAs (leftOpen k) x) (cellAs (rightOpen k) (getD (s .mem .now) (nodeRight (s .j)) 0)) (omega (arith, c .before .if1 .left)) (c .if2 .taken))
 
--- src/lib.rt:236:1
 returns-3 : tie.Need-returns-3
 returns-3 c =
     let s = c .before .before .before .before .args in

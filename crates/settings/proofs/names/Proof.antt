@@ -1,20 +1,13 @@
 use Rattle.settings.proofs.Planning.{off-known, off-open, never}
 use Rattle.settings.proofs.names.Statement.{statement}
 use Rattle.settings.proofs.names.Tie as tie
-use Rattle.settings.proofs.names.Reads as reads
-use Rattle.settings.proofs.names.Lts as lts
 
-
-
--- src/lib.rt:271:9
 returns : tie.Need-returns
 returns c = λ e. off-known (c .before .args .kind) (c .before .args .x) (c .before .args .a) (c .if1 .taken)
 
--- src/lib.rt:274:9
 returns-2 : tie.Need-returns-2
 returns-2 c = λ e. never e
 
--- src/lib.rt:267:1
 returns-3 : tie.Need-returns-3
 returns-3 c = λ e. off-open (c .before .before .args .kind) (c .before .before .args .x) (c .before .before .args .a) (c .if2 .left)
 

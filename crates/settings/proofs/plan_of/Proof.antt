@@ -5,32 +5,19 @@ use Rattle.settings.proofs.Planning.{apart-of}
 use borrow.Author.Needs.{needs}
 use Rattle.settings.proofs.plan_of.Statement.{statement}
 use Rattle.settings.proofs.plan_of.Tie as tie
-use Rattle.settings.proofs.plan_of.Reads as reads
-use Rattle.settings.proofs.plan_of.Lts as lts
-use Rattle.ints.proofs.monus.Reads as monus-reads
-use Rattle.settings.proofs.first_behind.Reads as first-behind-reads
-use Rattle.settings.proofs.free_node.Reads as free-node-reads
-use Rattle.settings.proofs.tests_end.Reads as tests-end-reads
 
-
-
--- src/lib.rt:366:9
 tests-end-requires : tie.Need-tests-end-requires
 tests-end-requires c κs = search needs
 
--- src/lib.rt:367:33
 monus-requires : tie.Need-monus-requires
 monus-requires c κs = search needs
 
--- src/lib.rt:367:9
 free-node-requires : tie.Need-free-node-requires
 free-node-requires c κs = search needs
 
--- src/lib.rt:368:9
 first-behind-requires : tie.Need-first-behind-requires
 first-behind-requires c κs = search needs
 
--- src/lib.rt:362:1
 returns : tie.Need-returns
 returns c =
     let s = c .before .before .before .before .before .args in

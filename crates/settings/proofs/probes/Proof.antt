@@ -5,54 +5,35 @@ use Rattle.settings.proofs.Loops.{some-setting, no-setting, cutting-non
 use borrow.Author.Needs.{needs}
 use Rattle.settings.proofs.probes.Statement.{statement}
 use Rattle.settings.proofs.probes.Tie as tie
-use Rattle.settings.proofs.probes.Reads as reads
-use Rattle.settings.proofs.probes.Lts as lts
-use Rattle.settings.proofs.filled.Reads as filled-reads
-use Rattle.settings.proofs.first_setting.Reads as first-setting-reads
-use Rattle.settings.proofs.leaving.Reads as leaving-reads
-use Rattle.settings.proofs.plan_of.Reads as plan-of-reads
-use Rattle.settings.proofs.seek.Reads as seek-reads
-use Rattle.settings.proofs.with_cut.Reads as with-cut-reads
 
-
-
--- src/lib.rt:632:9
 returns : tie.Need-returns
 returns c =
     let a = c .before .before .args in
     cutting-before (a .mem .now) (a .nodes) (a .tests) (a .k) (a .t) (c .if1 .taken)
 
--- src/lib.rt:634:9
 filled-requires : tie.Need-filled-requires
 filled-requires c κs = search needs
 
--- src/lib.rt:635:9
 same-length : tie.Need-same-length
 same-length c = search needs
 
--- src/lib.rt:635:9
 returns-2 : tie.Need-returns-2
 returns-2 c =
     let a = c .before .before .before .before .before .args in
     cutting-none (a .mem .now) (a .nodes) (a .tests) (a .k) (a .t) (no-setting (c .before .filled .ensures) (c .if2 .taken))
 
--- src/lib.rt:637:5
 first-setting-requires : tie.Need-first-setting-requires
 first-setting-requires c κs = search needs
 
--- src/lib.rt:638:9
 plan-of-requires : tie.Need-plan-of-requires
 plan-of-requires c κs = search needs
 
--- src/lib.rt:639:11
 seek-requires : tie.Need-seek-requires
 seek-requires c κs = search needs
 
--- src/lib.rt:640:21
 enum-known-left : tie.Need-enum-known-left
 enum-known-left c = search needs
 
--- src/lib.rt:640:60
 sub-leaving : tie.Need-sub-leaving
 sub-leaving c =
     let s = c .before .before .before .before .before .before .before .before .before .before .before .before .before .before .before .before .before .before in
@@ -70,7 +51,6 @@ sub-leaving c =
     let miss = c .before .before .before .before .before .before .before .before .before .before .before .before .before .before .before .before .if1 .left in
     omega (arith, cut-within (a .mem .now) m₀ (a .nodes) (a .tests) (a .k) (a .t) few f h miss upto front m₁ r g y (c .before .left .given .0 .0) (c .before .left .given .1) .0)
 
--- src/lib.rt:640:49
 leaving-requires : tie.Need-leaving-requires
 leaving-requires c κs =
     let s = c .before .before .before .before .before .before .before .before .before .before .before .before .before .before .before .before .before .before in
@@ -88,31 +68,24 @@ leaving-requires c κs =
     let miss = c .before .before .before .before .before .before .before .before .before .before .before .before .before .before .before .before .if1 .left in
     (omega (arith, cut-within (a .mem .now) m₀ (a .nodes) (a .tests) (a .k) (a .t) few f h miss upto front m₁ r g y (c .before .left .given .0 .0) (c .before .left .given .1) .1), s .pre .1)
 
--- src/lib.rt:640:40
 with-cut-requires : tie.Need-with-cut-requires
 with-cut-requires c κs = search needs
 
--- src/lib.rt:641:22
 enum-known-left-2 : tie.Need-enum-known-left-2
 enum-known-left-2 c = search needs
 
--- src/lib.rt:641:41
 leaving-requires-2 : tie.Need-leaving-requires-2
 leaving-requires-2 c κs = (over-within (c .before .before .before .before .before .before .before .before .before .before .before .first-setting .last .0) (c .before .before .before .before .before .seek .last .0) (c .before .before .before .before .before .before .before .plan-of .result .upto) (c .before .before .before .before .before .before .before .before .before .before .before .before .before .before .before .before .before .before .args .tests) (c .before .before .before .before .before .before .before .before .before .before .before .before .before .before .before .before .before .before .args .k) (c .before .before .before .before .before .before .before .before .before .before .before .before .before .before .before .before .before .before .args .t .budget) (c .before .before .before .before .before .seek .result) (c .before .left2 .given .0 .0) (c .before .before .before .before .before .seek .ensures .0) (c .before .left2 .given .1), c .before .before .before .before .before .before .before .before .before .before .before .before .before .before .before .before .before .before .pre .1)
 
--- src/lib.rt:642:37
 enum-told : tie.Need-enum-told
 enum-told c = search needs
 
--- src/lib.rt:642:37
 leaving-requires-3 : tie.Need-leaving-requires-3
 leaving-requires-3 c κs = search needs
 
--- src/lib.rt:627:1
 same-length-2 : tie.Need-same-length-2
 same-length-2 c = search needs
 
--- src/lib.rt:627:1
 returns-3 : tie.Need-returns-3
 returns-3 c =
     let s = c .before .before .before .before .before .before .before .before .before .before .before .before .before .before .before .before .before .before .before .before in
@@ -131,11 +104,9 @@ returns-3 c =
     cutting-all (a .mem .now) m₀ m₁ (a .nodes) (a .tests) (a .k) (a .t) (Go (c .with-cut .result)) few f
     (cutting-met (a .mem .now) m₀ (a .nodes) (a .tests) (a .k) (a .t) few f h miss upto front m₁ r g y (c .before .before .before .left .given .0 .0) (c .before .before .before .left .given .1) (c .before .leaving .result) (c .with-cut .result) (c .before .leaving .ensures) (c .with-cut .ensures))
 
--- src/lib.rt:627:1
 same-length-3 : tie.Need-same-length-3
 same-length-3 c = search needs
 
--- src/lib.rt:627:1
 returns-4 : tie.Need-returns-4
 returns-4 c =
     let s = c .before .before .before .before .before .before .before .before .before .before .before .before .before .before .before .before .before .before .before in
@@ -154,11 +125,9 @@ returns-4 c =
     cutting-all (a .mem .now) m₀ m₁ (a .nodes) (a .tests) (a .k) (a .t) (Go (c .leaving2 .result)) few f
     (cutting-end (a .mem .now) m₀ (a .nodes) (a .tests) (a .k) (a .t) few f h miss upto front m₁ r g y (c .before .before .left2 .given .0 .0) (c .before .before .left2 .given .1) (c .leaving2 .result) (c .leaving2 .ensures))
 
--- src/lib.rt:627:1
 same-length-4 : tie.Need-same-length-4
 same-length-4 c = search needs
 
--- src/lib.rt:627:1
 returns-5 : tie.Need-returns-5
 returns-5 c =
     let s = c .before .before .before .before .before .before .before .before .before .before .before .before .before .before .before .before .before .before in

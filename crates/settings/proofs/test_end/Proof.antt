@@ -6,74 +6,52 @@ use Rattle.settings.proofs.Planning.{within-more}
 use borrow.Author.Needs.{needs}
 use Rattle.settings.proofs.test_end.Statement.{statement}
 use Rattle.settings.proofs.test_end.Tie as tie
-use Rattle.settings.proofs.test_end.Reads as reads
-use Rattle.settings.proofs.test_end.Lts as lts
-use Rattle.settings.proofs.cell_end.Reads as cell-end-reads
-use Rattle.settings.proofs.larger.Reads as larger-reads
 
-
-
--- src/lib.rt:335:36
 mul-kind : tie.Need-mul-kind
 mul-kind c = search needs
 
--- src/lib.rt:335:20
 add-kind : tie.Need-add-kind
 add-kind c = search needs
 
--- src/lib.rt:335:16
 mul-kind-2 : tie.Need-mul-kind-2
 mul-kind-2 c = search needs
 
--- src/lib.rt:335:16
 shared-slice-read-kind : tie.Need-shared-slice-read-kind
 shared-slice-read-kind c = search needs
 
--- src/lib.rt:336:38
 mul-x : tie.Need-mul-x
 mul-x c = search needs
 
--- src/lib.rt:336:17
 add-x : tie.Need-add-x
 add-x c = search needs
 
--- src/lib.rt:336:13
 mul-x-2 : tie.Need-mul-x-2
 mul-x-2 c = search needs
 
--- src/lib.rt:336:13
 shared-slice-read-x : tie.Need-shared-slice-read-x
 shared-slice-read-x c = search needs
 
--- src/lib.rt:337:39
 mul-y : tie.Need-mul-y
 mul-y c = search needs
 
--- src/lib.rt:337:17
 add-y : tie.Need-add-y
 add-y c = search needs
 
--- src/lib.rt:337:13
 mul-y-2 : tie.Need-mul-y-2
 mul-y-2 c = search needs
 
--- src/lib.rt:337:13
 shared-slice-read-y : tie.Need-shared-slice-read-y
 shared-slice-read-y c = search needs
 
--- src/lib.rt:339:9
 cell-end-requires : tie.Need-cell-end-requires
 cell-end-requires c κs = search needs
 
--- src/lib.rt:340:9
 cell-end-requires-2 : tie.Need-cell-end-requires-2
 cell-end-requires-2 c κs = search needs
 
--- src/lib.rt:338:5
 larger-requires : tie.Need-larger-requires
 larger-requires c κs = search needs
 
--- src/lib.rt:331:1
 returns : tie.Need-returns
 returns c =
     let s = c .before .before .before .before .before .before .before .args in

@@ -15,17 +15,6 @@ use Rattle.settings.proofs.Loops.{some-setting, no-setting, trialling-n
 use borrow.Author.Needs.{needs}
 use Rattle.settings.proofs.trials.Statement.{statement}
 use Rattle.settings.proofs.trials.Tie as tie
-use Rattle.settings.proofs.trials.Reads as reads
-use Rattle.settings.proofs.trials.Lts as lts
-use Rattle.settings.proofs.filled.Reads as filled-reads
-use Rattle.settings.proofs.first_setting.Reads as first-setting-reads
-use Rattle.settings.proofs.found.Reads as found-reads
-use Rattle.settings.proofs.leaving.Reads as leaving-reads
-use Rattle.settings.proofs.next_setting.Reads as next-setting-reads
-use Rattle.settings.proofs.plan_of.Reads as plan-of-reads
-use Rattle.settings.proofs.seek.Reads as seek-reads
-
-
 
 abbrev Inv-loop : tie.InvT-loop
 Inv-loop mem₀ nodes tests k v rows₀ p u₀ mem rows u = Trialling mem₀ nodes tests k (cellOf v) rows₀ u₀ mem rows u
@@ -33,38 +22,31 @@ Inv-loop mem₀ nodes tests k v rows₀ p u₀ mem rows u = Trialling mem₀ nod
 abbrev μ-loop : tie.MeasureT-loop
 μ-loop mem₀ nodes tests k v rows₀ p u₀ mem rows u = u .budget
 
--- src/lib.rt:586:9
 filled-requires : tie.Need-filled-requires Inv-loop μ-loop
 filled-requires c κs = (c .before .before .pre .0 .few, omega (arith, c .before .before .pre .0 .nodes .words))
 
--- src/lib.rt:587:9
 same-length : tie.Need-same-length Inv-loop μ-loop
 same-length c = search needs
 
--- src/lib.rt:587:9
 returns : tie.Need-returns Inv-loop μ-loop
 returns c =
     let s = c .before .before .before .before .args in
     trialling-none (s .mem .now) (s .nodes) (s .tests) (s .k) (cellOf (s .v)) (s .rows .now) (s .t) (no-setting (c .before .filled .ensures) (c .if1 .taken))
 
--- src/lib.rt:589:5
 first-setting-requires : tie.Need-first-setting-requires Inv-loop μ-loop
 first-setting-requires c κs = (c .before .before .before .before .before .pre .0 .few, omega (arith, c .before .before .before .before .before .pre .0 .nodes .words))
 
--- src/lib.rt:590:9
 plan-of-requires : tie.Need-plan-of-requires Inv-loop μ-loop
 plan-of-requires c κs =
     let s = c .before .before .before .before .before .before .before .before .before in
     holding-same (s .args .mem .now) (c .before .before .before .first-setting .last .0) (s .args .nodes) (s .args .tests) (s .args .k) (omega arith) (s .pre .0)
 
--- src/lib.rt:592:5
 loop-holds : tie.Need-loop-holds Inv-loop μ-loop
 loop-holds c =
     let s = c .before .before .before .before .before .before .before .before .before .before in
     trialling-first (s .args .mem .now) (c .before .before .before .before .first-setting .last .0) (s .args .nodes) (s .args .tests) (s .args .k) (cellOf (s .args .v)) (s .args .rows .now) (s .args .t) (s .pre .0 .few)
     (c .before .before .before .before .first-setting .ensures) (some-setting (c .before .before .before .before .before .before .before .filled .ensures) (c .before .before .before .before .before .before .if1 .left))
 
--- src/lib.rt:593:15
 seek-requires : tie.Need-seek-requires Inv-loop μ-loop
 seek-requires c κs =
     let s = c .before .before .before .before .before .before .before .before .before .before .before .before in
@@ -76,11 +58,9 @@ seek-requires c κs =
       apart-steady (c .before .before .before .before .before .before .first-setting .last .0) (l .mem) (a .k - 1) (c .before .before .plan-of .result .moving) (c .before .before .plan-of .result .first) (l .inv .steady) (p .apart),
       p .inner)
 
--- src/lib.rt:594:25
 enum-known-left : tie.Need-enum-known-left Inv-loop μ-loop
 enum-known-left c = search needs
 
--- src/lib.rt:595:66
 sub-leaving : tie.Need-sub-leaving Inv-loop μ-loop
 sub-leaving c =
     let s = c .before .before .before .before .before .before .before .before .before .before .before .before .before .before .before .before .before .before .before in
@@ -97,7 +77,6 @@ sub-leaving c =
     let l = c .before .before .before .before .before .before .before .before .loop in
     omega (arith, met-within few (l .inv) upto front m₁ r g y (c .before .before .left .given .0 .0) (c .before .before .left .given .1) .0)
 
--- src/lib.rt:595:55
 leaving-requires : tie.Need-leaving-requires Inv-loop μ-loop
 leaving-requires c κs =
     let s = c .before .before .before .before .before .before .before .before .before .before .before .before .before .before .before .before .before .before .before in
@@ -114,7 +93,6 @@ leaving-requires c κs =
     let l = c .before .before .before .before .before .before .before .before .loop in
     (omega (arith, met-within few (l .inv) upto front m₁ r g y (c .before .before .left .given .0 .0) (c .before .before .left .given .1) .1), omega (arith, s .pre .1 .sum, l .inv .tries .counts .sum))
 
--- src/lib.rt:595:23
 found-requires : tie.Need-found-requires Inv-loop μ-loop
 found-requires c κs =
     let s = c .before .before .before .before .before .before .before .before .before .before .before .before .before .before .before .before .before .before .before .before .before in
@@ -134,23 +112,18 @@ found-requires c κs =
       met-worked few (l .inv) upto front m₁ r g y (c .before .before .before .before .left .given .0 .0) (c .before .before .before .before .left .given .1),
       subst (λ (u : Tally). 10 * (u .written + u .room) ≤ length (l .rows)) (sym (c .before .leaving .ensures)) (fair-more (length (a .rows .now)) (length (l .rows)) (l .inv .sheet) (s .pre .1) (l .inv .tries .counts) .place))
 
--- src/lib.rt:596:31
 enum-known-w : tie.Need-enum-known-w Inv-loop μ-loop
 enum-known-w c = search needs
 
--- src/lib.rt:597:29
 next-setting-requires : tie.Need-next-setting-requires Inv-loop μ-loop
 next-setting-requires c κs = (c .before .before .before .before .before .before .before .before .before .before .before .before .before .before .before .before .before .before .before .before .before .before .before .before .before .before .before .before .before .pre .0 .few, omega (arith, c .before .before .before .before .before .before .before .before .before .before .before .before .before .before .before .before .before .before .loop .inv .size, c .before .before .before .before .before .before .before .before .before .before .before .before .before .before .before .before .before .before .loop .inv .sheet, c .before .before .before .before .before .before .before .before .before .before .before .before .before .before .before .before .before .before .before .before .before .before .before .first-setting .kept .0, c .before .before .before .before .before .before .before .before .before .before .before .before .before .before .before .before .seek .kept .0, c .before .before .before .before .before .before .before .found .kept .0, c .before .before .before .before .before .before .before .before .before .before .before .before .before .before .before .before .before .before .before .before .before .before .before .before .before .before .before .before .before .pre .0 .nodes .words))
 
--- src/lib.rt:598:29
 same-length-2 : tie.Need-same-length-2 Inv-loop μ-loop
 same-length-2 c = omega (arith, c .before .before .before .before .before .before .before .before .before .before .before .before .before .before .before .before .before .before .before .before .before .before .loop .inv .size, c .before .before .before .before .before .before .before .before .before .before .before .before .before .before .before .before .before .before .before .before .before .before .loop .inv .sheet, c .before .before .before .before .before .before .before .before .before .before .before .before .before .before .before .before .before .before .before .before .before .before .before .before .before .before .before .first-setting .kept .0, c .before .before .before .before .before .before .before .before .before .before .before .before .before .before .before .before .before .before .before .before .seek .kept .0, c .before .before .before .before .before .before .before .before .before .before .before .found .kept .0, c .before .before .before .before .before .before .before .before .before .before .before .found .kept .1 .1 .1 .1 .1 .1 .0, c .before .before .before .next-setting .kept .0)
 
--- src/lib.rt:598:29
 same-length-3 : tie.Need-same-length-3 Inv-loop μ-loop
 same-length-3 c = omega (arith, c .before .before .before .before .before .before .before .before .before .before .before .before .before .before .before .before .before .before .before .before .before .before .loop .inv .size, c .before .before .before .before .before .before .before .before .before .before .before .before .before .before .before .before .before .before .before .before .before .before .loop .inv .sheet, c .before .before .before .before .before .before .before .before .before .before .before .before .before .before .before .before .before .before .before .before .before .before .before .before .before .before .before .first-setting .kept .0, c .before .before .before .before .before .before .before .before .before .before .before .before .before .before .before .before .before .before .before .before .seek .kept .0, c .before .before .before .before .before .before .before .before .before .before .before .found .kept .0, c .before .before .before .before .before .before .before .before .before .before .before .found .kept .1 .1 .1 .1 .1 .1 .0, c .before .before .before .next-setting .kept .0)
 
--- src/lib.rt:598:29
 returns-2 : tie.Need-returns-2 Inv-loop μ-loop
 returns-2 c =
     let s = c .before .before .before .before .before .before .before .before .before .before .before .before .before .before .before .before .before .before .before .before .before .before .before .before .before .before .before .before .before .before .before .before .before in
@@ -174,7 +147,6 @@ returns-2 c =
     trialling-all (a .mem .now) m₀ m₃ (a .nodes) (a .tests) (a .k) (cellOf (a .v)) (a .rows .now) rows′ (a .t) (Go (c .before .before .before .before .before .before .w .given .0 .0)) few f
     (trialling-last few p₁ m₂ rows′ (c .before .before .before .before .before .before .before .before .before .before .before .found .result) q (c .before .before .before .before .before .before .before .before .before .before .before .found .ensures .1) m₃ (c .before .before .before .before .before .before .w .given .0 .0) (c .before .before .before .before .before .before .w .given .1) n)
 
--- src/lib.rt:592:5
 loop-less : tie.Need-loop-less Inv-loop μ-loop
 loop-less c =
     let s = c .before .before .before .before .before .before .before .before .before .before .before .before .before .before .before .before .before .before .before .before .before .before .before .before .before .before .before .before .before .before .before .before .before in
@@ -196,7 +168,6 @@ loop-less c =
     let x : c .before .before .before .before .before .before .w .given .0 .0 .budget < c .before .before .before .before .before .before .before .before .before .before .before .before .before .before .before .before .left .given .0 .0 = subst (Moved (c .before .before .before .before .before .before .before .before .before .before .before .before .before .before .before .before .left .given .0 .0)) (c .before .before .before .before .before .before .w .given .1) (q .moved) in
     omega (arith, x, met-within few (l .inv) upto front m₁ r g y (c .before .before .before .before .before .before .before .before .before .before .before .before .before .before .before .before .left .given .0 .0) (c .before .before .before .before .before .before .before .before .before .before .before .before .before .before .before .before .left .given .1) .1)
 
--- src/lib.rt:592:5
 loop-again : tie.Need-loop-again Inv-loop μ-loop
 loop-again c =
     let s = c .before .before .before .before .before .before .before .before .before .before .before .before .before .before .before .before .before .before .before .before .before .before .before .before .before .before .before .before .before .before .before .before .before in
@@ -219,19 +190,15 @@ loop-again c =
     let n = subst (λ (b : Bool). Follows m₂ m₃ (a .k) b) (not-false _ (c .if2 .left)) (c .before .before .before .next-setting .ensures) in
     trialling-next few p₁ m₂ rows′ (c .before .before .before .before .before .before .before .before .before .before .before .found .result) q (c .before .before .before .before .before .before .before .before .before .before .before .found .ensures .1) m₃ (c .before .before .before .before .before .before .w .given .0 .0) (c .before .before .before .before .before .before .w .given .1) n (omega (arith, c .before .before .before .next-setting .kept .0, c .before .before .before .before .before .before .before .before .before .before .before .found .kept .0)) (c .before .before .before .before .before .before .before .before .before .before .before .found .kept .1 .1 .1 .1 .1 .1 .0)
 
--- src/lib.rt:602:33
 enum-known-w-2 : tie.Need-enum-known-w-2 Inv-loop μ-loop
 enum-known-w-2 c = search needs
 
--- src/lib.rt:602:39
 same-length-4 : tie.Need-same-length-4 Inv-loop μ-loop
 same-length-4 c = omega (arith, c .before .before .before .before .before .before .before .before .before .before .before .before .before .before .before .before .before .loop .inv .size, c .before .before .before .before .before .before .before .before .before .before .before .before .before .before .before .before .before .loop .inv .sheet, c .before .before .before .before .before .before .before .before .before .before .before .before .before .before .before .before .before .before .before .before .before .before .first-setting .kept .0, c .before .before .before .before .before .before .before .before .before .before .before .before .before .before .before .seek .kept .0, c .before .before .before .before .before .before .found .kept .0, c .before .before .before .before .before .before .found .kept .1 .1 .1 .1 .1 .1 .0)
 
--- src/lib.rt:602:39
 same-length-5 : tie.Need-same-length-5 Inv-loop μ-loop
 same-length-5 c = omega (arith, c .before .before .before .before .before .before .before .before .before .before .before .before .before .before .before .before .before .loop .inv .size, c .before .before .before .before .before .before .before .before .before .before .before .before .before .before .before .before .before .loop .inv .sheet, c .before .before .before .before .before .before .before .before .before .before .before .before .before .before .before .before .before .before .before .before .before .before .first-setting .kept .0, c .before .before .before .before .before .before .before .before .before .before .before .before .before .before .before .seek .kept .0, c .before .before .before .before .before .before .found .kept .0, c .before .before .before .before .before .before .found .kept .1 .1 .1 .1 .1 .1 .0)
 
--- src/lib.rt:602:39
 returns-3 : tie.Need-returns-3 Inv-loop μ-loop
 returns-3 c =
     let s = c .before .before .before .before .before .before .before .before .before .before .before .before .before .before .before .before .before .before .before .before .before .before .before .before .before .before .before .before in
@@ -253,19 +220,15 @@ returns-3 c =
     trialling-all (a .mem .now) m₀ m₂ (a .nodes) (a .tests) (a .k) (cellOf (a .v)) (a .rows .now) rows′ (a .t) (Full (c .before .w2 .given .0 .0)) few f
     (trialling-over few p₁ m₂ rows′ (c .before .before .before .before .before .before .found .result) q (c .before .before .before .before .before .before .found .ensures .1) (Full (c .before .w2 .given .0 .0)) (c .before .w2 .given .1) refl)
 
--- src/lib.rt:603:34
 enum-known-w-3 : tie.Need-enum-known-w-3 Inv-loop μ-loop
 enum-known-w-3 c = search needs
 
--- src/lib.rt:603:40
 same-length-6 : tie.Need-same-length-6 Inv-loop μ-loop
 same-length-6 c = omega (arith, c .before .before .before .before .before .before .before .before .before .before .before .before .before .before .before .before .before .loop .inv .size, c .before .before .before .before .before .before .before .before .before .before .before .before .before .before .before .before .before .loop .inv .sheet, c .before .before .before .before .before .before .before .before .before .before .before .before .before .before .before .before .before .before .before .before .before .before .first-setting .kept .0, c .before .before .before .before .before .before .before .before .before .before .before .before .before .before .before .seek .kept .0, c .before .before .before .before .before .before .found .kept .0, c .before .before .before .before .before .before .found .kept .1 .1 .1 .1 .1 .1 .0)
 
--- src/lib.rt:603:40
 same-length-7 : tie.Need-same-length-7 Inv-loop μ-loop
 same-length-7 c = omega (arith, c .before .before .before .before .before .before .before .before .before .before .before .before .before .before .before .before .before .loop .inv .size, c .before .before .before .before .before .before .before .before .before .before .before .before .before .before .before .before .before .loop .inv .sheet, c .before .before .before .before .before .before .before .before .before .before .before .before .before .before .before .before .before .before .before .before .before .before .first-setting .kept .0, c .before .before .before .before .before .before .before .before .before .before .before .before .before .before .before .seek .kept .0, c .before .before .before .before .before .before .found .kept .0, c .before .before .before .before .before .before .found .kept .1 .1 .1 .1 .1 .1 .0)
 
--- src/lib.rt:603:40
 returns-4 : tie.Need-returns-4 Inv-loop μ-loop
 returns-4 c =
     let s = c .before .before .before .before .before .before .before .before .before .before .before .before .before .before .before .before .before .before .before .before .before .before .before .before .before .before .before .before in
@@ -287,26 +250,21 @@ returns-4 c =
     trialling-all (a .mem .now) m₀ m₂ (a .nodes) (a .tests) (a .k) (cellOf (a .v)) (a .rows .now) rows′ (a .t) (Spent (c .before .w3 .given .0 .0)) few f
     (trialling-over few p₁ m₂ rows′ (c .before .before .before .before .before .before .found .result) q (c .before .before .before .before .before .before .found .ensures .1) (Spent (c .before .w3 .given .0 .0)) (c .before .w3 .given .1) refl)
 
--- src/lib.rt:606:26
 enum-known-left-2 : tie.Need-enum-known-left-2 Inv-loop μ-loop
 enum-known-left-2 c = search needs
 
--- src/lib.rt:606:52
 leaving-requires-2 : tie.Need-leaving-requires-2 Inv-loop μ-loop
 leaving-requires-2 c κs =
     let s = c .before .before .before .before .before .before .before .before .before .before .before .before .before .before .before .before .before .before in
     let l = c .before .before .before .before .before .before .before .loop in
     (over-within (l .mem) (c .before .before .before .before .before .seek .last .0) (c .before .before .before .before .before .before .before .before .plan-of .result .upto) (s .args .tests) (s .args .k) (l .u .budget) (c .before .before .before .before .before .seek .result) (c .before .left2 .given .0 .0) (c .before .before .before .before .before .seek .ensures .0) (c .before .left2 .given .1), omega (arith, s .pre .1 .sum, l .inv .tries .counts .sum))
 
--- src/lib.rt:606:35
 same-length-8 : tie.Need-same-length-8 Inv-loop μ-loop
 same-length-8 c = omega (arith, c .before .before .before .before .before .before .before .before .loop .inv .size, c .before .before .before .before .before .before .before .before .loop .inv .sheet, c .before .before .before .before .before .before .before .before .before .before .before .before .before .first-setting .kept .0, c .before .before .before .before .before .before .seek .kept .0)
 
--- src/lib.rt:606:35
 same-length-9 : tie.Need-same-length-9 Inv-loop μ-loop
 same-length-9 c = omega (arith, c .before .before .before .before .before .before .before .before .loop .inv .size, c .before .before .before .before .before .before .before .before .loop .inv .sheet, c .before .before .before .before .before .before .before .before .before .before .before .before .before .first-setting .kept .0, c .before .before .before .before .before .before .seek .kept .0)
 
--- src/lib.rt:606:35
 returns-5 : tie.Need-returns-5 Inv-loop μ-loop
 returns-5 c =
     let s = c .before .before .before .before .before .before .before .before .before .before .before .before .before .before .before .before .before .before .before in
@@ -324,26 +282,21 @@ returns-5 c =
     trialling-all (a .mem .now) m₀ m₁ (a .nodes) (a .tests) (a .k) (cellOf (a .v)) (a .rows .now) (l .rows) (a .t) (Go (c .leaving2 .result)) few f
     (trialling-end few (l .inv) upto front m₁ r g y (c .before .before .left2 .given .0 .0) (c .before .before .left2 .given .1) (c .leaving2 .result) (c .leaving2 .ensures))
 
--- src/lib.rt:607:48
 enum-told : tie.Need-enum-told Inv-loop μ-loop
 enum-told c = search needs
 
--- src/lib.rt:607:48
 leaving-requires-3 : tie.Need-leaving-requires-3 Inv-loop μ-loop
 leaving-requires-3 c κs =
     let s = c .before .before .before .before .before .before .before .before .before .before .before .before .before .before .before .before .before in
     let l = c .before .before .before .before .before .before .loop in
     (omega arith, omega (arith, s .pre .1 .sum, l .inv .tries .counts .sum))
 
--- src/lib.rt:607:28
 same-length-10 : tie.Need-same-length-10 Inv-loop μ-loop
 same-length-10 c = omega (arith, c .before .before .before .before .before .before .before .loop .inv .size, c .before .before .before .before .before .before .before .loop .inv .sheet, c .before .before .before .before .before .before .before .before .before .before .before .before .first-setting .kept .0, c .before .before .before .before .before .seek .kept .0)
 
--- src/lib.rt:607:28
 same-length-11 : tie.Need-same-length-11 Inv-loop μ-loop
 same-length-11 c = omega (arith, c .before .before .before .before .before .before .before .loop .inv .size, c .before .before .before .before .before .before .before .loop .inv .sheet, c .before .before .before .before .before .before .before .before .before .before .before .before .first-setting .kept .0, c .before .before .before .before .before .seek .kept .0)
 
--- src/lib.rt:607:28
 returns-6 : tie.Need-returns-6 Inv-loop μ-loop
 returns-6 c =
     let s = c .before .before .before .before .before .before .before .before .before .before .before .before .before .before .before .before .before .before in
