@@ -1,13 +1,13 @@
--- Where only words of the checkpoints change, all that a path stands on is as it was; and a checkpoint stays where its words do.
+-- Where only marks change, all that a path stands on is as it was; and a checkpoint stays where its marks do.
 use mathlib.Core.Path.{_≡_, refl, sym, ap, ap₂, _∙_, subst}
 use mathlib.Core.Bool.{Bool, true, false}
 use mathlib.Core.List.{List, map}
-use Prim.Native.Nat.{ℕ, _+_, _-_, _*_, _/_, _≤_, _<_}
+use Prim.Native.Nat.{ℕ, _+_, _-_, _*_, _≤_, _<_}
 use native.Mathlib.Omega.{arith}
 use lib.ListN.{length, getD}
 use Rattle.simulation.specs.Path.{state}
 use Rattle.simulation.specs.Nodes.{testOf, ranges}
-use Rattle.machine.specs.Layout.{outcomePlace, outcomeEnd, indexEnd, rangeLow, rangeHigh, markPlace}
+use Rattle.machine.specs.Layout.{outcomePlace, outcomeEnd, indexEnd, rangeLow, rangeHigh, markPlace, markNumber}
 use Rattle.machine.specs.Memory.{nodeAt, nodesIn, windowsIn, startsIn, rangesIn, testAt, testsIn, outcomeAs, outcomesIn}
 use Rattle.machine.proofs.Tables.{room-same}
 use Rattle.paths.specs.declared.Point.{Point}
@@ -18,15 +18,15 @@ use Rattle.paths.proofs.Table.{windows-same, starts-same, node-same, nodes-same
 use Rattle.paths.proofs.Choice.{outcomes-same}
 use Rattle.paths.proofs.Choosing.{test-same, tests-same}
 use Rattle.paths.proofs.Machinery.{ready-stays}
-use Rattle.checkpoints.specs.Live.{liveWords, sizeOf, numberWords}
-use Rattle.checkpoints.specs.Words.{bitOf, numbersOf, wordAt, pointAt, Marking, Copied, Numbered, Unused, Saved}
-use Rattle.checkpoints.proofs.Places.{mark-apart}
+use Rattle.checkpoints.specs.Live.{framed, called, windowed, livePairs, sizeOf, numberCount, Marking, Unused}
+use Rattle.checkpoints.specs.Words.{bitOf, numbersOf, numberAt, pointAt, Numbered, Lives, Saved}
+use Rattle.checkpoints.proofs.Places.{times-on}
 
--- ---- only words of the checkpoints changed
+-- ---- only marks changed
 
 module _ (m m′ : List ℕ) (w n : ℕ) (k : Marking m m′ w n) where
   pub off : (x : ℕ) → ((j : ℕ) → outcomeEnd j ≤ x → x < indexEnd j → ⊥) → getD m′ x 0 ≡ getD m x 0
-  off x h = k .other x (λ v a b e. h (v / 3) (omega arith) (omega arith))
+  off x h = k .other x (λ i a b u v. h i u v)
 
   pub machinery-is : Machinery m m′
   machinery-is = record { low = λ x l. off x (λ j u v. omega arith); tables = λ x j a b. off x (λ q u v. omega arith) }
@@ -75,7 +75,7 @@ flag-is : (o : Bool) → outcomeAs (bitOf o) ≡ o
 flag-is true = refl
 flag-is false = refl
 
-point-same : (m m′ : List ℕ) (w : ℕ) → ((v : ℕ) → w ≤ v → v < w + numberWords → wordAt m′ v ≡ wordAt m v) → pointAt m′ w ≡ pointAt m w
+point-same : (m m′ : List ℕ) (w : ℕ) → ((v : ℕ) → w ≤ v → v < w + numberCount → numberAt m′ v ≡ numberAt m v) → pointAt m′ w ≡ pointAt m w
 point-same m m′ w h = λ i. record {
   run = record {
     pc = h w (omega arith) (omega arith) i;
@@ -91,10 +91,10 @@ point-same m m′ w h = λ i. record {
   forced = 0;
 }
 
-point-is : (m : List ℕ) (p : Point) (w : ℕ) → p .forced ≡ 0 → ((i : ℕ) → i < numberWords → wordAt m (w + i) ≡ getD (numbersOf p) i 0) → pointAt m w ≡ p
+point-is : (m : List ℕ) (p : Point) (w : ℕ) → p .forced ≡ 0 → ((i : ℕ) → i < numberCount → numberAt m (w + i) ≡ getD (numbersOf p) i 0) → pointAt m w ≡ p
 point-is m p w e h = λ i. record {
   run = record {
-    pc = (ap (wordAt m) {x = w} {y = w + 0} (omega arith) ∙ h 0 (omega arith)) i;
+    pc = (ap (numberAt m) {x = w} {y = w + 0} (omega arith) ∙ h 0 (omega arith)) i;
     flag = (ap outcomeAs (h 1 (omega arith)) ∙ flag-is (p .run .flag)) i;
     base = h 2 (omega arith) i;
     top = h 3 (omega arith) i;
@@ -109,26 +109,46 @@ point-is m p w e h = λ i. record {
 
 -- ---- a checkpoint
 
--- it stays where its words do
-pub saved-stays : (m m′ m₀ : List ℕ) (p : Point) (w : ℕ) → ((v : ℕ) → w ≤ v → v < w + sizeOf p → wordAt m′ v ≡ wordAt m v) → length m′ ≡ length m → Saved m m₀ p w → Saved m′ m₀ p w
-saved-stays m m′ m₀ p w h len s = record {
-  lives = record { words = λ i x l v. h (w + i) (omega arith) (omega arith) ∙ s .lives .words i x l v };
-  unused = s .unused;
-  numbers = point-same m m′ (w + liveWords p) (λ v a b. h v (omega arith) (omega arith)) ∙ s .numbers;
-  going = s .going;
-  same-length = s .same-length ∙ sym len;
-}
+module _ (n : ℕ) where
+  -- it stays where its marks do
+  pub saved-stays : (m m′ m₀ : List ℕ) (p : Point) (w : ℕ) → ((i x : ℕ) → w ≤ i → i < w + sizeOf n p → markPlace i ≤ x → x < indexEnd i → getD m′ x 0 ≡ getD m x 0) → length m′ ≡ length m
+      → Saved n m m₀ p w → Saved n m′ m₀ p w
+  saved-stays m m′ m₀ p w h len s =
+      let d = p .run .depth in
+      record {
+        lives = record {
+          frames = λ j a b l g k. let o = times-on n j d l in h (w + framed n j + a) (markPlace (w + framed n j + a) + b) (omega arith) (omega arith) (omega arith) (omega arith) ∙ s .lives .frames j a b l g k;
+          callers = λ j b l k. h (w + framed n d + j) (markPlace (w + framed n d + j) + b) (omega arith) (omega arith) (omega arith) (omega arith) ∙ s .lives .callers j b l k;
+          windows = λ j b l k. h (w + called n d + j) (markPlace (w + called n d + j) + b) (omega arith) (omega arith) (omega arith) (omega arith) ∙ s .lives .windows j b l k;
+          temporaries = λ j b l k.
+              h (w + windowed n d (p .windows) + j) (markPlace (w + windowed n d (p .windows) + j) + b) (omega arith) (omega arith) (omega arith) (omega arith) ∙ s .lives .temporaries j b l k;
+        };
+        unused = s .unused;
+        numbers = point-same m m′ (w + sizeOf n p - numberCount) (λ v a b. h v (markNumber v) (omega arith) (omega arith) (omega arith) (omega arith)) ∙ s .numbers;
+        going = s .going;
+        same-length = s .same-length ∙ sym len;
+      }
 
--- it is written
-pub saved-so : (m m₁ m₂ : List ℕ) (p : Point) (w : ℕ) → Going m p → Unused m → p .forced ≡ 0 → length m₂ ≡ length m → Copied m m₁ p w (liveWords p) → Numbered m₁ m₂ (numbersOf p) (w + liveWords p) numberWords
-    → Saved m₂ m p w × Marking m m₂ w (sizeOf p)
-saved-so m m₁ m₂ p w g u e len a b = (
-  record {
-    lives = record { words = λ i x l v. b .marking .other (markPlace (w + i)) (λ q c d. mark-apart (w + i) q (omega arith)) ∙ a .words i x l v };
-    unused = u;
-    numbers = point-is m₂ p (w + liveWords p) e (b .words);
-    going = g;
-    same-length = sym len;
-  },
-  record { other = λ x h. b .marking .other x (λ v c d. h v (omega arith) (omega arith)) ∙ a .marking .other x (λ v c d. h v c (omega arith)) },
-)
+  -- it is written
+  pub saved-so : (m m₁ m₂ : List ℕ) (p : Point) (w : ℕ) → Going m p → Unused n m (p .run .depth) → p .forced ≡ 0 → length m₂ ≡ length m → Lives n m₁ m p w × Marking m m₁ w (livePairs n p)
+      → Numbered m₁ m₂ (numbersOf p) (w + sizeOf n p - numberCount) numberCount → Saved n m₂ m p w × Marking m m₂ w (sizeOf n p)
+  saved-so m m₁ m₂ p w g u e len a b =
+      let d = p .run .depth in (
+        record {
+          lives = record {
+            frames = λ j q r l f k. pair (w + framed n j + q) r k ∙ a .0 .frames j q r l f k;
+            callers = λ j r l k. pair (w + framed n d + j) r k ∙ a .0 .callers j r l k;
+            windows = λ j r l k. pair (w + called n d + j) r k ∙ a .0 .windows j r l k;
+            temporaries = λ j r l k. pair (w + windowed n d (p .windows) + j) r k ∙ a .0 .temporaries j r l k;
+          };
+          unused = u;
+          numbers = point-is m₂ p (w + sizeOf n p - numberCount) e (b .numbers);
+          going = g;
+          same-length = sym len;
+        },
+        record { other = λ x h. b .other x (λ i c l f. h i (omega arith) (omega arith) (omega arith) (omega arith)) ∙ a .1 .other x (λ i c l. h i c (omega arith)) },
+      )
+    where
+      -- numbers stand beside the pairs
+      pair : (i r : ℕ) → r < 2 → getD m₂ (markPlace i + r) 0 ≡ getD m₁ (markPlace i + r) 0
+      pair i r l = b .other (markPlace i + r) (λ q c k f. omega arith)

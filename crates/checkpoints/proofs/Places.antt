@@ -1,74 +1,46 @@
--- Where live words and the words of the checkpoints stand.
-use mathlib.Core.Path.{_≡_}
+-- Where pairs, frames and marks stand.
+use mathlib.Core.Path.{_≡_, subst}
 use mathlib.Core.List.{List}
-use Prim.Native.Nat.{ℕ, _+_, _*_, _/_, _≤_, _<_}
+use Prim.Native.Nat.{ℕ, zero, suc, _+_, _-_, _*_, _/_, _%_, _≤_, _<_}
+use native.Mathlib.Nat.{mul-le-mul-left, mul-le-mul-right}
 use native.Mathlib.Omega.{arith}
-use lib.ListN.{length}
-use Rattle.machine.specs.Layout.{frameWords, tablesPlace, stride, nodePlace, indexEnd, markPlace}
-use Rattle.checkpoints.specs.Live.{Live, frame, caller, window, pair, temporary, paired, Space}
+use lib.ListN.{length, getD}
+use Rattle.machine.specs.Layout.{frameWords, tablesPlace, stride, callersPlace, windowsPlace, markPlace, indexEnd}
+use Rattle.machine.specs.Contracts.{Room}
+use Rattle.checkpoints.specs.Live.{framed, Row}
 
--- ---- the words of the checkpoints
+-- ---- products
 
-pub mark-apart : (v w : ℕ) → v < w → markPlace v ≡ markPlace w → ⊥
-mark-apart v w l e = omega arith
+pub times-on : (s i n : ℕ) → i < n → s * i + s ≤ s * n
+times-on s i n l = omega (arith, mul-le-mul-left {m = suc i} {n = n} s l)
 
-pub mark-below : {m : List ℕ} {n : ℕ} (w : ℕ) → w < n → Space m n → markPlace w < length m
-mark-below w l s = omega (arith, s .fits, s .room .words)
+pub times-few : (n d : ℕ) → n ≤ 16 → n * d ≤ 16 * d
+times-few n d l = mul-le-mul-right {m = n} {n = 16} d l
 
--- ---- live words
+-- ---- words one by one
 
--- each stands in one place
-pub unique : {d k i x y : ℕ} → Live d k i x → Live d k i y → x ≡ y
-unique (frame a b) (frame e f) = omega arith
-unique (frame a b) (caller e f g) = omega arith
-unique (frame a b) (window e f g) = omega arith
-unique (frame a b) (pair e f g) = omega arith
-unique (frame a b) (temporary i c e f g) = omega arith
-unique (caller a b u) (frame e f) = omega arith
-unique (caller a b u) (caller e f g) = omega arith
-unique (caller a b u) (window e f g) = omega arith
-unique (caller a b u) (pair e f g) = omega arith
-unique (caller a b u) (temporary i c e f g) = omega arith
-unique (window a b u) (frame e f) = omega arith
-unique (window a b u) (caller e f g) = omega arith
-unique (window a b u) (window e f g) = omega arith
-unique (window a b u) (pair e f g) = omega arith
-unique (window a b u) (temporary i c e f g) = omega arith
-unique (pair a b u) (frame e f) = omega arith
-unique (pair a b u) (caller e f g) = omega arith
-unique (pair a b u) (window e f g) = omega arith
-unique (pair a b u) (pair e f g) = omega arith
-unique (pair a b u) (temporary i c e f g) = omega arith
-unique (temporary j b l u v) (frame e f) = omega arith
-unique (temporary j b l u v) (caller e f g) = omega arith
-unique (temporary j b l u v) (window e f g) = omega arith
-unique (temporary j b l u v) (pair e f g) = omega arith
-unique (temporary j b l u v) (temporary i c e f g) = omega arith
+-- one of two
+pub either : (P : ℕ → Type 0) → P 0 → P 1 → (b : ℕ) → b < 2 → P b
+either P p q zero l = p
+either P p q (suc zero) l = q
+either P p q (suc (suc b)) l = absurd (omega arith)
 
-module _ {d k i x : ℕ} (deep : d ≤ 32) (few : k ≤ 8) where
-  -- below the tables, or among the first t temporaries
-  pub live-below : (t : ℕ) → Live d k i x → i < paired d k + 2 * t → x < tablesPlace + stride * t
-  live-below t (frame a b) l = omega arith
-  live-below t (caller a b c) l = omega arith
-  live-below t (window a b c) l = omega arith
-  live-below t (pair a b c) l = omega arith
-  live-below t (temporary j b a c e) l = omega arith
+-- words that are alike pair by pair
+pub in-pairs : (m m′ : List ℕ) (i k : ℕ) → ((j b : ℕ) → j < k → b < 2 → getD m′ (i + 2 * j + b) 0 ≡ getD m (i + 2 * j + b) 0) → (x : ℕ) → i ≤ x → x < i + 2 * k → getD m′ x 0 ≡ getD m x 0
+in-pairs m m′ i k h x a b =
+    subst (λ (y : ℕ). getD m′ y 0 ≡ getD m y 0) {x = i + 2 * ((x - i) / 2) + (x - i) % 2} {y = x} (omega arith) (h ((x - i) / 2) ((x - i) % 2) (omega arith) (omega arith))
 
-  -- behind the first frame
-  pub live-high : Live d k i x → frameWords ≤ x
-  live-high (frame a b) = omega arith
-  live-high (caller a b c) = omega arith
-  live-high (window a b c) = omega arith
-  live-high (pair a b c) = omega arith
-  live-high (temporary j b a c e) = omega arith
+-- ---- rows of pairs
 
-  -- no live word is a word of the checkpoints, or of any table but the temporaries
-  pub live-table : Live d k i x → (j : ℕ) → nodePlace j ≤ x → x < indexEnd j → ⊥
-  live-table (frame a b) j u v = omega arith
-  live-table (caller a b c) j u v = omega arith
-  live-table (window a b c) j u v = omega arith
-  live-table (pair a b c) j u v = omega arith
-  live-table (temporary q b a c e) j u v = omega arith
+module _ {m : List ℕ} (room : tablesPlace ≤ length m) where
+  -- cells of a frame, callers, windows
+  pub low-row : (x n : ℕ) → x + 2 * n ≤ tablesPlace → Row m x 2 n
+  low-row x n l = record { two = omega arith; fits = omega arith; inside = λ i g. omega arith; apart = λ i b j g k u v. omega arith }
 
-  pub live-mark : Live d k i x → (w : ℕ) → x ≡ markPlace w → ⊥
-  live-mark v w e = live-table v (w / 3) (omega arith) (omega arith)
+-- temporaries
+pub temporary-row : {m : List ℕ} {n : ℕ} → Room m n → Row m tablesPlace stride n
+temporary-row r = record { two = omega arith; fits = omega (arith, r .small); inside = λ i g. omega (arith, r .words); apart = λ i b j g k u v. omega arith }
+
+-- a mark is in the memory
+pub mark-below : {m : List ℕ} {n : ℕ} (w : ℕ) → w < n → Room m n → indexEnd w ≤ length m
+mark-below w l r = omega (arith, r .words)

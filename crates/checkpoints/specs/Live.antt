@@ -1,41 +1,32 @@
--- The words that are live at a point of a path, one after another, and where each of them stands.
+-- What is live at a point of a path, in pairs of words, one behind another; where n cells of each frame are in use.
 use Prim.Native.Nat.{ℕ, _+_, _-_, _*_, _≤_, _<_}
 use mathlib.Core.Path.{_≡_}
 use mathlib.Core.List.{List}
-use Rattle.machine.specs.Layout.{frameWords, callersPlace, windowsPlace, startsPlace, tempPlace, markWords}
+use lib.ListN.{length, getD}
+use Rattle.machine.specs.Layout.{frameCells, cellWords, frameWords, variablePlace, markPlace, indexEnd}
 use Rattle.machine.specs.Contracts.{Room}
 use Rattle.paths.specs.declared.Point.{Point}
 
--- how many there are, at depth d with k windows: those of the frames, but for the first, which is blank; with the callers'; with the windows'; with the pairs that these started as
-abbrev pub framed : ℕ → ℕ
-framed d = frameWords * d
+-- how many pairs there are, at depth d with k windows: the cells in use of the frames, but for the first, which is blank; with the callers; with the windows
+abbrev pub framed : ℕ → ℕ → ℕ
+framed n d = n * d
 
-abbrev pub called : ℕ → ℕ
-called d = framed d + 2 * d
+abbrev pub called : ℕ → ℕ → ℕ
+called n d = framed n d + d
 
-abbrev pub windowed : ℕ → ℕ → ℕ
-windowed d k = called d + 2 * k
+abbrev pub windowed : ℕ → ℕ → ℕ → ℕ
+windowed n d k = called n d + k
 
-abbrev pub paired : ℕ → ℕ → ℕ
-paired d k = windowed d k + 2 * k
+-- all of them, with the temporaries
+abbrev pub livePairs : ℕ → Point → ℕ
+livePairs n p = windowed n (p .run .depth) (p .windows) + p .run .top
 
--- live word i stands at x
-pub data Live (d k i x : ℕ) : Type 0 where
-  frame : i < framed d → x ≡ frameWords + i → Live d k i x
-  caller : framed d ≤ i → i < called d → x ≡ callersPlace + (i - framed d) → Live d k i x
-  window : called d ≤ i → i < windowed d k → x ≡ windowsPlace + (i - called d) → Live d k i x
-  pair : windowed d k ≤ i → i < paired d k → x ≡ startsPlace + (i - windowed d k) → Live d k i x
-  temporary : (j b : ℕ) → b < 2 → i ≡ paired d k + 2 * j + b → x ≡ tempPlace j + b → Live d k i x
+-- A checkpoint has a mark for each pair, and at least as many as it has numbers, which stand at the last of them.
+abbrev pub numberCount : ℕ
+numberCount = 9
 
--- all of them, with the temporaries'; and the words of a checkpoint, which has nine numbers behind them
-abbrev pub liveWords : Point → ℕ
-liveWords p = paired (p .run .depth) (p .windows) + 2 * p .run .top
-
-abbrev pub numberWords : ℕ
-numberWords = 9
-
-abbrev pub sizeOf : Point → ℕ
-sizeOf p = liveWords p + numberWords
+abbrev pub sizeOf : ℕ → Point → ℕ
+sizeOf n p = livePairs n p + (numberCount - livePairs n p)
 
 -- numbers of which sums can be taken
 pub record Small (p : Point) : Type 0 where
@@ -43,14 +34,57 @@ pub record Small (p : Point) : Type 0 where
   pub top : p .run .top < 4294967296
   pub windows : p .windows < 4294967296
 
--- a memory that has all live words of the point
+-- a memory that has all that is live at the point
 pub record Reaches (m : List ℕ) (p : Point) : Type 0 where
   pub deep : p .run .depth ≤ 32
   pub few : p .windows ≤ 8
   pub tops : Room m (p .run .top)
 
--- a memory that has w words for checkpoints
-pub record Space (m : List ℕ) (w : ℕ) : Type 0 where
-  pub indices : ℕ
-  pub fits : w ≤ markWords * indices
-  pub room : Room m indices
+-- ---- cells that are not in use
+
+-- no cell but the first n of a frame up to frame d holds anything but 0
+pub record Slim (n : ℕ) (m : List ℕ) (d : ℕ) : Type 0 where
+  pub rest : (j a b : ℕ) → j ≤ d → n ≤ a → a < frameCells → b < cellWords → getD m (variablePlace j a + b) 0 ≡ 0
+
+-- and the first frame, that of the start, which calls main, holds nothing at all: nothing is ever stored there
+pub record Unused (n : ℕ) (m : List ℕ) (d : ℕ) : Type 0 where
+  pub first : (x : ℕ) → x < frameWords → getD m x 0 ≡ 0
+  pub slim : Slim n m d
+
+-- ---- pairs in a row
+
+-- n pairs from x on, each s words behind the one before, none of which is a mark's
+pub record Row (m : List ℕ) (x s n : ℕ) : Type 0 where
+  pub two : 2 ≤ s
+  pub fits : x + s * n < 1099511627776
+  pub inside : (i : ℕ) → i < n → x + s * i + 1 < length m
+  pub apart : (i b j : ℕ) → i < n → b < 2 → markPlace j ≤ x + s * i + b → x + s * i + b < indexEnd j → ⊥
+
+-- only the n marks from w on may have changed
+pub record Marking (m m′ : List ℕ) (w n : ℕ) : Type 0 where
+  pub other : (x : ℕ) → ((i : ℕ) → w ≤ i → i < w + n → markPlace i ≤ x → x < indexEnd i → ⊥) → getD m′ x 0 ≡ getD m x 0
+
+-- they were copied to the marks from w on
+pub record RowSaved (m m′ : List ℕ) (x s n w : ℕ) : Type 0 where
+  pub marking : Marking m m′ w n
+  pub pairs : (i b : ℕ) → i < n → b < 2 → getD m′ (markPlace (w + i) + b) 0 ≡ getD m (x + s * i + b) 0
+
+-- and back
+pub record RowBack (m m′ : List ℕ) (x s n w : ℕ) : Type 0 where
+  pub other : (y : ℕ) → ((i b : ℕ) → i < n → b < 2 → y ≡ x + s * i + b → ⊥) → getD m′ y 0 ≡ getD m y 0
+  pub pairs : (i b : ℕ) → i < n → b < 2 → getD m′ (x + s * i + b) 0 ≡ getD m (markPlace (w + i) + b) 0
+
+-- the first n cells of d frames were copied, from the second frame on
+pub record FramesSaved (n : ℕ) (m m′ : List ℕ) (d w : ℕ) : Type 0 where
+  pub marking : Marking m m′ w (framed n d)
+  pub pairs : (j a b : ℕ) → j < d → a < n → b < 2 → getD m′ (markPlace (w + framed n j + a) + b) 0 ≡ getD m (variablePlace (j + 1) a + b) 0
+
+-- and back
+pub record FramesBack (n : ℕ) (m m′ : List ℕ) (d w : ℕ) : Type 0 where
+  pub other : (y : ℕ) → ((j a b : ℕ) → j < d → a < n → b < 2 → y ≡ variablePlace (j + 1) a + b → ⊥) → getD m′ y 0 ≡ getD m y 0
+  pub pairs : (j a b : ℕ) → j < d → a < n → b < 2 → getD m′ (variablePlace (j + 1) a + b) 0 ≡ getD m (markPlace (w + framed n j + a) + b) 0
+
+-- the first n words were made 0
+pub record Cleared (m m′ : List ℕ) (n : ℕ) : Type 0 where
+  pub blank : (x : ℕ) → x < n → getD m′ x 0 ≡ 0
+  pub other : (x : ℕ) → n ≤ x → getD m′ x 0 ≡ getD m x 0

@@ -5,13 +5,12 @@ use mathlib.Core.Bool.{Bool, true, false}
 use mathlib.Core.List.{List, [], _∷_}
 use lib.ListN.{length, getD}
 use Rattle.simulation.specs.Resume.{forcing}
-use Rattle.machine.specs.Layout.{frameWords, nodePlace, nodeEnd, testPlace, outcomeEnd, markPlace}
-use Rattle.machine.specs.Memory.{machineAt, outcomeAs, outcomesIn}
-use Rattle.machine.specs.Contracts.{Other}
+use Rattle.machine.specs.Layout.{variablePlace, callerPlace, windowLow, settingPlace, tempPlace, nodePlace, nodeEnd, testPlace, outcomeEnd, markPlace, markNumber}
+use Rattle.machine.specs.Memory.{machineAt, startsIn, outcomeAs, outcomesIn}
 use Rattle.machine.specs.declared.Run.{Run}
 use Rattle.paths.specs.declared.Point.{Point}
 use Rattle.paths.specs.Point.{stateAt, Going, Stays}
-use Rattle.checkpoints.specs.Live.{Live, liveWords, sizeOf, Small}
+use Rattle.checkpoints.specs.Live.{framed, called, windowed, livePairs, numberCount, sizeOf, Small, Unused, Marking}
 
 -- ---- the numbers of a point
 
@@ -22,17 +21,17 @@ bitOf false = 0
 abbrev pub numbersOf : Point → List ℕ
 numbersOf p = p .run .pc ∷ bitOf (p .run .flag) ∷ p .run .base ∷ p .run .top ∷ p .run .depth ∷ p .run .nodes ∷ p .steps ∷ p .windows ∷ p .choices ∷ []
 
--- word w of the checkpoints
-abbrev pub wordAt : List ℕ → ℕ → ℕ
-wordAt m w = getD m (markPlace w) 0
+-- the number of mark w
+abbrev pub numberAt : List ℕ → ℕ → ℕ
+numberAt m w = getD m (markNumber w) 0
 
--- the point whose numbers stand from word w of the checkpoints on
+-- the point whose numbers stand from mark w on
 abbrev pub pointAt : List ℕ → ℕ → Point
 pointAt m w = record {
-  run = record { pc = wordAt m w; flag = outcomeAs (wordAt m (w + 1)); base = wordAt m (w + 2); top = wordAt m (w + 3); depth = wordAt m (w + 4); nodes = wordAt m (w + 5) };
-  steps = wordAt m (w + 6);
-  windows = wordAt m (w + 7);
-  choices = wordAt m (w + 8);
+  run = record { pc = numberAt m w; flag = outcomeAs (numberAt m (w + 1)); base = numberAt m (w + 2); top = numberAt m (w + 3); depth = numberAt m (w + 4); nodes = numberAt m (w + 5) };
+  steps = numberAt m (w + 6);
+  windows = numberAt m (w + 7);
+  choices = numberAt m (w + 8);
   forced = 0;
 }
 
@@ -45,64 +44,48 @@ pub record Sized (p : Point) : Type 0 where
   pub choices : p .choices < 4294967296
   pub small : Small p
 
--- ---- copies
-
--- of the words of the checkpoints only n from w on may have changed
-pub record Marking (m m′ : List ℕ) (w n : ℕ) : Type 0 where
-  pub other : (x : ℕ) → ((v : ℕ) → w ≤ v → v < w + n → x ≡ markPlace v → ⊥) → getD m′ x 0 ≡ getD m x 0
-
--- none of n words from x on is a word of the checkpoints
-pub record Clear (x n : ℕ) : Type 0 where
-  pub apart : (i v : ℕ) → i < n → x + i ≡ markPlace v → ⊥
-
--- n words from x on were copied to words of the checkpoints, from word w on
-pub record RunSaved (m m′ : List ℕ) (x n w : ℕ) : Type 0 where
-  pub marking : Marking m m′ w n
-  pub words : (i : ℕ) → i < n → getD m′ (markPlace (w + i)) 0 ≡ getD m (x + i) 0
-
--- and back
-pub record RunBack (m m′ : List ℕ) (x n w : ℕ) : Type 0 where
-  pub other : Other m m′ x (x + n)
-  pub words : (i : ℕ) → i < n → getD m′ (x + i) 0 ≡ getD m (markPlace (w + i)) 0
-
--- the first n live words were copied there
-pub record Copied (m m′ : List ℕ) (p : Point) (w n : ℕ) : Type 0 where
-  pub marking : Marking m m′ w n
-  pub words : (i x : ℕ) → i < n → Live (p .run .depth) (p .windows) i x → getD m′ (markPlace (w + i)) 0 ≡ getD m x 0
-
--- the first n of these numbers were written there
+-- the first n of these numbers were written from mark w on
 pub record Numbered (m m′ : List ℕ) (h : List ℕ) (w n : ℕ) : Type 0 where
-  pub marking : Marking m m′ w n
-  pub words : (i : ℕ) → i < n → getD m′ (markPlace (w + i)) 0 ≡ getD h i 0
+  pub other : (x : ℕ) → ((i : ℕ) → w ≤ i → i < w + n → x ≡ markNumber i → ⊥) → getD m′ x 0 ≡ getD m x 0
+  pub numbers : (i : ℕ) → i < n → numberAt m′ (w + i) ≡ getD h i 0
 
--- the words from w on are those that were live at the point p in the memory m₀
-pub record Lives (m m₀ : List ℕ) (p : Point) (w : ℕ) : Type 0 where
-  pub words : (i x : ℕ) → i < liveWords p → Live (p .run .depth) (p .windows) i x → getD m (markPlace (w + i)) 0 ≡ getD m₀ x 0
+-- ---- live pairs
 
--- the first frame, that of the start, which calls main, is blank: nothing is ever stored there
-pub record Unused (m : List ℕ) : Type 0 where
-  pub blank : (x : ℕ) → x < frameWords → getD m x 0 ≡ 0
+-- the pairs of the marks from w on are those that were live at the point p in the memory m₀: frames, callers, windows, temporaries
+pub record Lives (n : ℕ) (m m₀ : List ℕ) (p : Point) (w : ℕ) : Type 0 where
+  pub frames : (j a b : ℕ) → j < p .run .depth → a < n → b < 2 → getD m (markPlace (w + framed n j + a) + b) 0 ≡ getD m₀ (variablePlace (j + 1) a + b) 0
+  pub callers : (j b : ℕ) → j < p .run .depth → b < 2 → getD m (markPlace (w + framed n (p .run .depth) + j) + b) 0 ≡ getD m₀ (callerPlace j + b) 0
+  pub windows : (j b : ℕ) → j < p .windows → b < 2 → getD m (markPlace (w + called n (p .run .depth) + j) + b) 0 ≡ getD m₀ (windowLow j + b) 0
+  pub temporaries : (j b : ℕ) → j < p .run .top → b < 2 → getD m (markPlace (w + windowed n (p .run .depth) (p .windows) + j) + b) 0 ≡ getD m₀ (tempPlace j + b) 0
 
--- the first n live words are back, from word w of the checkpoints on, and the first frame is blank
-pub record Back (m m′ : List ℕ) (p : Point) (w n : ℕ) : Type 0 where
-  pub unused : Unused m′
-  pub other : (x : ℕ) → frameWords ≤ x → ((i : ℕ) → i < n → Live (p .run .depth) (p .windows) i x → ⊥) → getD m′ x 0 ≡ getD m x 0
-  pub words : (m₀ : List ℕ) → Lives m m₀ p w → (i x : ℕ) → i < n → Live (p .run .depth) (p .windows) i x → getD m′ x 0 ≡ getD m₀ x 0
+-- what is live at the point p stands in m′ as it stood in m₀
+pub record Alive (n : ℕ) (m₀ m′ : List ℕ) (p : Point) : Type 0 where
+  pub frames : (j a b : ℕ) → j < p .run .depth → a < n → b < 2 → getD m′ (variablePlace (j + 1) a + b) 0 ≡ getD m₀ (variablePlace (j + 1) a + b) 0
+  pub callers : (j b : ℕ) → j < p .run .depth → b < 2 → getD m′ (callerPlace j + b) 0 ≡ getD m₀ (callerPlace j + b) 0
+  pub windows : (j b : ℕ) → j < p .windows → b < 2 → getD m′ (windowLow j + b) 0 ≡ getD m₀ (windowLow j + b) 0
+  pub temporaries : (j b : ℕ) → j < p .run .top → b < 2 → getD m′ (tempPlace j + b) 0 ≡ getD m₀ (tempPlace j + b) 0
+
+-- the pairs of the marks from w on are back, and cells that are not in use are blank; of what stands behind the windows nothing else has changed
+pub record Back (n : ℕ) (m m′ : List ℕ) (p : Point) (w : ℕ) : Type 0 where
+  pub unused : Unused n m′ (p .run .depth)
+  pub alive : (m₀ : List ℕ) → Lives n m m₀ p w → Alive n m₀ m′ p
+  pub other : (x : ℕ) → settingPlace ≤ x → ((j b : ℕ) → j < p .run .top → b < 2 → x ≡ tempPlace j + b → ⊥) → getD m′ x 0 ≡ getD m x 0
 
 -- ---- a checkpoint
 
--- the memory m₀ at the point p is kept from word w on; a checkpoint has no forced outcome
-pub record Saved (m m₀ : List ℕ) (p : Point) (w : ℕ) : Type 0 where
-  pub lives : Lives m m₀ p w
-  pub unused : Unused m₀
-  pub numbers : pointAt m (w + liveWords p) ≡ p
+-- the memory m₀ at the point p is kept from mark w on; a checkpoint has no forced outcome
+pub record Saved (n : ℕ) (m m₀ : List ℕ) (p : Point) (w : ℕ) : Type 0 where
+  pub lives : Lives n m m₀ p w
+  pub unused : Unused n m₀ (p .run .depth)
+  pub numbers : pointAt m (w + sizeOf n p - numberCount) ≡ p
   pub going : Going m₀ p
   pub same-length : length m₀ ≡ length m
 
--- nodes, tests and outcomes of that point still stand where they stood
+-- nodes, tests, outcomes and starting pairs of that point still stand where they stood
 pub record Agrees (m m₀ : List ℕ) (p : Point) : Type 0 where
   pub nodes : (k j : ℕ) → j < p .run .nodes → nodePlace j ≤ k → k < nodeEnd j → getD m k 0 ≡ getD m₀ k 0
   pub tests : (k j : ℕ) → j < p .choices → testPlace j ≤ k → k < outcomeEnd j → getD m k 0 ≡ getD m₀ k 0
+  pub starts : startsIn m (p .windows) ≡ startsIn m₀ (p .windows)
 
 -- the same point with outcomes forced from here on
 abbrev pub forced : Point → ℕ → Point
@@ -115,12 +98,13 @@ pub record Restored (m m₀ m′ : List ℕ) (p q : Point) (f : ℕ) : Type 0 wh
   pub state : stateAt m′ q ≡ forcing (outcomesIn m (p .choices) f) (stateAt m₀ p)
   pub going : Going m′ q
   pub stays : Stays m m′ (p .run .nodes) (p .choices)
+  pub starts : (k : ℕ) → startsIn m′ k ≡ startsIn m k
 
--- a checkpoint ends at word w
-pub record Ends (m : List ℕ) (w : ℕ) : Type 0 where
+-- a checkpoint ends before mark w
+pub record Ends (n : ℕ) (m : List ℕ) (w : ℕ) : Type 0 where
   pub before : List ℕ
   pub point : Point
   pub start : ℕ
-  pub size : w ≡ start + sizeOf point
-  pub saved : Saved m before point start
+  pub size : w ≡ start + sizeOf n point
+  pub saved : Saved n m before point start
   pub agrees : Agrees m before point

@@ -1,15 +1,15 @@
-// Checkpoints: the words that are live at a point of a path are kept, so that a search can come back to it without working the path again.
+// Checkpoints: what is live at a point of a path is kept, so that a search can come back to it without working the path again.
 ghost use mathlib.Core.Path.{_≡_};
 ghost use mathlib.Core.List.{List};
-ghost use Prim.Native.Nat.{ℕ, _+_, _-_, _<_, _≤_};
+ghost use Prim.Native.Nat.{ℕ, _+_, _-_, _*_, _<_, _≤_};
 ghost use mathlib.Core.Bool.{true};
-ghost use lib.ListN.{length};
-ghost use Rattle.machine.specs.Layout.{frameWords, tablesPlace, markPlace};
-ghost use Rattle.machine.specs.Contracts.{Other};
+ghost use lib.ListN.{length, getD};
+ghost use Rattle.machine.specs.Layout.{frameCells, cellWords, tablesPlace};
+ghost use Rattle.machine.specs.Contracts.{Room};
 ghost use Rattle.paths.specs.declared.Point as point;
 ghost use Rattle.paths.specs.Point.{Going};
-ghost use Rattle.checkpoints.specs.Live.{paired, liveWords, sizeOf, numberWords, Small, Reaches, Space};
-ghost use Rattle.checkpoints.specs.Words.{bitOf, numbersOf, wordAt, pointAt, Sized, Marking, Clear, RunSaved, RunBack, Unused, Copied, Numbered, Back, Saved, Agrees, forced as forcedS, Restored, Ends};
+ghost use Rattle.checkpoints.specs.Live.{framed, livePairs, sizeOf, numberCount, Small, Reaches, Unused, Row, Marking, RowSaved, RowBack, FramesSaved, FramesBack, Cleared};
+ghost use Rattle.checkpoints.specs.Words.{bitOf, numbersOf, numberAt, pointAt, Sized, Numbered, Lives, Back, Saved, Agrees, forced as forcedS, Restored, Ends};
 use machine::Run;
 use machine::layout;
 use paths::Point;
@@ -17,89 +17,83 @@ use paths::Point;
 // The numbers of a point.
 pub const NUMBERS: usize = 9;
 
-// Where word w of the checkpoints stands.
-fn mark_place(w: usize) -> usize
-    requires { ⌜ w < 17179869184 ⌝ }
-    ensures { λ r. ⌜ r ≡ markPlace w ⌝ }
-{
-    layout::MARKS + layout::STRIDE * (w / layout::MARK_WORDS) + w % layout::MARK_WORDS
-}
-
-// How many words are live at a point.
-fn live_words(p: Point) -> usize
-    requires { ⌜ Small p ⌝ }
-    ensures { λ r. ⌜ r ≡ liveWords p ⌝ }
+// How many pairs of words are live at a point, where so many cells of a frame are in use.
+fn live_pairs(p: Point, cells: usize) -> usize
+    requires { ⌜ Small p × (cells ≤ frameCells) ⌝ }
+    ensures { λ r. ⌜ r ≡ livePairs cells p ⌝ }
 {
     let run = p.run;
-    let callers = layout::FRAME * run.depth + layout::CALLER * run.depth;
-    let pairs = callers + layout::WINDOW * p.windows;
-    pairs + layout::WINDOW * p.windows + layout::CELL * run.top
+    cells * run.depth + run.depth + p.windows + run.top
 }
 
-// The words of a checkpoint.
-pub fn size_of(p: Point) -> usize
-    requires { ⌜ Small p ⌝ }
-    ensures { λ r. ⌜ r ≡ sizeOf p ⌝ }
+// The marks of a checkpoint.
+pub fn size_of(p: Point, cells: usize) -> usize
+    requires { ⌜ Small p × (cells ≤ frameCells) ⌝ }
+    ensures { λ r. ⌜ r ≡ sizeOf cells p ⌝ }
 {
-    live_words(p) + NUMBERS
+    let n = live_pairs(p, cells);
+    if n < NUMBERS { NUMBERS } else { n }
 }
 
-// Copies n words from x on to words of the checkpoints, from word w on.
-fn save_run(mem: &mut [u32], x: usize, n: usize, w: usize)
-    requires { ⌜ (x + n ≤ length (now mem)) × Space (now mem) (w + n) × Clear x n ⌝ }
-    ensures { λ _. ⌜ RunSaved (now (mem .entry)) (now (mem .exit)) x n w ⌝ }
+// Copies n pairs from x on, each s words behind the one before, to the marks from w on.
+fn save_row(mem: &mut [u32], x: usize, s: usize, n: usize, w: usize)
+    requires { ⌜ Row (now mem) x s n × Room (now mem) (w + n) ⌝ }
+    ensures { λ _. ⌜ RowSaved (now (mem .entry)) (now (mem .exit)) x s n w ⌝ }
 {
     let mut i: usize = 0;
+    let mut from = x;
     while i < n {
-        let to = mark_place(w + i);
-        mem[to] = mem[x + i];
+        let to = layout::MARKS + layout::STRIDE * (w + i);
+        mem[to] = mem[from];
+        mem[to + 1] = mem[from + 1];
+        from += s;
         i += 1;
     }
 }
 
-// The temporaries of the point p, live words from word i on, become words of the checkpoints.
-fn save_temporaries(mem: &mut [u32], p: Point, w: usize, i: usize)
-    requires { ⌜ Reaches (now mem) p × Space (now mem) (w + liveWords p) × (i ≡ paired (p .run .depth) (p .windows)) ⌝ }
-    ensures { λ _. ⌜ ((m : List ℕ) → Copied m (now (mem .entry)) p w i → Copied m (now (mem .exit)) p w (liveWords p)) ⌝ }
+// Copies the cells in use of d frames, from the second frame on, to the marks from w on.
+fn save_frames(mem: &mut [u32], cells: usize, d: usize, w: usize)
+    requires { ⌜ (cells ≤ frameCells) × (d ≤ 32) × (tablesPlace ≤ length (now mem)) × Room (now mem) (w + framed cells d) ⌝ }
+    ensures { λ _. ⌜ FramesSaved cells (now (mem .entry)) (now (mem .exit)) d w ⌝ }
 {
-    let run = p.run;
-    let top = run.top;
     let mut j: usize = 0;
-    while j < top {
-        save_run(
-            mem,
-            layout::TEMPORARIES + layout::STRIDE * j,
-            layout::CELL,
-            w + i + layout::CELL * j,
-        );
+    let mut to = w;
+    while j < d {
+        save_row(mem, layout::FRAME * (j + 1), layout::CELL, cells, to);
+        to += cells;
         j += 1;
     }
 }
 
-// The live words become words of the checkpoints, from word w on: frames, callers, windows, the pairs that they started as, temporaries.
-fn save_words(mem: &mut [u32], p: Point, w: usize)
-    requires { ⌜ Reaches (now mem) p × Space (now mem) (w + liveWords p) ⌝ }
-    ensures { λ _. ⌜ Copied (now (mem .entry)) (now (mem .exit)) p w (liveWords p) ⌝ }
+// What is live at the point p is copied to the marks from w on: frames, callers, windows, temporaries.
+fn save_pairs(mem: &mut [u32], p: Point, cells: usize, w: usize)
+    requires { ⌜ Reaches (now mem) p × (cells ≤ frameCells) × Room (now mem) (w + livePairs cells p) ⌝ }
+    ensures { λ _. ⌜ Lives cells (now (mem .exit)) (now (mem .entry)) p w × Marking (now (mem .entry)) (now (mem .exit)) w (livePairs cells p) ⌝ }
 {
     let run = p.run;
-    let frames = layout::FRAME * run.depth;
-    let callers = layout::CALLER * run.depth;
-    let pairs = layout::WINDOW * p.windows;
-    save_run(mem, layout::FRAME, frames, w);
-    save_run(mem, layout::CALLERS, callers, w + frames);
-    save_run(mem, layout::WINDOWS, pairs, w + frames + callers);
-    save_run(mem, layout::STARTS, pairs, w + frames + callers + pairs);
-    save_temporaries(mem, p, w, frames + callers + pairs + pairs);
+    let callers = w + cells * run.depth;
+    let windows = callers + run.depth;
+    let temporaries = windows + p.windows;
+    save_frames(mem, cells, run.depth, w);
+    save_row(mem, layout::CALLERS, layout::CALLER, run.depth, callers);
+    save_row(mem, layout::WINDOWS, layout::WINDOW, p.windows, windows);
+    save_row(
+        mem,
+        layout::TEMPORARIES,
+        layout::STRIDE,
+        run.top,
+        temporaries,
+    );
 }
 
-// Nine numbers become words of the checkpoints, from word w on.
+// Nine numbers are written at the marks from w on.
 fn put_numbers(mem: &mut [u32], h: [u32; 9], w: usize)
-    requires { ⌜ Space (now mem) (w + numberWords) ⌝ }
-    ensures { λ _. ⌜ Numbered (now (mem .entry)) (now (mem .exit)) h w numberWords ⌝ }
+    requires { ⌜ Room (now mem) (w + numberCount) ⌝ }
+    ensures { λ _. ⌜ Numbered (now (mem .entry)) (now (mem .exit)) h w numberCount ⌝ }
 {
     let mut i: usize = 0;
     while i < NUMBERS {
-        let to = mark_place(w + i);
+        let to = layout::MARK_NUMBERS + layout::STRIDE * (w + i);
         mem[to] = h[i];
         i += 1;
     }
@@ -130,18 +124,17 @@ fn numbers_of(p: Point) -> [u32; 9]
     ]
 }
 
-// The number that stands at word w of the checkpoints.
+// The number of mark w.
 fn number_at(mem: &[u32], w: usize) -> usize
-    requires { ⌜ Space (now mem) (w + 1) ⌝ }
-    ensures { λ r. ⌜ (r ≡ wordAt (now (mem .entry)) w) × (r < 4294967296) ⌝ }
+    requires { ⌜ Room (now mem) (w + 1) ⌝ }
+    ensures { λ r. ⌜ (r ≡ numberAt (now (mem .entry)) w) × (r < 4294967296) ⌝ }
 {
-    let x = mark_place(w);
-    mem[x] as usize
+    mem[layout::MARK_NUMBERS + layout::STRIDE * w] as usize
 }
 
-// The point whose numbers stand from word w of the checkpoints on.
+// The point whose numbers stand from mark w on.
 pub fn point_at(mem: &[u32], w: usize) -> Point
-    requires { ⌜ Space (now mem) (w + numberWords) ⌝ }
+    requires { ⌜ Room (now mem) (w + numberCount) ⌝ }
     ensures { λ r. ⌜ (r ≡ pointAt (now (mem .entry)) w) × Small r ⌝ }
 {
     Point {
@@ -160,23 +153,24 @@ pub fn point_at(mem: &[u32], w: usize) -> Point
     }
 }
 
-// Saves the point p from word w of the checkpoints on.
-pub fn save(mem: &mut [u32], p: Point, w: usize)
-    requires { ⌜ Going (now mem) p × Sized p × (p .forced ≡ 0) × Space (now mem) (w + sizeOf p) × Unused (now mem) ⌝ }
-    ensures { λ _. ⌜ Saved (now (mem .exit)) (now (mem .entry)) p w × Marking (now (mem .entry)) (now (mem .exit)) w (sizeOf p) ⌝ }
+// Saves the point p from mark w on, where so many cells of a frame are in use.
+pub fn save(mem: &mut [u32], p: Point, cells: usize, w: usize)
+    requires { ⌜ Going (now mem) p × Sized p × (p .forced ≡ 0) × (cells ≤ frameCells) × Room (now mem) (w + sizeOf cells p) × Unused cells (now mem) (p .run .depth) ⌝ }
+    ensures { λ _. ⌜ Saved cells (now (mem .exit)) (now (mem .entry)) p w × Marking (now (mem .entry)) (now (mem .exit)) w (sizeOf cells p) ⌝ }
 {
-    let n = live_words(p);
-    save_words(mem, p, w);
-    put_numbers(mem, numbers_of(p), w + n);
+    let n = size_of(p, cells);
+    save_pairs(mem, p, cells, w);
+    put_numbers(mem, numbers_of(p), w + n - NUMBERS);
 }
 
-// Whether the first frame is blank.
-pub fn unused(mem: &[u32]) -> bool
-    requires { ⌜ tablesPlace ≤ length (now mem) ⌝ }
-    ensures { λ r. ⌜ (r ≡ true → Unused (now (mem .entry))) ⌝ }
+// Whether the first cells of the first frame are blank.
+pub fn unused(mem: &[u32], cells: usize) -> bool
+    requires { ⌜ (tablesPlace ≤ length (now mem)) × (cells ≤ frameCells) ⌝ }
+    ensures { λ r. ⌜ (r ≡ true → (x : ℕ) → x < cellWords * cells → getD (now (mem .entry)) x 0 ≡ 0) ⌝ }
 {
+    let n = layout::CELL * cells;
     let mut i: usize = 0;
-    while i < layout::FRAME {
+    while i < n {
         if mem[i] != 0 {
             return false;
         }
@@ -185,65 +179,68 @@ pub fn unused(mem: &[u32]) -> bool
     true
 }
 
-// Makes the first frame blank.
-fn clear_first(mem: &mut [u32])
-    requires { ⌜ tablesPlace ≤ length (now mem) ⌝ }
-    ensures { λ _. ⌜ Unused (now (mem .exit)) × Other (now (mem .entry)) (now (mem .exit)) 0 frameWords ⌝ }
+// Makes the first n words 0.
+fn clear(mem: &mut [u32], n: usize)
+    requires { ⌜ n ≤ length (now mem) ⌝ }
+    ensures { λ _. ⌜ Cleared (now (mem .entry)) (now (mem .exit)) n ⌝ }
 {
     let mut i: usize = 0;
-    while i < layout::FRAME {
+    while i < n {
         mem[i] = 0;
         i += 1;
     }
 }
 
-// Copies n words of the checkpoints, from word w on, to the words from x on.
-fn restore_run(mem: &mut [u32], x: usize, n: usize, w: usize)
-    requires { ⌜ (x + n ≤ length (now mem)) × Space (now mem) (w + n) × Clear x n ⌝ }
-    ensures { λ _. ⌜ RunBack (now (mem .entry)) (now (mem .exit)) x n w ⌝ }
+// Copies n pairs of the marks from w on to the words from x on, each s words behind the one before.
+fn restore_row(mem: &mut [u32], x: usize, s: usize, n: usize, w: usize)
+    requires { ⌜ Row (now mem) x s n × Room (now mem) (w + n) ⌝ }
+    ensures { λ _. ⌜ RowBack (now (mem .entry)) (now (mem .exit)) x s n w ⌝ }
 {
     let mut i: usize = 0;
+    let mut to = x;
     while i < n {
-        let from = mark_place(w + i);
-        mem[x + i] = mem[from];
+        let from = layout::MARKS + layout::STRIDE * (w + i);
+        mem[to] = mem[from];
+        mem[to + 1] = mem[from + 1];
+        to += s;
         i += 1;
     }
 }
 
-// The temporaries of the point p, live words from word i on, are put back.
-fn restore_temporaries(mem: &mut [u32], p: Point, w: usize, i: usize)
-    requires { ⌜ Reaches (now mem) p × Space (now mem) (w + liveWords p) × (i ≡ paired (p .run .depth) (p .windows)) ⌝ }
-    ensures { λ _. ⌜ ((m : List ℕ) → Back m (now (mem .entry)) p w i → Back m (now (mem .exit)) p w (liveWords p)) ⌝ }
+// Copies the cells in use of d frames back, from the second frame on.
+fn restore_frames(mem: &mut [u32], cells: usize, d: usize, w: usize)
+    requires { ⌜ (cells ≤ frameCells) × (d ≤ 32) × (tablesPlace ≤ length (now mem)) × Room (now mem) (w + framed cells d) ⌝ }
+    ensures { λ _. ⌜ FramesBack cells (now (mem .entry)) (now (mem .exit)) d w ⌝ }
 {
-    let run = p.run;
-    let end = run.top;
     let mut j: usize = 0;
-    while j < end {
-        restore_run(
-            mem,
-            layout::TEMPORARIES + layout::STRIDE * j,
-            layout::CELL,
-            w + i + layout::CELL * j,
-        );
+    let mut from = w;
+    while j < d {
+        restore_row(mem, layout::FRAME * (j + 1), layout::CELL, cells, from);
+        from += cells;
         j += 1;
     }
 }
 
-// The live words of the point p are put back, from word w of the checkpoints on.
-fn restore_words(mem: &mut [u32], p: Point, w: usize)
-    requires { ⌜ Reaches (now mem) p × Space (now mem) (w + liveWords p) ⌝ }
-    ensures { λ _. ⌜ Back (now (mem .entry)) (now (mem .exit)) p w (liveWords p) ⌝ }
+// What was live at the point p is put back, from mark w on.
+fn restore_pairs(mem: &mut [u32], p: Point, cells: usize, w: usize)
+    requires { ⌜ Reaches (now mem) p × (cells ≤ frameCells) × Room (now mem) (w + livePairs cells p) ⌝ }
+    ensures { λ _. ⌜ Back cells (now (mem .entry)) (now (mem .exit)) p w ⌝ }
 {
     let run = p.run;
-    let frames = layout::FRAME * run.depth;
-    let callers = layout::CALLER * run.depth;
-    let pairs = layout::WINDOW * p.windows;
-    clear_first(mem);
-    restore_run(mem, layout::FRAME, frames, w);
-    restore_run(mem, layout::CALLERS, callers, w + frames);
-    restore_run(mem, layout::WINDOWS, pairs, w + frames + callers);
-    restore_run(mem, layout::STARTS, pairs, w + frames + callers + pairs);
-    restore_temporaries(mem, p, w, frames + callers + pairs + pairs);
+    let callers = w + cells * run.depth;
+    let windows = callers + run.depth;
+    let temporaries = windows + p.windows;
+    clear(mem, layout::FRAME * (run.depth + 1));
+    restore_frames(mem, cells, run.depth, w);
+    restore_row(mem, layout::CALLERS, layout::CALLER, run.depth, callers);
+    restore_row(mem, layout::WINDOWS, layout::WINDOW, p.windows, windows);
+    restore_row(
+        mem,
+        layout::TEMPORARIES,
+        layout::STRIDE,
+        run.top,
+        temporaries,
+    );
 }
 
 // The same point with f outcomes forced.
@@ -260,15 +257,15 @@ fn force(p: Point, f: usize) -> Point
     }
 }
 
-// Comes back to the checkpoint that ends at word w, with the outcomes of choices up to number k forced: what stands in the memory is what stood when it was saved.
-pub fn restore(mem: &mut [u32], w: usize, k: usize) -> Point
-    requires { ⌜ Ends (now mem) w × Space (now mem) w ⌝ }
-    ensures { λ r. ⌜ ((m₀ : List ℕ) (p : point.Point) (v : ℕ) → w ≡ v + sizeOf p → Saved (now (mem .entry)) m₀ p v → Agrees (now (mem .entry)) m₀ p → Restored (now (mem .entry)) m₀ (now (mem .exit)) p r (k - p .choices)) ⌝ }
+// Comes back to the checkpoint that ends before mark w, with the outcomes of choices up to number k forced: what stands in the memory is what stood when it was saved.
+pub fn restore(mem: &mut [u32], cells: usize, w: usize, k: usize) -> Point
+    requires { ⌜ Ends cells (now mem) w × (cells ≤ frameCells) × Room (now mem) w ⌝ }
+    ensures { λ r. ⌜ ((m₀ : List ℕ) (p : point.Point) (v : ℕ) → w ≡ v + sizeOf cells p → Saved cells (now (mem .entry)) m₀ p v → Agrees (now (mem .entry)) m₀ p → Restored (now (mem .entry)) m₀ (now (mem .exit)) p r (k - p .choices)) ⌝ }
 {
     let p = point_at(mem, w - NUMBERS);
     let run = p.run;
-    let n = live_words(p);
-    restore_words(mem, p, w - NUMBERS - n);
+    let n = size_of(p, cells);
+    restore_pairs(mem, p, cells, w - n);
     paths::all_ranges(mem, p.windows, run.nodes);
     force(p, ints::monus(k, p.choices))
 }

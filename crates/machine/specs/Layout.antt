@@ -9,11 +9,11 @@
 --   1200   ..     tables that grow, fifteen words for each index k, from 1200 + 15 * k on:
 --
 --                 0   1  | 2   3   4  | 5   6  | 7       | 8   9  10  | 11        | 12   13   14
---                 temp k | node k     | its    | its     | test k     | outcome k | marks 3 * k
---                        |            | range  | number  |            |           | and on
+--                 temp k | node k     | its    | its     | test k     | outcome k | mark k
+--                        |            | range  | number  |            |           |
 --
--- A node's number is the one under the present setting. Marks are the words of the checkpoints, one behind another. No table has more entries than steps were made, and checkpoints have at most three words for each step, so that a memory of 1200 + 15 * n words is enough for n steps.
-use Prim.Native.Nat.{ℕ, _+_, _*_, _/_, _%_}
+-- A node's number is the one under the present setting. Marks are what checkpoints keep, one behind another: a pair of words and a number each. No table has more entries than steps were made, and the checkpoints of a path never have more marks than it may make steps, so that a memory of 1200 + 15 * n words is enough for n steps.
+use Prim.Native.Nat.{ℕ, _+_, _*_}
 
 -- ---- frames
 
@@ -141,12 +141,12 @@ outcomePlace i = (tablesPlace + 11) + stride * i
 abbrev pub outcomeEnd : ℕ → ℕ
 outcomeEnd i = (tablesPlace + 12) + stride * i
 
--- word w of the checkpoints: three for each index
-abbrev pub markWords : ℕ
-markWords = 3
-
+-- mark k: a pair of words, and a number
 abbrev pub markPlace : ℕ → ℕ
-markPlace w = (tablesPlace + 12) + stride * (w / markWords) + w % markWords
+markPlace k = (tablesPlace + 12) + stride * k
+
+abbrev pub markNumber : ℕ → ℕ
+markNumber k = (tablesPlace + 14) + stride * k
 
 -- where index k ends
 abbrev pub indexEnd : ℕ → ℕ

@@ -39,7 +39,7 @@ pub const TABLES: usize = 1200;
 
 pub const STRIDE: usize = 15;
 
-// What stands at an index: a temporary; a node's kind and its two operands; its range; its number under the present setting; a test's kind and its two sides; an outcome; three words of the checkpoints.
+// What stands at an index: a temporary; a node's kind and its two operands; its range; its number under the present setting; a test's kind and its two sides; an outcome; a mark of the checkpoints, which is a pair of words and a number.
 pub const TEMPORARIES: usize = TABLES;
 
 pub const NODES: usize = TABLES + 2;
@@ -64,4 +64,4 @@ pub const OUTCOMES: usize = TABLES + 11;
 
 pub const MARKS: usize = TABLES + 12;
 
-pub const MARK_WORDS: usize = 3;
+pub const MARK_NUMBERS: usize = TABLES + 14;

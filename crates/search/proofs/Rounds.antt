@@ -13,7 +13,8 @@ use Rattle.simulation.specs.Machine.{start}
 use Rattle.simulation.specs.Path.{begins, End}
 use Rattle.simulation.specs.Lister.{over, closed}
 use Rattle.simulation.proofs.Drive.{turns-left, kept-start, turns-le}
-use Rattle.machine.specs.Layout.{markPlace}
+use Rattle.simulation.specs.Cells.{Uses}
+use Rattle.machine.specs.Layout.{frameCells}
 use Rattle.machine.specs.Memory.{outcomesIn}
 use Rattle.machine.specs.Contracts.{Room}
 use Rattle.machine.proofs.Tables.{room-same}
@@ -21,6 +22,7 @@ use Rattle.settings.specs.declared.Tally.{Tally}
 use Rattle.settings.specs.Tries.{tallyOf, Counts, Fair}
 use Rattle.settings.proofs.Counting.{rowed-none}
 use Rattle.paths.specs.declared.Point.{Point}
+use Rattle.paths.proofs.Table.{starts-same}
 use Rattle.walks.specs.declared.Stack.{Stack}
 use Rattle.walks.specs.declared.Walked.{Walked}
 use Rattle.walks.specs.Marks.{none, Stacked}
@@ -51,34 +53,38 @@ enough : (c : Code) (limit : ℕ) (fs : List Bool) → turns-left c (start known
 enough c limit fs = turns-le c limit (start known work c) (begins limit fs) (kept-start c limit fs)
 
 -- the checkpoints of a path that has ended are those before the next one
-resumes : (c : Code) (job : Window) (limit : ℕ) (m₁ m₂ : List ℕ) (n choices : ℕ) (s : Stack) (r : Then) → Stacked c job m₁ choices n choices s → s .limit ≡ limit → length m₂ ≡ length m₁ → TurnsBy m₁ m₂ choices r
+resumes : (c : Code) (job : Window) (limit : ℕ) (m₁ m₂ : List ℕ) (n choices u : ℕ) (s : Stack) (r : Then) → Stacked c job m₁ choices n choices u s → s .limit ≡ limit → length m₂ ≡ length m₁ → TurnsBy m₁ m₂ choices r
     → Resumes c job m₂ limit r s
-resumes c job limit m₁ m₂ n choices s (Over a) h e len f = tt
-resumes c job limit m₁ m₂ n choices s (On k u) h e len f = (
+resumes c job limit m₁ m₂ n choices w s (Over a) h e len f = tt
+resumes c job limit m₁ m₂ n choices w s (On k u) h e len f = (
   record {
     nodes = n;
     choices = choices;
+    windows = w;
     stacked = record {
-      marks = marks-stay c job (s .limit) m₁ m₂ choices (k - 1) (k - 1) n choices (λ x l g. (l, g)) alike (omega arith) (omega arith) (h .marks);
+      marks = marks-stay c job (s .limit) (s .cells) m₁ m₂ choices (k - 1) (k - 1) n choices w (λ x l g. (l, g)) alike (omega arith) (omega arith) (omega arith) (h .marks);
       room = room-same len (h .room);
+      uses = h .uses;
+      cells = h .cells;
     };
     first = λ z. absurd (omega (arith, f .some));
   },
   e,
 )
   where
-    alike : Alike m₁ m₂ n (k - 1) (s .words)
+    alike : Alike m₁ m₂ n (k - 1) w (s .height)
     alike = record {
-      marks = λ v l. f .other (markPlace v) (λ y z. omega arith) (λ q g. omega arith) (λ g. omega arith);
+      marks = λ i x l a b. f .other x (λ y z. omega arith) (λ q g. omega arith) (λ g. omega arith);
       nodes = λ x j l a b. f .other x (λ y z. omega arith) (λ q g. omega arith) (λ g. omega arith);
       tests = λ x j l a b. f .other x (λ y z. omega arith) (λ q g. omega arith) (λ g. omega (arith, f .some));
+      starts = λ i l. starts-same m₁ m₂ i (λ x a b. f .other x (λ y z. omega arith) (λ q g. omega arith) (λ g. omega arith));
       len = len;
     }
 
 module _ (c : Code) (job : Window) (limit : ℕ) (m m₁ m₂ : List ℕ) (rows rows′ : List ℤ) (forced : ℕ) (t : Tally) where
   pub round-ended : (e : End) (p : Point) (s : Stack) (left : ℕ) → Ends c job limit (t .budget) (start known work c) (begins limit (outcomesIn m 0 forced)) m₁ e p s left → (u : Tally) → u ≡ paying t left → (r : Then)
       → length m₂ ≡ length m₁ → Finished m₁ m₂ rows rows′ e p u r → Round c job limit m m₂ rows rows′ forced t r × Resumes c job m₂ limit r s
-  round-ended e p s left h u q r len f = (by (subst (λ (u : Tally). Finished m₁ m₂ rows rows′ e p u r) q f), resumes c job limit m₁ m₂ (p .run .nodes) (p .choices) s r (h .stacked) (h .limited) len (f .turns))
+  round-ended e p s left h u q r len f = (by (subst (λ (u : Tally). Finished m₁ m₂ rows rows′ e p u r) q f), resumes c job limit m₁ m₂ (p .run .nodes) (p .choices) (p .windows) s r (h .stacked) (h .limited) len (f .turns))
     where
       by : Finished m₁ m₂ rows rows′ e p (paying t left) r → Round c job limit m m₂ rows rows′ forced t r
       by f = record {
@@ -98,8 +104,8 @@ round-spent c job limit m m₁ rows forced t h u q a d = subst (λ (a : Answered
 
 -- ---- the first path has no checkpoint
 
-pub begins-first : (c : Code) (job : Window) (m : List ℕ) (limit : ℕ) → Room m (limit + 1) → Begins c job m 0 (record { words = 0; limit = limit })
-begins-first c job m limit r = record { nodes = 0; choices = 0; stacked = record { marks = none refl; room = r }; first = λ e. refl }
+pub begins-first : (c : Code) (job : Window) (m : List ℕ) (limit cells : ℕ) → Room m (limit + 1) → Uses c cells × (cells ≤ frameCells) → Begins c job m 0 (record { height = 0; limit = limit; cells = cells })
+begins-first c job m limit cells r u = record { nodes = 0; choices = 0; windows = 0; stacked = record { marks = none refl; room = r; uses = u .0; cells = u .1 }; first = λ e. refl }
 
 -- the limit is that of the search
 pub round-as : (c : Code) (job : Window) (l limit : ℕ) (m m′ : List ℕ) (rows rows′ : List ℤ) (forced : ℕ) (t : Tally) (r : Then) → l ≡ limit → Round c job l m m′ rows rows′ forced t r → Round c job limit m m′ rows rows′ forced t r

@@ -210,8 +210,9 @@ pub fn run(
 {
     let mut forced: usize = 0;
     let mut marks = Stack {
-        words: 0,
+        height: 0,
         limit: limit,
+        cells: walks::cells::in_use(code, size),
     };
     let mut t = Tally {
         budget: budget,

@@ -10,6 +10,7 @@ pub mod Spending
 pub mod Listing
 pub mod Back
 pub mod Resume
+pub mod Cells
 pub mod First
 pub mod Nodes
 pub mod Odometer

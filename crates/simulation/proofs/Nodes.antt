@@ -172,7 +172,7 @@ adding-ok ns n =
     ∙ getD-at (values ns) (node known search.unknown open′ (values ns) n) [] (known (pos 0)) (length ns) (length-pass known search.unknown open′ [] ns ∙ omega arith)
 
 -- a node stands for an open value
-abbrev IsOpen : Value → Type 0
+abbrev pub IsOpen : Value → Type 0
 IsOpen (known z) = ⊥
 IsOpen (search.unknown i) = Unit {0}
 IsOpen (open′ o a b) = Unit {0}
@@ -190,7 +190,7 @@ there [] j h v o = absurd (omega arith)
 there (n ∷ ns) zero h v o = o
 there (n ∷ ns) (suc j) h v o = there ns j (omega arith) v o
 
-meaning-open : (ns : List Node) (j : ℕ) → j < length ns → IsOpen (meaning ns (Open j))
+pub meaning-open : (ns : List Node) (j : ℕ) → j < length ns → IsOpen (meaning ns (Open j))
 unfolding meaning values
 meaning-open ns j h = there ns j h _ (subst (λ k. OpenAt (getD (map some ns) j none) (getD (values ns) k (known (pos 0)))) (omega arith) (pass-at known search.unknown open′ OpenAt (known (pos 0)) node-open tt [] ns j))
 

@@ -10,3 +10,4 @@ pub mod Resume
 pub mod Nodes
 pub mod Odometer
 pub mod Words
+pub mod Cells

@@ -15,13 +15,14 @@ use Rattle.simulation.specs.Path.{State, begins, End}
 use Rattle.simulation.specs.Lister.{Tally, Next, Start, path}
 use Rattle.simulation.specs.Nodes.{ranges, pass}
 use Rattle.simulation.specs.Resume.{forcing, Comes}
+use Rattle.simulation.specs.Cells.{Uses}
 use Rattle.simulation.proofs.Back.{Some}
 use Rattle.simulation.proofs.Bounds.{sound-start}
 use Rattle.simulation.proofs.Drive.{turns-left}
 use Rattle.simulation.proofs.Resume.{comes-start, Onto, resumed}
 use Rattle.intervals.specs.Meaning.{Filled}
 use Rattle.ranges.proofs.Ranges.{filled}
-use Rattle.machine.specs.Layout.{outcomePlace}
+use Rattle.machine.specs.Layout.{frameCells, outcomePlace}
 use Rattle.machine.specs.Memory.{nodesIn, machineAt, rangesIn, testsIn, outcomeAs, outcomesIn}
 use Rattle.machine.specs.Contracts.{Room, Started}
 use Rattle.machine.specs.declared.Run.{Run}
@@ -32,7 +33,7 @@ use Rattle.paths.specs.declared.Point.{Point}
 use Rattle.paths.specs.Choice.{Tables}
 use Rattle.paths.specs.Point.{stateAt, Going}
 use Rattle.paths.proofs.Choice.{outcomes-same}
-use Rattle.checkpoints.specs.Live.{sizeOf, numberWords, Space}
+use Rattle.checkpoints.specs.Live.{sizeOf, numberCount}
 use Rattle.checkpoints.specs.Words.{Agrees, forced, Restored, Ends}
 use Rattle.walks.specs.declared.Stack.{Stack}
 use Rattle.walks.specs.declared.Walked.{Walked}
@@ -65,7 +66,7 @@ all-filled : Filled all32
 unfolding all32 up down
 all-filled = filled all32 (omega arith)
 
-module _ (c : Code) (job : Window) (m m′ : List ℕ) (s : Stack) (r : Run) (f : ℕ) (h : Started m m′ r) (len : length m′ ≡ length m) (room : Room m (s .limit + 1)) where
+module _ (c : Code) (job : Window) (m m′ : List ℕ) (s : Stack) (r : Run) (f : ℕ) (h : Started m m′ r) (len : length m′ ≡ length m) (room : Room m (s .limit + 1)) (uses : Uses c (s .cells)) (cells : s .cells ≤ frameCells) where
   abbrev first : Point
   first = atStart r (s .limit) f
 
@@ -83,7 +84,7 @@ module _ (c : Code) (job : Window) (m m′ : List ℕ) (s : Stack) (r : Run) (f 
   low : r .top + r .depth ≤ 0
   low = tops-le m′ r 0 (h .ready) (subst (λ (x : Machine Value). Rattle.simulation.proofs.Bounds.Sound 0 x) (sym (h .is c)) (sound-start known work c))
 
-  module _ (e : s .words ≡ 0) where
+  module _ (e : s .height ≡ 0) where
     pub first-stands : (p : Point) → p ≡ first → Stands c job m′ p s
     first-stands p i = subst (λ (p : Point). Stands c job m′ p s) (sym i) (record {
       going = record {
@@ -96,7 +97,7 @@ module _ (c : Code) (job : Window) (m m′ : List ℕ) (s : Stack) (r : Run) (f 
       few = omega arith;
       comes = subst (λ (x : Machine Value). Comes inUse job c (s .limit) x (stateAt m′ first)) (sym (h .is c))
           (subst (Comes inUse job c (s .limit) (start known work c)) begins-at (comes-start inUse job c (s .limit) (outcomesIn m 0 f)));
-      stacked = record { marks = none e; room = room-same len room };
+      stacked = record { marks = none e; room = room-same len room; uses = uses; cells = cells };
     })
 
     pub first-walks : (p : Point) → p ≡ first → (limit budget : ℕ) (m₂ : List ℕ) (w : Walked) → s .limit ≡ limit → Walking c job (s .limit) budget (machineAt m′ (p .run)) (stateAt m′ p) m₂ w
@@ -108,22 +109,29 @@ module _ (c : Code) (job : Window) (m m′ : List ℕ) (s : Stack) (r : Run) (f 
 -- ---- what is left of the checkpoints
 
 module _ (c : Code) (job : Window) (m : List ℕ) (f : ℕ) (s : Stack) (b : Begins c job m f s) where
-  pub space-so : Space m (s .words)
-  space-so = record { indices = s .limit + 1; fits = omega (arith, marks-paid c job (s .limit) (b .stacked .marks)); room = b .stacked .room }
+  pub space-so : Room m (s .height)
+  space-so = room-less (s .height) (omega (arith, marks-paid c job (s .limit) (s .cells) (b .stacked .marks))) (b .stacked .room)
 
   module _ (i : ℕ) (e : i ≡ f - 1) (r : Stack) (d : Dropped m s i r) where
-    pub marks-left : Marks c job (r .limit) m (f - 1) (b .nodes) (f - 1) (r .words)
-    marks-left = subst (λ (l : ℕ). Marks c job l m (f - 1) (b .nodes) (f - 1) (r .words)) (sym (d .limit))
-        (subst (λ (i : ℕ). Marks c job (s .limit) m (f - 1) (b .nodes) i (r .words)) e (d .is c job (f - 1) (b .nodes) (b .choices) (b .stacked .marks)))
+    pub marks-left : Marks c job (r .limit) (r .cells) m (f - 1) (b .nodes) (f - 1) (b .windows) (r .height)
+    marks-left = subst (λ (n : ℕ). Marks c job (r .limit) n m (f - 1) (b .nodes) (f - 1) (b .windows) (r .height)) (sym (d .cells))
+        (subst (λ (l : ℕ). Marks c job l (s .cells) m (f - 1) (b .nodes) (f - 1) (b .windows) (r .height)) (sym (d .limit))
+        (subst (λ (i : ℕ). Marks c job (s .limit) (s .cells) m (f - 1) (b .nodes) i (b .windows) (r .height)) e (d .is c job (f - 1) (b .nodes) (b .choices) (b .windows) (b .stacked .marks))))
+
+    pub uses-left : Uses c (r .cells)
+    uses-left = subst (Uses c) (sym (d .cells)) (b .stacked .uses)
+
+    pub cells-left : r .cells ≤ frameCells
+    cells-left = omega (arith, d .cells, b .stacked .cells)
 
     pub room-left : Room m (r .limit + 1)
     room-left = subst (λ (l : ℕ). Room m (l + 1)) (sym (d .limit)) (b .stacked .room)
 
-    pub some-forced : (r .words ≡ 0 → ⊥) → 1 ≤ f
+    pub some-forced : (r .height ≡ 0 → ⊥) → 1 ≤ f
     some-forced h = ⊎-elim (λ g. absurd (h (omega (arith, d .fewer, b .first g)))) (λ g. omega arith) (is-or-not f 0)
 
-    pub some-left : (r .words ≡ 0 → ⊥) → numberWords ≤ r .words
-    some-left h = ⊎-elim (λ g. omega arith) (λ g. ⊎-elim (λ g. absurd (h (empty c job (r .limit) m (f - 1) g marks-left))) (λ g. omega arith) g) (three (r .words) numberWords)
+    pub some-left : (r .height ≡ 0 → ⊥) → numberCount ≤ r .height
+    some-left h = ⊎-elim (λ g. omega arith) (λ g. ⊎-elim (λ g. absurd (h (empty c job (r .limit) (r .cells) m (f - 1) g marks-left))) (λ g. omega arith) g) (three (r .height) numberCount)
 
 -- ---- a checkpoint
 
@@ -138,9 +146,10 @@ unfolding outcomesIn
 some-outcomes m i zero l = absurd (omega arith)
 some-outcomes m i (suc f) l = tt
 
-module _ (c : Code) (job : Window) (m : List ℕ) (s : Stack) (k : ℕ) (n : ℕ) (some : 1 ≤ k) (ms : Marks c job (s .limit) m (k - 1) n (k - 1) (s .words)) (room : Room m (s .limit + 1)) (l : numberWords ≤ s .words) where
-  abbrev o : Newest c job (s .limit) m (k - 1) n (k - 1) (s .words)
-  o = newest c job (s .limit) m (k - 1) l ms
+module _ (c : Code) (job : Window) (m : List ℕ) (s : Stack) (k : ℕ) (n u : ℕ) (some : 1 ≤ k) (ms : Marks c job (s .limit) (s .cells) m (k - 1) n (k - 1) u (s .height)) (room : Room m (s .limit + 1)) (uses : Uses c (s .cells)) (cells : s .cells ≤ frameCells)
+    (l : numberCount ≤ s .height) where
+  abbrev o : Newest c job (s .limit) (s .cells) m (k - 1) n (k - 1) u (s .height)
+  o = newest c job (s .limit) (s .cells) m (k - 1) l ms
 
   abbrev p : Point
   p = o .point
@@ -148,14 +157,14 @@ module _ (c : Code) (job : Window) (m : List ℕ) (s : Stack) (k : ℕ) (n : ℕ
   agrees : Agrees m (o .is .before) p
   agrees = o .is .agrees (o .choices)
 
-  pub ends-here : Ends m (s .words)
+  pub ends-here : Ends (s .cells) m (s .height)
   ends-here = record { before = o .is .before; point = p; start = o .start; size = o .size; saved = o .is .saved; agrees = agrees }
 
-  pub space-here : Space m (s .words)
-  space-here = record { indices = s .limit + 1; fits = omega (arith, marks-paid c job (s .limit) ms); room = room }
+  pub space-here : Room m (s .height)
+  space-here = room-less (s .height) (omega (arith, marks-paid c job (s .limit) (s .cells) ms)) room
 
   module _ (m′ : List ℕ) (q : Point) (len : length m′ ≡ length m)
-      (back : (m₀ : List ℕ) (p : Point) (v : ℕ) → s .words ≡ v + sizeOf p → Rattle.checkpoints.specs.Words.Saved m m₀ p v → Agrees m m₀ p → Restored m m₀ m′ p q (k - p .choices)) where
+      (back : (m₀ : List ℕ) (p : Point) (v : ℕ) → s .height ≡ v + sizeOf (s .cells) p → Rattle.checkpoints.specs.Words.Saved (s .cells) m m₀ p v → Agrees m m₀ p → Restored m m₀ m′ p q (k - p .choices)) where
     abbrev restored : Restored m (o .is .before) m′ p q (k - p .choices)
     restored = back (o .is .before) p (o .start) (o .size) (o .is .saved) agrees
 
@@ -172,6 +181,9 @@ module _ (c : Code) (job : Window) (m : List ℕ) (s : Stack) (k : ℕ) (n : ℕ
     same-nodes : q .run .nodes ≡ p .run .nodes
     same-nodes = ap (λ (q : Point). q .run .nodes) (restored .point)
 
+    same-windows : q .windows ≡ p .windows
+    same-windows = ap (λ (q : Point). q .windows) (restored .point)
+
     same-steps : q .steps ≡ p .steps
     same-steps = ap (λ (q : Point). q .steps) (restored .point)
 
@@ -181,9 +193,11 @@ module _ (c : Code) (job : Window) (m : List ℕ) (s : Stack) (k : ℕ) (n : ℕ
       few = omega (arith, same-choices, same-steps, o .is .few);
       comes = comes-here;
       stacked = record {
-        marks = marks-stay c job (s .limit) m m′ (k - 1) (q .choices) (p .choices) (q .run .nodes) (q .choices) (λ x a b. (omega (arith, o .choices), a)) (alike-stays (s .words) len (restored .stays))
-            (omega (arith, same-nodes)) (omega (arith, same-choices)) (mark {n = p .run .nodes} {t = p .choices} p (o .start) (o .older) (o .is) (omega arith) (omega arith) (o .paid) (o .size));
+        marks = marks-stay c job (s .limit) (s .cells) m m′ (k - 1) (q .choices) (p .choices) (q .run .nodes) (q .choices) (q .windows) (λ x a b. (omega (arith, o .choices), a)) (alike-stays (p .windows) (s .height) len (λ i a. restored .starts i) (restored .stays))
+            (omega (arith, same-nodes)) (omega (arith, same-choices)) (omega (arith, same-windows)) (mark {n = p .run .nodes} {t = p .choices} {u = p .windows} p (o .start) (o .older) (o .is) (omega arith) (omega arith) (omega arith) (o .paid) (o .size));
         room = room-same len room;
+        uses = uses;
+        cells = cells;
       };
     }
 

@@ -1,7 +1,7 @@
 -- The checkpoints of a search: they are paid for, and they stay where what they rest on does; one more is added.
 use mathlib.Core.Path.{_≡_, refl, sym, ap, ap₂, _∙_, subst}
 use mathlib.Core.List.{List}
-use Prim.Native.Nat.{ℕ, _+_, _-_, _*_, _/_, _≤_, _<_}
+use Prim.Native.Nat.{ℕ, _+_, _-_, _*_, _≤_, _<_}
 use native.Mathlib.Omega.{arith}
 use lib.ListN.{length, getD}
 use Rattle.semantics.specs.Program.{Window}
@@ -10,15 +10,15 @@ use Rattle.simulation.specs.Code.{Code}
 use Rattle.simulation.specs.Machine.{Machine}
 use Rattle.simulation.specs.Path.{State}
 use Rattle.simulation.specs.Resume.{Comes}
-use Rattle.machine.specs.Layout.{nodePlace, nodeEnd, testPlace, outcomeEnd, markPlace, markWords}
-use Rattle.machine.specs.Memory.{machineAt}
+use Rattle.machine.specs.Layout.{nodePlace, nodeEnd, testPlace, outcomeEnd, markPlace, indexEnd}
+use Rattle.machine.specs.Memory.{machineAt, startsIn}
 use Rattle.machine.proofs.Tables.{room-same}
 use Rattle.paths.specs.declared.Point.{Point}
 use Rattle.paths.specs.Point.{stateAt, Going, Stays}
 use Rattle.paths.proofs.Machinery.{machine-stays}
-use Rattle.checkpoints.specs.Live.{sizeOf, Small}
-use Rattle.checkpoints.specs.Words.{wordAt, Sized, Saved, Agrees, Marking}
-use Rattle.checkpoints.proofs.Places.{mark-apart}
+use Rattle.paths.proofs.Table.{starts-same}
+use Rattle.checkpoints.specs.Live.{sizeOf, Small, Marking}
+use Rattle.checkpoints.specs.Words.{Sized, Saved, Agrees}
 use Rattle.checkpoints.proofs.Beside.{off, machinery-is, state-is, going-is, saved-stays}
 use Rattle.walks.specs.declared.Stack.{Stack}
 use Rattle.walks.specs.Marks.{ComesTo, Mark, Marks, none, mark, Stacked, Due, added, Keeping, passed, kept}
@@ -38,51 +38,56 @@ sized-so g l = record {
   small = small-so g;
 }
 
--- the words of the checkpoints up to w, the first n nodes, and the first d tests and outcomes are as they were
-pub record Alike (m m′ : List ℕ) (n d w : ℕ) : Type 0 where
-  pub marks : (v : ℕ) → v < w → wordAt m′ v ≡ wordAt m v
+-- the marks up to w, the first n nodes, the first d tests and outcomes, and the first u starting pairs are as they were
+pub record Alike (m m′ : List ℕ) (n d u w : ℕ) : Type 0 where
+  pub marks : (i x : ℕ) → i < w → markPlace i ≤ x → x < indexEnd i → getD m′ x 0 ≡ getD m x 0
   pub nodes : (k j : ℕ) → j < n → nodePlace j ≤ k → k < nodeEnd j → getD m′ k 0 ≡ getD m k 0
   pub tests : (k j : ℕ) → j < d → testPlace j ≤ k → k < outcomeEnd j → getD m′ k 0 ≡ getD m k 0
+  pub starts : (k : ℕ) → k ≤ u → startsIn m′ k ≡ startsIn m k
   pub len : length m′ ≡ length m
 
-pub alike-stays : {m m′ : List ℕ} {n d : ℕ} (w : ℕ) → length m′ ≡ length m → Stays m m′ n d → Alike m m′ n d w
-alike-stays w e s = record { marks = λ v l. s .marks (markPlace v) (v / 3) (omega arith) (omega arith); nodes = s .nodes; tests = s .tests; len = e }
+pub alike-stays : {m m′ : List ℕ} {n d : ℕ} (u w : ℕ) → length m′ ≡ length m → ((k : ℕ) → k ≤ u → startsIn m′ k ≡ startsIn m k) → Stays m m′ n d → Alike m m′ n d u w
+alike-stays u w e h s = record { marks = λ i x l a b. s .marks x i a b; nodes = s .nodes; tests = s .tests; starts = h; len = e }
 
-module _ (c : Code) (job : Window) (limit : ℕ) where
-  pub marks-paid : {m : List ℕ} {upto n t w : ℕ} → Marks c job limit m upto n t w → w ≤ markWords * limit
+module _ (c : Code) (job : Window) (limit cells : ℕ) where
+  pub marks-paid : {m : List ℕ} {upto n t u w : ℕ} → Marks c job limit cells m upto n t u w → w ≤ limit
   marks-paid (none a) = omega arith
-  marks-paid (mark p v ms k a b pay e) = omega arith
+  marks-paid (mark p v ms k a b g pay e) = pay
 
   -- of the checkpoints with at most upto′ choices, what stood there stood still, and d tests and outcomes have stayed
-  pub marks-stay : (m m′ : List ℕ) (upto upto′ d : ℕ) {n t w : ℕ} (n′ t′ : ℕ) → ((x : ℕ) → x ≤ t → x ≤ upto′ → (x ≤ upto) × (x ≤ d)) → Alike m m′ n d w → n ≤ n′ → t ≤ t′
-      → Marks c job limit m upto n t w → Marks c job limit m′ upto′ n′ t′ w
-  marks-stay m m′ upto upto′ d n′ t′ h a l g (none e) = none e
-  marks-stay m m′ upto upto′ d n′ t′ h a l g (mark p v ms k x y pay e) =
-      mark {n = n′} {t = t′} p v
-      (marks-stay m m′ upto upto′ d (p .run .nodes) (p .choices) (λ z q r. h z (omega arith) r)
-      (record { marks = λ u q. a .marks u (omega arith); nodes = λ z j i. a .nodes z j (omega arith); tests = a .tests; len = a .len }) (omega arith) (omega arith) ms)
+  pub marks-stay : (m m′ : List ℕ) (upto upto′ d : ℕ) {n t u w : ℕ} (n′ t′ u′ : ℕ) → ((x : ℕ) → x ≤ t → x ≤ upto′ → (x ≤ upto) × (x ≤ d)) → Alike m m′ n d u w → n ≤ n′ → t ≤ t′ → u ≤ u′
+      → Marks c job limit cells m upto n t u w → Marks c job limit cells m′ upto′ n′ t′ u′ w
+  marks-stay m m′ upto upto′ d n′ t′ u′ h a l g f (none e) = none e
+  marks-stay m m′ upto upto′ d n′ t′ u′ h a l g f (mark p v ms k x y z pay e) =
+      mark {n = n′} {t = t′} {u = u′} p v
+      (marks-stay m m′ upto upto′ d (p .run .nodes) (p .choices) (p .windows) (λ i q r. h i (omega arith) r)
+      (record { marks = λ i b q. a .marks i b (omega arith); nodes = λ b j i. a .nodes b j (omega arith); tests = a .tests; starts = λ b q. a .starts b (omega arith); len = a .len }) (omega arith) (omega arith) (omega arith) ms)
       (record {
         before = k .before;
-        saved = saved-stays m m′ (k .before) p v (λ u q r. a .marks u (omega arith)) (a .len) (k .saved);
+        saved = saved-stays cells m m′ (k .before) p v (λ i b q r. a .marks i b (omega arith)) (a .len) (k .saved);
         comes = k .comes;
         few = k .few;
         agrees = λ q.
             let b = h (p .choices) y q in
             let o = k .agrees (b .0) in
-            record { nodes = λ z j i r s. a .nodes z j (omega arith) r s ∙ o .nodes z j i r s; tests = λ z j i r s. a .tests z j (omega (arith, b .1)) r s ∙ o .tests z j i r s };
+            record {
+              nodes = λ z j i r s. a .nodes z j (omega arith) r s ∙ o .nodes z j i r s;
+              tests = λ z j i r s. a .tests z j (omega (arith, b .1)) r s ∙ o .tests z j i r s;
+              starts = a .starts (p .windows) z ∙ o .starts;
+            };
       })
-      (omega arith) (omega arith) pay e
+      (omega arith) (omega arith) (omega arith) pay e
 
 -- ---- one more, if it is due
 
 module _ (size : ℕ) (m m′ : List ℕ) (p : Point) (deep : p .run .depth ≤ 32) where
   pub kept-machine : (s r : Stack) → Keeping size m m′ p s r → machineAt m′ (p .run) ≡ machineAt m (p .run)
   kept-machine s r (passed e f) = ap (λ (l : List ℕ). machineAt l (p .run)) e
-  kept-machine s r (kept due saved k f) = machine-stays (machinery-is m m′ (s .words) (sizeOf p) k) (p .run) deep
+  kept-machine s r (kept due saved k f) = machine-stays (machinery-is m m′ (s .height) (sizeOf (s .cells) p) k) (p .run) deep
 
   pub kept-state : (s r : Stack) → Keeping size m m′ p s r → stateAt m′ p ≡ stateAt m p
   kept-state s r (passed e f) = ap (λ (l : List ℕ). stateAt l p) e
-  kept-state s r (kept due saved k f) = state-is m m′ (s .words) (sizeOf p) k p
+  kept-state s r (kept due saved k f) = state-is m m′ (s .height) (sizeOf (s .cells) p) k p
 
   pub kept-limit : (s r : Stack) → Keeping size m m′ p s r → r .limit ≡ s .limit
   kept-limit s r (passed e f) = ap (λ (s : Stack). s .limit) f
@@ -91,32 +96,39 @@ module _ (size : ℕ) (m m′ : List ℕ) (p : Point) (deep : p .run .depth ≤ 
 pub kept-stands : (c : Code) (job : Window) (size : ℕ) (m m′ : List ℕ) (p : Point) (s r : Stack) → length m′ ≡ length m → Stands c job m p s → Keeping size m m′ p s r → Stands c job m′ p r
 kept-stands c job size m m′ p s r len h (passed e f) = subst (λ (l : List ℕ). Stands c job l p r) (sym e) (subst (Stands c job m p) (sym f) h)
 kept-stands c job size m m′ p s r len h (kept due saved k f) = subst (Stands c job m′ p) (sym f) (record {
-  going = going-is m m′ (s .words) (sizeOf p) k p len (h .going);
+  going = going-is m m′ (s .height) (sizeOf (s .cells) p) k p len (h .going);
   few = h .few;
   comes = comes-same;
   stacked = record {
-    marks = mark p (s .words)
-        (marks-stay c job (s .limit) m m′ (p .choices) (p .choices) (p .choices) (p .run .nodes) (p .choices) (λ x l g. (l, l)) alike (omega arith) (omega arith) (h .stacked .marks))
+    marks = mark p (s .height)
+        (marks-stay c job (s .limit) (s .cells) m m′ (p .choices) (p .choices) (p .choices) (p .run .nodes) (p .choices) (p .windows) (λ x l g. (l, l)) alike (omega arith) (omega arith) (omega arith) (h .stacked .marks))
         (record {
           before = m;
           saved = saved;
           comes = h .comes;
           few = h .few;
           agrees = λ l. record {
-            nodes = λ x j i a b. off m m′ (s .words) (sizeOf p) k x (λ q u v. omega arith);
-            tests = λ x j i a b. off m m′ (s .words) (sizeOf p) k x (λ q u v. omega arith);
+            nodes = λ x j i a b. off m m′ (s .height) (sizeOf (s .cells) p) k x (λ q u v. omega arith);
+            tests = λ x j i a b. off m m′ (s .height) (sizeOf (s .cells) p) k x (λ q u v. omega arith);
+            starts = starts-are (p .windows);
           };
         })
-        (omega arith) (omega arith) (due .paid) refl;
+        (omega arith) (omega arith) (omega arith) (omega (arith, due .paid)) refl;
     room = room-same len (h .stacked .room);
+    uses = h .stacked .uses;
+    cells = h .stacked .cells;
   };
 })
   where
-    alike : Alike m m′ (p .run .nodes) (p .choices) (s .words)
+    starts-are : (i : ℕ) → startsIn m′ i ≡ startsIn m i
+    starts-are i = starts-same m m′ i (λ x a b. off m m′ (s .height) (sizeOf (s .cells) p) k x (λ q u v. omega arith))
+
+    alike : Alike m m′ (p .run .nodes) (p .choices) (p .windows) (s .height)
     alike = record {
-      marks = λ v l. k .other (markPlace v) (λ u a b. mark-apart v u (omega arith));
-      nodes = λ x j i a b. off m m′ (s .words) (sizeOf p) k x (λ q u v. omega arith);
-      tests = λ x j i a b. off m m′ (s .words) (sizeOf p) k x (λ q u v. omega arith);
+      marks = λ i x l a b. k .other x (λ j u v f g. omega arith);
+      nodes = λ x j i a b. off m m′ (s .height) (sizeOf (s .cells) p) k x (λ q u v. omega arith);
+      tests = λ x j i a b. off m m′ (s .height) (sizeOf (s .cells) p) k x (λ q u v. omega arith);
+      starts = λ i l. starts-are i;
       len = len;
     }
 

@@ -13,18 +13,22 @@ use Rattle.simulation.specs.Path.{State, Turn, End, on, ended, still, turn}
 use Rattle.simulation.specs.Lister.{Tally, tally, Next, go, over, then, closed, charge, charged, finish, Start, back, path}
 use Rattle.simulation.proofs.Drive.{turns-left}
 use Rattle.simulation.proofs.Resume.{after, path-turn, comes-on}
-use Rattle.machine.specs.Layout.{markWords}
-use Rattle.machine.specs.Memory.{machineAt, outcomesIn}
-use Rattle.machine.proofs.Tables.{room-same}
+use Rattle.simulation.proofs.Cells.{Extends, starts-on, starts-end}
+use Rattle.machine.specs.Layout.{frameCells}
+use Rattle.machine.specs.Memory.{machineAt, outcomesIn, startsIn}
+use Rattle.machine.specs.Contracts.{Room}
+use Rattle.machine.proofs.Tables.{room-same, room-less}
 use Rattle.paths.specs.declared.Point.{Point}
 use Rattle.paths.specs.declared.Turned.{Turned}
 use Rattle.paths.specs.Point.{stateAt, Going, Stays}
 use Rattle.paths.specs.Turn.{Onward, Stops, Turning, Onwards}
 use Rattle.paths.proofs.Keeping.{nearer-of}
-use Rattle.checkpoints.specs.Live.{Space}
+use Rattle.checkpoints.specs.Live.{Slim}
+use Rattle.checkpoints.proofs.Starts.{starts-stay}
 use Rattle.walks.specs.declared.Stack.{Stack}
 use Rattle.walks.specs.Marks.{Keeping}
 use Rattle.walks.specs.Walk.{paid, Stands, Walks, Ends}
+use Rattle.walks.proofs.Blank.{slim-so}
 use Rattle.walks.proofs.Marks.{alike-stays, marks-paid, marks-stay, kept-machine, kept-state, kept-limit, kept-stands}
 
 -- ---- moves
@@ -55,12 +59,13 @@ pays-one budget left o e l b t f = ap (λ (o : Bool). charged o (paid left t)) e
 
 -- ---- where a path stands
 
--- the room that the checkpoints have yet
-pub spare : (c : Code) (job : Window) (m : List ℕ) (p : Point) (s : Stack) → Stands c job m p s → Space m (markWords * s .limit) × (s .limit < 4294967296) × (s .words ≤ markWords * s .limit)
+-- the room that the checkpoints have yet, and cells that are not in use
+pub spare : (c : Code) (job : Window) (m : List ℕ) (p : Point) (s : Stack) → Stands c job m p s → Room m (s .limit) × (s .height ≤ s .limit) × (s .cells ≤ frameCells) × Slim (s .cells) m (p .run .depth)
 spare c job m p s h = (
-  record { indices = s .limit + 1; fits = omega arith; room = h .stacked .room },
-  omega (arith, h .stacked .room .small),
-  marks-paid c job (s .limit) (h .stacked .marks),
+  room-less (s .limit) (omega arith) (h .stacked .room),
+  marks-paid c job (s .limit) (s .cells) (h .stacked .marks),
+  h .stacked .cells,
+  slim-so c job (s .limit) (s .cells) m p (h .stacked .uses) (h .comes) (h .going .ready),
 )
 
 module _ (c : Code) (job : Window) (limit : ℕ) where
@@ -127,6 +132,9 @@ module _ (c : Code) (job : Window) (limit : ℕ) where
       abbrev here : Turn
       here = turn inUse job c (machineAt m (p .run)) (stateAt m p)
 
+      starts-kept : (b : ℕ) → b ≤ 8 → Extends (startsIn m (p .windows)) (startsIn m′ b) → ((k : ℕ) → k ≤ p .windows → startsIn m′ k ≡ startsIn m k) × (p .windows ≤ b)
+      starts-kept b l h = starts-stay m m′ (p .windows) b (r .stands .going .standing .tables .count) l h
+
       -- the path goes on
       pub reaches-on : (q : Point) (o : Bool) (left′ : ℕ) → Onward here m′ p o q → Going m′ q → Stays m m′ (p .run .nodes) (p .choices) → length m′ ≡ length m → left′ ≤ budget
           → ((t : Tally) → t .budget ≡ budget → charged o (paid left t) ≡ go (paid left′ t)) → Reaches budget x y m′ q s left′
@@ -136,8 +144,10 @@ module _ (c : Code) (job : Window) (limit : ℕ) where
           few = omega (arith, r .stands .few, h .fewer);
           comes = comes-on inUse job c (s .limit) (machineAt m (p .run)) (machineAt m′ (q .run)) (stateAt m p) (stateAt m′ q) (r .stands .comes) (ap (λ (t : Turn). t .went) (h .is));
           stacked = record {
-            marks = marks-stay c job (s .limit) m m′ (p .choices) (q .choices) (p .choices) (q .run .nodes) (q .choices) (λ z a b. (a, a)) (alike-stays (s .words) len stays) (h .grows) (h .older) (r .stands .stacked .marks);
+            marks = marks-stay c job (s .limit) (s .cells) m m′ (p .choices) (q .choices) (p .choices) (q .run .nodes) (q .choices) (q .windows) (λ z a b. (a, a)) (alike-stays (p .windows) (s .height) len (starts .0) stays) (h .grows) (h .older) (starts .1) (r .stands .stacked .marks);
             room = room-same len (r .stands .stacked .room);
+            uses = r .stands .stacked .uses;
+            cells = r .stands .stacked .cells;
           };
         };
         limited = r .limited;
@@ -147,6 +157,9 @@ module _ (c : Code) (job : Window) (limit : ℕ) where
             let near = nearer-of job c m m′ p q o (r .stands .going .ready) (h .is) .nearer in
             record { turns = f .0; enough = omega (arith, f .1 .0, near); is = f .1 .1 ∙ ap (λ (z : Next Tally). then z (after inUse job c limit (f .0) (on (machineAt m′ (q .run)) (stateAt m′ q)))) (pay t e) };
       }
+        where
+          starts : ((k : ℕ) → k ≤ p .windows → startsIn m′ k ≡ startsIn m k) × (p .windows ≤ q .windows)
+          starts = starts-kept (q .windows) (g .standing .tables .count) (starts-on inUse job c (machineAt m (p .run)) (stateAt m p) (machineAt m′ (q .run)) (stateAt m′ q) (ap (λ (t : Turn). t .went) (h .is)))
 
       pub nearer : (q : Point) (o : Bool) → Onward here m′ p o q → turns-left c (machineAt m′ (q .run)) (stateAt m′ q) < turns-left c (machineAt m (p .run)) (stateAt m p)
       nearer q o h = nearer-of job c m m′ p q o (r .stands .going .ready) (h .is) .nearer
@@ -168,8 +181,10 @@ module _ (c : Code) (job : Window) (limit : ℕ) where
         few = omega (arith, r .stands .few, r .limited);
         rest = r .rest;
         stacked = record {
-          marks = marks-stay c job (s .limit) m m′ (p .choices) (p .choices) (p .choices) (p .run .nodes) (p .choices) (λ z a b. (a, a)) (alike-stays (s .words) len stays) (omega arith) (omega arith) (r .stands .stacked .marks);
+          marks = marks-stay c job (s .limit) (s .cells) m m′ (p .choices) (p .choices) (p .choices) (p .run .nodes) (p .choices) (p .windows) (λ z a b. (a, a)) (alike-stays (p .windows) (s .height) len (starts-kept (p .windows) (r .stands .going .standing .tables .count) (starts-end inUse job c (machineAt m (p .run)) (stateAt m p) e (stateAt m′ p) (ap (λ (t : Turn). t .went) (h .is))) .0) stays) (omega arith) (omega arith) (omega arith) (r .stands .stacked .marks);
           room = room-same len (r .stands .stacked .room);
+          uses = r .stands .stacked .uses;
+          cells = r .stands .stacked .cells;
         };
         limited = r .limited;
       }

@@ -38,7 +38,7 @@ pub record Stands (c : Code) (job : Window) (m : List ℕ) (p : Point) (s : Stac
   pub going : Going m p
   pub few : p .choices + p .steps ≤ s .limit
   pub comes : ComesTo c job (s .limit) m p
-  pub stacked : Stacked c job m (p .choices) (p .run .nodes) (p .choices) s
+  pub stacked : Stacked c job m (p .choices) (p .run .nodes) (p .choices) (p .windows) s
 
 -- the path from a machine and a state on, and what is done after it, is x of what was counted before
 pub record Walks (c : Code) (job : Window) (limit budget : ℕ) (x : Machine Value) (s : State) (y : Tally → Next Start) : Type 0 where
@@ -50,7 +50,7 @@ pub record Ends (c : Code) (job : Window) (limit budget : ℕ) (x : Machine Valu
   pub standing : Standing m′ q
   pub few : q .choices ≤ limit
   pub rest : left ≤ budget
-  pub stacked : Stacked c job m′ (q .choices) (q .run .nodes) (q .choices) r
+  pub stacked : Stacked c job m′ (q .choices) (q .run .nodes) (q .choices) (q .windows) r
   pub limited : r .limit ≡ limit
 
 -- how the path went: a value that it returned is one of its nodes
@@ -66,8 +66,9 @@ Walking c job limit budget x s m′ (Cut q r left) = Ends c job limit budget x s
 pub record Begins (c : Code) (job : Window) (m : List ℕ) (forced : ℕ) (s : Stack) : Type 0 where
   pub nodes : ℕ
   pub choices : ℕ
-  pub stacked : Stacked c job m (forced - 1) nodes choices s
-  pub first : forced ≡ 0 → s .words ≡ 0
+  pub windows : ℕ
+  pub stacked : Stacked c job m (forced - 1) nodes choices windows s
+  pub first : forced ≡ 0 → s .height ≡ 0
 
 -- the path with these outcomes forced, from the start of main on
 abbrev pub FromMain : Code → Window → ℕ → ℕ → List Bool → List ℕ → Walked → Type 0

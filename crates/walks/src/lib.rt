@@ -5,11 +5,11 @@ ghost use Prim.Native.Nat.{_+_, _*_, _<_, _≤_};
 ghost use lib.ListN.{length};
 ghost use Rattle.simulation.specs.Words.{codeIn};
 ghost use Rattle.intervals.specs.Meaning.{Filled, ofWindow};
-ghost use Rattle.machine.specs.Layout.{tablesPlace, markWords};
+ghost use Rattle.machine.specs.Layout.{frameCells, tablesPlace};
 ghost use Rattle.machine.specs.Memory.{machineAt, outcomesIn};
-ghost use Rattle.machine.specs.Contracts.{Ready, Started};
+ghost use Rattle.machine.specs.Contracts.{Room, Ready, Started};
 ghost use Rattle.paths.specs.Point.{stateAt, Going};
-ghost use Rattle.checkpoints.specs.Live.{Small, Space};
+ghost use Rattle.checkpoints.specs.Live.{Small, Slim};
 ghost use Rattle.walks.specs.Marks.{Due, Keeping, Dropped};
 ghost use Rattle.walks.specs.Walk.{atStart, Stands, Walking, Begins, FromMain};
 use code::entry;
@@ -20,10 +20,13 @@ use machine::layout;
 use paths::Point;
 use paths::Turned;
 
-// The checkpoints of a search: how many words they have, and the limit of steps, which pay for them.
+pub mod cells;
+
+// The checkpoints of a search: how many marks they have, the limit of steps, which is also that of the marks, and how many cells of a frame the code uses.
 pub struct Stack {
-    pub words: usize,
+    pub height: usize,
     pub limit: usize,
+    pub cells: usize,
 }
 
 // How a path went: the budget was spent on the way, or the path has ended at a point, with these checkpoints and so much of the budget left.
@@ -86,9 +89,14 @@ fn opens(code: &[u32], size: usize, mem: &[u32], run: Run) -> bool
     open_at(code, size, mem, run, ints::monus(run.pc, d + 1))
 }
 
-// Whether a checkpoint is due: a choice may follow that no path has made yet, and the steps so far pay for one more, three words a step.
+// Of each three steps that are left, two marks are kept back for checkpoints that are due later.
+const SHARE: usize = 3;
+
+const KEPT_BACK: usize = 2;
+
+// Whether a checkpoint is due: a choice may follow that no path has made yet, and there are marks for one more.
 fn is_due(code: &[u32], size: usize, mem: &[u32], p: Point, s: Stack) -> bool
-    requires { ⌜ (2 * size ≤ length (now code)) × Small p × (p .steps < 4294967296) × (s .limit < 4294967296) × (s .words ≤ markWords * s .limit) × Ready (now mem) (p .run) ⌝ }
+    requires { ⌜ (2 * size ≤ length (now code)) × Small p × (p .steps < 4294967296) × (s .limit < 4294967296) × (s .height ≤ s .limit) × (s .cells ≤ frameCells) × Ready (now mem) (p .run) ⌝ }
     ensures { λ r. ⌜ (r ≡ true → Due size p s) ⌝ }
 {
     if p.forced != 0 {
@@ -100,8 +108,8 @@ fn is_due(code: &[u32], size: usize, mem: &[u32], p: Point, s: Stack) -> bool
     let run = p.run;
     if compares(code, size, run.pc) {
         if opens(code, size, mem, run) {
-            return s.words + checkpoints::size_of(p) + layout::MARK_WORDS * p.steps
-                <= layout::MARK_WORDS * s.limit;
+            let height = s.height + checkpoints::size_of(p, s.cells);
+            return SHARE * height + KEPT_BACK * p.steps <= SHARE * s.limit;
         }
     }
     false
@@ -109,15 +117,16 @@ fn is_due(code: &[u32], size: usize, mem: &[u32], p: Point, s: Stack) -> bool
 
 // Saves a checkpoint, if one is due.
 fn keep(code: &[u32], size: usize, mem: &mut [u32], p: Point, s: Stack) -> Stack
-    requires { ⌜ (2 * size ≤ length (now code)) × (size < 65536) × Going (now mem) p × Space (now mem) (markWords * s .limit) × (s .limit < 4294967296) × (s .words ≤ markWords * s .limit) ⌝ }
+    requires { ⌜ (2 * size ≤ length (now code)) × (size < 65536) × Going (now mem) p × Room (now mem) (s .limit) × (s .height ≤ s .limit) × (s .cells ≤ frameCells) × Slim (s .cells) (now mem) (p .run .depth) ⌝ }
     ensures { λ r. ⌜ Keeping size (now (mem .entry)) (now (mem .exit)) p s r ⌝ }
 {
     if is_due(code, size, mem, p, s) {
-        if checkpoints::unused(mem) {
-            checkpoints::save(mem, p, s.words);
+        if checkpoints::unused(mem, s.cells) {
+            checkpoints::save(mem, p, s.cells, s.height);
             return Stack {
-                words: s.words + checkpoints::size_of(p),
+                height: s.height + checkpoints::size_of(p, s.cells),
                 limit: s.limit,
+                cells: s.cells,
             };
         }
     }
@@ -161,23 +170,25 @@ fn walk(
 
 // The checkpoints with at most i choices.
 fn drop_after(mem: &[u32], s: Stack, i: usize) -> Stack
-    requires { ⌜ Space (now mem) (s .words) ⌝ }
+    requires { ⌜ Room (now mem) (s .height) × (s .cells ≤ frameCells) ⌝ }
     ensures { λ r. ⌜ Dropped (now (mem .entry)) s i r ⌝ }
 {
-    let mut w = s.words;
+    let mut w = s.height;
     while checkpoints::NUMBERS <= w {
         let p = checkpoints::point_at(mem, w - checkpoints::NUMBERS);
         if p.choices <= i {
             return Stack {
-                words: w,
+                height: w,
                 limit: s.limit,
+                cells: s.cells,
             };
         }
-        w = ints::monus(w, checkpoints::size_of(p));
+        w = ints::monus(w, checkpoints::size_of(p, s.cells));
     }
     Stack {
-        words: 0,
+        height: 0,
         limit: s.limit,
+        cells: s.cells,
     }
 }
 
@@ -210,10 +221,10 @@ pub fn run_path(
     ensures { λ r. ⌜ FromMain (codeIn (now (code .entry)) size) (ofWindow job) (marks .limit) budget (outcomesIn (now (mem .entry)) 0 forced) (now (mem .exit)) r ⌝ }
 {
     let s = drop_after(mem, marks, ints::monus(forced, 1));
-    if s.words == 0 {
+    if s.height == 0 {
         let p = first(mem, s.limit, forced);
         return walk(code, size, mem, job, p, s, budget);
     }
-    let q = checkpoints::restore(mem, s.words, forced);
+    let q = checkpoints::restore(mem, s.cells, s.height, forced);
     walk(code, size, mem, job, q, s, budget)
 }

@@ -13,6 +13,7 @@ use Rattle.search.proofs.run.Tie as tie
 use Rattle.search.proofs.run.Reads as reads
 use Rattle.search.proofs.run.Lts as lts
 use Rattle.search.proofs.round.Reads as round-reads
+use Rattle.walks.proofs.cells.in_use.Reads as in-use-reads
 
 abbrev Inv-loop : tie.InvT-loop
 Inv-loop code size mem₀ job limit skip budget rows₀ forced₀ marks₀ t₀ mem rows forced marks t = Between (codeIn code size) (ofWindow job) limit skip (length rows₀ / 10) budget mem₀ rows₀ mem rows forced t × Begins (codeIn code size) (ofWindow job) mem forced marks × (marks .limit ≡ limit)
@@ -20,25 +21,29 @@ Inv-loop code size mem₀ job limit skip budget rows₀ forced₀ marks₀ t₀ 
 abbrev μ-loop : tie.MeasureT-loop
 μ-loop code size mem₀ job limit skip budget rows₀ forced₀ marks₀ t₀ mem rows forced marks t = t .budget
 
+-- src/lib.rt:215:16
+in-use-requires : tie.Need-in-use-requires Inv-loop μ-loop
+in-use-requires c κs = search needs
+
 -- src/lib.rt:225:5
 loop-holds : tie.Need-loop-holds Inv-loop μ-loop
 loop-holds c =
-    let a = c .before .before .args in (
+    let a = c .before .before .before .args in (
       between-first (codeIn (a .code .now) (a .size)) (ofWindow (a .job)) (a .limit) (a .skip) (length (a .rows .now) / 10) (a .budget) (a .mem .now) (a .rows .now),
-      begins-first (codeIn (a .code .now) (a .size)) (ofWindow (a .job)) (a .mem .now) (a .limit) (c .before .before .pre .2),
+      begins-first (codeIn (a .code .now) (a .size)) (ofWindow (a .job)) (a .mem .now) (a .limit) (c .in-use .result) (c .before .before .before .pre .2) (c .in-use .ensures),
       refl,
     )
 
 -- src/lib.rt:226:13
 round-requires : tie.Need-round-requires Inv-loop μ-loop
 round-requires c κs =
-    let a = c .before .before .before .before .before .args in
+    let a = c .before .before .before .before .before .before .args in
     let l = c .before .before .loop in (
-      c .before .before .before .before .before .pre .0,
-      c .before .before .before .before .before .pre .1,
+      c .before .before .before .before .before .before .pre .0,
+      c .before .before .before .before .before .before .pre .1,
       l .inv .1,
-      c .before .before .before .before .before .pre .3,
-      between-fair (codeIn (a .code .now) (a .size)) (ofWindow (a .job)) (a .limit) (a .skip) (length (a .rows .now) / 10) (a .budget) (a .mem .now) (a .rows .now) (l .mem) (l .rows) (l .forced) (l .t) (l .inv .0) (c .before .before .before .before .before .fits .budget .fits) (omega arith),
+      c .before .before .before .before .before .before .pre .3,
+      between-fair (codeIn (a .code .now) (a .size)) (ofWindow (a .job)) (a .limit) (a .skip) (length (a .rows .now) / 10) (a .budget) (a .mem .now) (a .rows .now) (l .mem) (l .rows) (l .forced) (l .t) (l .inv .0) (c .before .before .before .before .before .before .fits .budget .fits) (omega arith),
     )
 
 -- src/lib.rt:230:22
@@ -48,7 +53,7 @@ enum-known-x c = search needs
 -- src/lib.rt:225:5
 loop-less : tie.Need-loop-less Inv-loop μ-loop
 loop-less c =
-    let a = c .before .before .before .before .before .before .before .before .before .before .before .before .before .args in
+    let a = c .before .before .before .before .before .before .before .before .before .before .before .before .before .before .args in
     let x = c .before .before .before .before .before .before .before .round in
     let l = c .before .before .before .before .before .before .before .before .before .before .loop in
     let h = round-as (codeIn (a .code .now) (a .size)) (ofWindow (a .job)) (l .marks .limit) (a .limit) (l .mem) (x .last .1 .1 .0) (l .rows) (x .last .1 .1 .1 .1 .1 .1 .1 .0) (l .forced) (l .t) (x .result .then) (l .inv .2) (x .ensures .0) in
@@ -58,7 +63,7 @@ loop-less c =
 -- src/lib.rt:225:5
 loop-again : tie.Need-loop-again Inv-loop μ-loop
 loop-again c =
-    let a = c .before .before .before .before .before .before .before .before .before .before .before .before .before .args in
+    let a = c .before .before .before .before .before .before .before .before .before .before .before .before .before .before .args in
     let x = c .before .before .before .before .before .before .before .round in
     let l = c .before .before .before .before .before .before .before .before .before .before .loop in
     let h = round-as (codeIn (a .code .now) (a .size)) (ofWindow (a .job)) (l .marks .limit) (a .limit) (l .mem) (x .last .1 .1 .0) (l .rows) (x .last .1 .1 .1 .1 .1 .1 .1 .0) (l .forced) (l .t) (x .result .then) (l .inv .2) (x .ensures .0) in
@@ -84,7 +89,7 @@ same-length-2 c = c .before .before .before .before .before .before .before .rou
 -- src/lib.rt:235:30
 returns : tie.Need-returns Inv-loop μ-loop
 returns c =
-    let a = c .before .before .before .before .before .before .before .before .before .before .before .before .before .args in
+    let a = c .before .before .before .before .before .before .before .before .before .before .before .before .before .before .args in
     let x = c .before .before .before .before .before .before .before .round in
     let l = c .before .before .before .before .before .before .before .before .before .before .loop in
     let h = round-as (codeIn (a .code .now) (a .size)) (ofWindow (a .job)) (l .marks .limit) (a .limit) (l .mem) (x .last .1 .1 .0) (l .rows) (x .last .1 .1 .1 .1 .1 .1 .1 .0) (l .forced) (l .t) (x .result .then) (l .inv .2) (x .ensures .0) in
@@ -97,6 +102,7 @@ run-spec =
     (tie.spec
     Inv-loop
     μ-loop
+    in-use-requires
     loop-holds
     round-requires
     enum-known-x

@@ -2,6 +2,7 @@ use native.Mathlib.Omega.{arith}
 use mathlib.Core.Path.{_≡_, refl, sym, ap, _∙_, subst}
 use Prim.Native.Nat.{ℕ, _+_, _-_, _<_}
 use borrow.Author.Needs.{needs}
+use Rattle.machine.proofs.Tables.{room-less}
 use Rattle.checkpoints.specs.Live.{sizeOf}
 use Rattle.walks.proofs.Dropping.{Left, left-all, left-less, dropped-here, dropped-all}
 use Rattle.walks.proofs.drop_after.Statement.{statement}
@@ -24,7 +25,7 @@ loop-holds c = left-all (c .before .args .mem .now) (c .before .args .s)
 
 -- src/lib.rt:127:13
 point-at-requires : tie.Need-point-at-requires Inv-loop μ-loop
-point-at-requires c κs = record { indices = c .before .before .before .pre .indices; fits = omega (arith, c .loop-test .taken, c .before .loop .inv .fewer, c .before .before .before .pre .fits); room = c .before .before .before .pre .room }
+point-at-requires c κs = room-less _ (omega (arith, c .loop-test .taken, c .before .loop .inv .fewer)) (c .before .before .before .pre .0)
 
 -- src/lib.rt:129:13
 returns : tie.Need-returns Inv-loop μ-loop
@@ -32,7 +33,7 @@ returns c = dropped-here (c .before .before .before .before .before .before .arg
 
 -- src/lib.rt:134:28
 size-of-requires : tie.Need-size-of-requires Inv-loop μ-loop
-size-of-requires c κs = c .before .before .point-at .ensures .1
+size-of-requires c κs = (c .before .before .point-at .ensures .1, c .before .before .before .before .before .before .pre .1)
 
 -- src/lib.rt:134:9
 monus-requires : tie.Need-monus-requires Inv-loop μ-loop

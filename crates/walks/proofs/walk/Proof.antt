@@ -40,7 +40,7 @@ keep-requires c κs =
     let a = c .before .before .before .before .args in
     let l = c .before .loop in
     let h = spare (codeIn (a .code .now) (a .size)) (ofWindow (a .job)) (l .mem) (l .p) (l .s) (l .inv .0 .stands) in
-    (omega (arith, c .before .before .before .before .pre .0), c .before .before .before .before .pre .1, l .inv .0 .stands .going, h .0, h .1, h .2)
+    (omega (arith, c .before .before .before .before .pre .0), c .before .before .before .before .pre .1, l .inv .0 .stands .going, h .0, h .1, h .2, h .3)
 
 -- src/lib.rt:104:15
 turn-requires : tie.Need-turn-requires Inv-loop μ-loop
