@@ -73,17 +73,11 @@ fn save_pairs(mem: &mut [u32], p: Point, cells: usize, w: usize)
     let run = p.run;
     let callers = w + cells * run.depth;
     let windows = callers + run.depth;
-    let temporaries = windows + p.windows;
+    let temps = windows + p.windows;
     save_frames(mem, cells, run.depth, w);
     save_row(mem, layout::CALLERS, layout::CALLER, run.depth, callers);
     save_row(mem, layout::WINDOWS, layout::WINDOW, p.windows, windows);
-    save_row(
-        mem,
-        layout::TEMPORARIES,
-        layout::STRIDE,
-        run.top,
-        temporaries,
-    );
+    save_row(mem, layout::TEMPORARIES, layout::STRIDE, run.top, temps);
 }
 
 // Nine numbers are written at the marks from w on.
@@ -229,18 +223,12 @@ fn restore_pairs(mem: &mut [u32], p: Point, cells: usize, w: usize)
     let run = p.run;
     let callers = w + cells * run.depth;
     let windows = callers + run.depth;
-    let temporaries = windows + p.windows;
+    let temps = windows + p.windows;
     clear(mem, layout::FRAME * (run.depth + 1));
     restore_frames(mem, cells, run.depth, w);
     restore_row(mem, layout::CALLERS, layout::CALLER, run.depth, callers);
     restore_row(mem, layout::WINDOWS, layout::WINDOW, p.windows, windows);
-    restore_row(
-        mem,
-        layout::TEMPORARIES,
-        layout::STRIDE,
-        run.top,
-        temporaries,
-    );
+    restore_row(mem, layout::TEMPORARIES, layout::STRIDE, run.top, temps);
 }
 
 // The same point with f outcomes forced.

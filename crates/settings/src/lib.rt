@@ -386,7 +386,7 @@ fn test_end(mem: &[u32], j: usize) -> usize
     )
 }
 
-// Where the nodes, of n, end on which the tests rest.
+// Where the nodes, of n, end on which the tests rest. Once that is the end of all, no further test is looked at: a path may have made hundreds.
 fn tests_end(mem: &[u32], n: usize, tests: usize) -> usize
     requires { ⌜ Room (now mem) tests ⌝ }
     ensures { λ r. ⌜ Front (now (mem .entry)) n tests r ⌝ }
@@ -395,10 +395,10 @@ fn tests_end(mem: &[u32], n: usize, tests: usize) -> usize
     let mut j: usize = 0;
     while j < tests {
         end = larger(end, test_end(mem, j));
+        if n <= end {
+            return n;
+        }
         j += 1;
-    }
-    if n < end {
-        return n;
     }
     end
 }

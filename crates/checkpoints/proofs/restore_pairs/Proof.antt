@@ -25,8 +25,8 @@ add-windows : tie.Need-add-windows
 add-windows c = search needs
 
 -- src/lib.rt:226:23
-add-temporaries : tie.Need-add-temporaries
-add-temporaries c = search needs
+add-temps : tie.Need-add-temps
+add-temps c = search needs
 
 -- src/lib.rt:227:33
 add-clear : tie.Need-add-clear
@@ -77,7 +77,7 @@ restore-pairs-spec =
     mul-callers
     add-callers
     add-windows
-    add-temporaries
+    add-temps
     add-clear
     mul-clear
     clear-requires

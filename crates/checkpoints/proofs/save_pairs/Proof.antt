@@ -20,8 +20,8 @@ add-windows : tie.Need-add-windows
 add-windows c = search needs
 
 -- src/lib.rt:76:23
-add-temporaries : tie.Need-add-temporaries
-add-temporaries c = search needs
+add-temps : tie.Need-add-temps
+add-temps c = search needs
 
 -- src/lib.rt:77:5
 save-frames-requires : tie.Need-save-frames-requires
@@ -59,7 +59,7 @@ save-pairs-spec =
     mul-callers
     add-callers
     add-windows
-    add-temporaries
+    add-temps
     save-frames-requires
     save-row-requires
     save-row-requires-2
