@@ -4,7 +4,9 @@ use mathlib.Core.Bool.{Bool, true, false}
 use mathlib.Core.List.{List}
 use Prim.Native.Nat.{ℕ, zero, suc, _+_, _-_, _*_, _≤_, _<_}
 use native.Mathlib.Omega.{arith}
+use lib.Dec.{eqb}
 use lib.ListN.{length}
+use borrow.Author.Tests.{ne-eqb}
 use Rattle.semantics.specs.Program.{Window}
 use Rattle.semantics.specs.Search.{Value, spent, inUse}
 use Rattle.simulation.specs.Code.{Code}
@@ -25,6 +27,8 @@ use Rattle.paths.specs.Turn.{Onward, Stops, Turning, Onwards}
 use Rattle.paths.proofs.Keeping.{nearer-of}
 use Rattle.checkpoints.specs.Live.{Slim}
 use Rattle.checkpoints.proofs.Starts.{starts-stay}
+use Rattle.known_steps.specs.Turns.{Paces, silent, step, Turns, none, more, moves, Passes}
+use Rattle.known_steps.proofs.Passing.{paced, turns-fewer, turns-forced, moves-less, moves-none}
 use Rattle.walks.specs.declared.Stack.{Stack}
 use Rattle.walks.specs.Marks.{Keeping}
 use Rattle.walks.specs.Walk.{paid, Stands, Walks, Ends}
@@ -56,6 +60,20 @@ pays-none budget left o e t f = ap (λ (o : Bool). charged o (paid left t)) e
 
 pub pays-one : (budget left : ℕ) (o : Bool) → o ≡ true → 1 ≤ left → left ≤ budget → (t : Tally) → t .budget ≡ budget → charged o (paid left t) ≡ go (paid (left - 1) t)
 pays-one budget left o e l b t f = ap (λ (o : Bool). charged o (paid left t)) e ∙ paid-one left t l (omega arith)
+
+-- the moves of a turn after others, of which the first began with a steps
+pays-step : (budget left f a n : ℕ) (o : Bool) → o ≡ eqb f 0 → n < a → moves f (a - n) ≤ left → left ≤ budget → (t : Tally) → t .budget ≡ budget
+    → charged o (paid (left - moves f (a - suc n)) t) ≡ go (paid (left - moves f (a - n)) t)
+pays-step budget left zero a n o e l h b t q = pays-one budget (left - (a - suc n)) o e (omega arith) (omega arith) t q
+    ∙ ap (λ (i : ℕ). go (paid i t)) {x = left - (a - suc n) - 1} {y = left - (a - n)} (omega arith)
+pays-step budget left (suc f) a n o e l h b t q = pays-none budget (left - 0) o (e ∙ ne-eqb (suc f) 0 (λ z. omega arith)) t q
+
+pays-turn : (budget left f a : ℕ) (p q : Point) (o : Bool) → p .forced ≡ f → p .steps ≤ a → Paces p o q → moves f (a - q .steps) ≤ left → left ≤ budget → (t : Tally) → t .budget ≡ budget
+    → charged o (paid (left - moves f (a - p .steps)) t) ≡ go (paid (left - moves f (a - q .steps)) t)
+pays-turn budget left f a p q o e l (silent g h) k b t z = pays-none budget (left - moves f (a - p .steps)) o g t z ∙ ap (λ (n : ℕ). go (paid (left - moves f (a - n)) t)) (sym h)
+pays-turn budget left f a p q o e l (step g h) k b t z =
+    ap (λ (n : ℕ). charged o (paid (left - moves f (a - n)) t)) {x = p .steps} {y = suc (q .steps)} (omega arith)
+    ∙ pays-step budget left f a (q .steps) o (g ∙ ap (λ (f : ℕ). eqb f 0) e) (omega arith) k b t z
 
 -- ---- where a path stands
 
@@ -188,3 +206,18 @@ module _ (c : Code) (job : Window) (limit : ℕ) where
         };
         limited = r .limited;
       }
+
+    -- turns on known values, for which the budget pays
+    pub reaches-turns : (m m′ : List ℕ) (p q : Point) (s : Stack) (left : ℕ) → Reaches budget x y m p s left → Turns c m p m′ q → moves (p .forced) (p .steps - q .steps) ≤ left
+        → Reaches budget x y m′ q s (left - moves (p .forced) (p .steps - q .steps))
+    reaches-turns m m′ p q s left r (none e f) l =
+        let z : left ≡ left - moves (p .forced) (p .steps - q .steps) = omega (arith, moves-none (p .forced) (p .steps) (q .steps) (ap (λ (q : Point). q .steps) f)) in
+        subst (Reaches budget x y m′ q s) z (subst (λ (q : Point). Reaches budget x y m′ q s left) (sym f) (subst (λ (m : List ℕ). Reaches budget x y m p s left) (sym e) r))
+    reaches-turns m m′ p q s left r (more m₁ p₁ ts h) l =
+        let g = r .stands .going in
+        let k : moves (p .forced) (p .steps - p₁ .steps) ≤ left = omega (arith, l, moves-less (p .forced) (p .steps) (q .steps) (p₁ .steps) (paced p₁ q (h .move) (h .paces))) in
+        reaches-on m₁ m′ p₁ s (left - moves (p .forced) (p .steps - p₁ .steps)) (reaches-turns m m₁ p p₁ s left r ts k) q (h .move) (left - moves (p .forced) (p .steps - q .steps)) (h .is job) (h .going) (h .stays) (h .len)
+        (omega (arith, r .rest)) (pays-turn budget left (p .forced) (p .steps) p₁ q (h .move) (turns-forced c m p g m₁ p₁ ts) (turns-fewer c m p g m₁ p₁ ts) (h .paces) l (r .rest))
+
+    pub reaches-passed : (m m′ : List ℕ) (p q : Point) (s : Stack) (left left′ : ℕ) → Reaches budget x y m p s left → Passes c m m′ p left q left′ → Reaches budget x y m′ q s left′
+    reaches-passed m m′ p q s left left′ r h = subst (Reaches budget x y m′ q s) (sym (h .rest)) (reaches-turns m m′ p q s left r (h .turns) (h .covers))

@@ -150,6 +150,9 @@ fn walk(
     let mut s = marks;
     let mut left = budget;
     loop {
+        let passed = known_steps::pass(code, size, mem, p, left);
+        p = passed.point;
+        left = passed.left;
         s = keep(code, size, mem, p, s);
         match paths::turn(code, size, mem, job, p) {
             Turned::On(o, q) => {
