@@ -20,7 +20,7 @@ pub data Paces (p : Point) (move : Bool) (q : Point) : Type 0 where
   silent : move ≡ false → q .steps ≡ p .steps → Paces p move q
   step : move ≡ eqb (p .forced) 0 → q .steps + 1 ≡ p .steps → Paces p move q
 
--- the turn from the point p goes on to q, whatever the job's pair is, and forces no outcome
+-- the turn from the point p goes on to q, whatever the job's pair is, and takes none of the forced outcomes
 pub record Made (c : Code) (m m′ : List ℕ) (p q : Point) : Type 0 where
   pub move : Bool
   pub is : (job : Window) → Onward (turn inUse job c (machineAt m (p .run)) (stateAt m p)) m′ p move q

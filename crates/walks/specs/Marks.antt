@@ -28,7 +28,7 @@ pub record Mark (c : Code) (job : Window) (limit cells : ℕ) (m : List ℕ) (up
   pub few : p .choices + p .steps ≤ limit
   pub agrees : p .choices ≤ upto → Agrees m before p
 
--- The checkpoints up to mark w, of which there are no more than steps may be made. Each has at most n nodes, t choices and u windows, and no fewer than the one before it.
+-- The checkpoints up to mark w; they have no more marks than steps may be made. Each has at most n nodes, t choices and u windows, and no fewer than the one before it.
 pub data Marks (c : Code) (job : Window) (limit cells : ℕ) (m : List ℕ) (upto : ℕ) : (n t u w : ℕ) → Type 0 where
   none : {n t u w : ℕ} → w ≡ 0 → Marks c job limit cells m upto n t u w
   mark : {n t u w : ℕ} (p : Point) (v : ℕ) → Marks c job limit cells m upto (p .run .nodes) (p .choices) (p .windows) v → Mark c job limit cells m upto p v → p .run .nodes ≤ n → p .choices ≤ t → p .windows ≤ u
@@ -43,7 +43,7 @@ pub record Stacked (c : Code) (job : Window) (m : List ℕ) (upto n t u : ℕ) (
 
 -- ---- a checkpoint is added, if it is due
 
--- no outcome is forced at the point p, which is at an entry of the code, and there are marks for it beside the checkpoints that there are, and beside two thirds of the steps that are left, which later ones may need
+-- no outcome is forced at the point p, which is at an entry of the code, and there are marks for it beside the checkpoints that there are, and beside two for each three steps that are left, which later ones may need
 pub record Due (size : ℕ) (p : Point) (s : Stack) : Type 0 where
   pub unforced : p .forced ≡ 0
   pub entry : p .run .pc < size

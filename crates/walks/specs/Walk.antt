@@ -40,7 +40,7 @@ pub record Stands (c : Code) (job : Window) (m : List ℕ) (p : Point) (s : Stac
   pub comes : ComesTo c job (s .limit) m p
   pub stacked : Stacked c job m (p .choices) (p .run .nodes) (p .choices) (p .windows) s
 
--- the path from a machine and a state on, and what is done after it, is x of what was counted before
+-- the path from the machine x and the state s on, and what is done after it, is y of what was counted before
 pub record Walks (c : Code) (job : Window) (limit budget : ℕ) (x : Machine Value) (s : State) (y : Tally → Next Start) : Type 0 where
   pub is : (t : Tally) → t .budget ≡ budget → (n : ℕ) → turns-left c x s < n → path inUse job c limit n x s t ≡ y t
 

@@ -36,11 +36,14 @@ loop-less : tie.Need-loop-less Inv-loop μ-loop
 loop-less c = omega arith
 
 loop-again : tie.Need-loop-again Inv-loop μ-loop
-loop-again c =
-    (omega arith, omega arith, λ q l u. ⊎-elim
-        (λ e. subst (λ (q : ℕ). Clear (c .before .before .before .before .before .before .args .a) (nodeAt (c .before .before .before .before .before .before .args .mem .now) q)) (sym e) (c .before .depends .ensures (c .if2 .left)))
-        (λ g. c .before .before .before .loop .inv .2 q l g)
-        (eq-or-lt-of-le {n = q} {m = c .before .before .before .loop .j} (omega arith)))
+loop-again c = (
+  omega arith,
+  omega arith,
+  λ q l u. ⊎-elim
+      (λ e. subst (λ (q : ℕ). Clear (c .before .before .before .before .before .before .args .a) (nodeAt (c .before .before .before .before .before .before .args .mem .now) q)) (sym e) (c .before .depends .ensures (c .if2 .left)))
+      (λ g. c .before .before .before .loop .inv .2 q l g)
+      (eq-or-lt-of-le {n = q} {m = c .before .before .before .loop .j} (omega arith)),
+)
 
 returns-3 : tie.Need-returns-3 Inv-loop μ-loop
 returns-3 c = record { within = omega arith; behind = λ l. l; clear = λ q l u. c .before .loop .inv .2 q l (omega arith) }

@@ -30,11 +30,13 @@ loop-less : tie.Need-loop-less Inv-loop μ-loop
 loop-less c = omega arith
 
 loop-again : tie.Need-loop-again Inv-loop μ-loop
-loop-again c =
-    (omega arith, λ q l. ⊎-elim
-        (λ e. subst (λ (q : ℕ). NotFree (c .before .before .before .before .before .args .i) (nodeAt (c .before .before .before .before .before .args .mem .now) q)) (sym e) (c .before .is-free .ensures .no (c .if1 .left)))
-        (λ g. c .before .before .before .loop .inv .1 q g)
-        (eq-or-lt-of-le {n = q} {m = c .before .before .before .loop .j} (omega arith)))
+loop-again c = (
+  omega arith,
+  λ q l. ⊎-elim
+      (λ e. subst (λ (q : ℕ). NotFree (c .before .before .before .before .before .args .i) (nodeAt (c .before .before .before .before .before .args .mem .now) q)) (sym e) (c .before .is-free .ensures .no (c .if1 .left)))
+      (λ g. c .before .before .before .loop .inv .1 q g)
+      (eq-or-lt-of-le {n = q} {m = c .before .before .before .loop .j} (omega arith)),
+)
 
 returns-2 : tie.Need-returns-2 Inv-loop μ-loop
 returns-2 c = record { within = omega arith; is = λ l. absurd (omega arith); before = λ q l. c .before .loop .inv .1 q (omega arith) }

@@ -32,11 +32,12 @@ sweep-requires : tie.Need-sweep-requires Inv-loop μ-loop
 sweep-requires c κs =
     let s = c .before .before .before .before .before .before .before .before in
     let a = s .args in
-    let m₁ = c .before .before .before .work .last .0 in
-    (holding-same (a .mem .now) m₁ (a .plan .upto) (a .tests) (a .k) (omega (arith, c .before .before .before .before .before .before .loop .inv .size, c .before .before .before .work .kept .0)) (s .pre .0),
+    let m₁ = c .before .before .before .work .last .0 in (
+      holding-same (a .mem .now) m₁ (a .plan .upto) (a .tests) (a .k) (omega (arith, c .before .before .before .before .before .before .loop .inv .size, c .before .before .before .work .kept .0)) (s .pre .0),
       apart-steady (a .mem .now) m₁ (a .k - 1) (a .plan .moving) (a .plan .first) (steady-numbers (a .mem .now) (c .before .before .before .before .before .before .loop .mem) m₁ (c .before .before .before .before .before .before .loop .inv .steady) (c .before .before .before .work .ensures .1)) (s .pre .1),
       s .pre .2,
-      c .before .before .before .work .ensures .0)
+      c .before .before .before .work .ensures .0,
+    )
 
 enum-known-n : tie.Need-enum-known-n Inv-loop μ-loop
 enum-known-n c = search needs

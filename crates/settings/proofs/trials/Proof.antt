@@ -53,10 +53,11 @@ seek-requires c κs =
     let a = s .args in
     let l = c .before .loop in
     let p = c .before .before .plan-of .ensures in
-    let h = holding-same (a .mem .now) (l .mem) (a .nodes) (a .tests) (a .k) (omega (arith, l .inv .size)) (s .pre .0) in
-    (holding-less (l .mem) (a .nodes) (c .before .before .plan-of .result .upto) (a .tests) (a .k) (p .front .within) h,
+    let h = holding-same (a .mem .now) (l .mem) (a .nodes) (a .tests) (a .k) (omega (arith, l .inv .size)) (s .pre .0) in (
+      holding-less (l .mem) (a .nodes) (c .before .before .plan-of .result .upto) (a .tests) (a .k) (p .front .within) h,
       apart-steady (c .before .before .before .before .before .before .first-setting .last .0) (l .mem) (a .k - 1) (c .before .before .plan-of .result .moving) (c .before .before .plan-of .result .first) (l .inv .steady) (p .apart),
-      p .inner)
+      p .inner,
+    )
 
 enum-known-left : tie.Need-enum-known-left Inv-loop μ-loop
 enum-known-left c = search needs
@@ -106,11 +107,12 @@ found-requires c κs =
     let r = c .before .before .before .before .before .before .before .before .seek .result in
     let g = c .before .before .before .before .before .before .before .before .seek .ensures .0 in
     let y = c .before .before .before .before .before .before .before .before .seek .ensures .1 in
-    let l = c .before .before .before .before .before .before .before .before .before .before .loop in
-    (few,
+    let l = c .before .before .before .before .before .before .before .before .before .before .loop in (
+      few,
       record { words = omega (arith, s .pre .0 .nodes .words, c .before .before .before .before .before .before .before .before .before .before .loop .inv .size, c .before .before .before .before .before .before .before .before .before .before .loop .inv .sheet, c .before .before .before .before .before .before .before .before .before .before .before .before .before .before .before .first-setting .kept .0, c .before .before .before .before .before .before .before .before .seek .kept .0); small = s .pre .0 .nodes .small },
       met-worked few (l .inv) upto front m₁ r g y (c .before .before .before .before .left .given .0 .0) (c .before .before .before .before .left .given .1),
-      subst (λ (u : Tally). 10 * (u .written + u .room) ≤ length (l .rows)) (sym (c .before .leaving .ensures)) (fair-more (length (a .rows .now)) (length (l .rows)) (l .inv .sheet) (s .pre .1) (l .inv .tries .counts) .place))
+      subst (λ (u : Tally). 10 * (u .written + u .room) ≤ length (l .rows)) (sym (c .before .leaving .ensures)) (fair-more (length (a .rows .now)) (length (l .rows)) (l .inv .sheet) (s .pre .1) (l .inv .tries .counts) .place),
+    )
 
 enum-known-w : tie.Need-enum-known-w Inv-loop μ-loop
 enum-known-w c = search needs
