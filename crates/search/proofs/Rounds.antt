@@ -25,9 +25,9 @@ use Rattle.paths.specs.declared.Point.{Point}
 use Rattle.paths.proofs.Table.{starts-same}
 use Rattle.walks.specs.declared.Stack.{Stack}
 use Rattle.walks.specs.declared.Walked.{Walked}
-use Rattle.walks.specs.Marks.{none, Stacked}
+use Rattle.walks.specs.Checkpoints.{none, Stacked}
 use Rattle.walks.specs.Walk.{paid, turnsOf, Walks, Ends, FromMain, Begins}
-use Rattle.walks.proofs.Marks.{Alike, marks-stay}
+use Rattle.walks.proofs.Checkpoints.{Alike, checkpoints-stay}
 use Rattle.search.specs.Loop.{closes, paying, Turns, TurnsBy, Finished, Round, Resumes}
 use Rattle.search.specs.declared.Ending.the-variants as ending
 use Rattle.search.specs.declared.Answered.{Answered}
@@ -62,7 +62,7 @@ resumes c job limit m₁ m₂ n choices w s (On k u) h e len f = (
     choices = choices;
     windows = w;
     stacked = record {
-      marks = marks-stay c job (s .limit) (s .cells) m₁ m₂ choices (k - 1) (k - 1) n choices w (λ x l g. (l, g)) alike (omega arith) (omega arith) (omega arith) (h .marks);
+      checkpoints = checkpoints-stay c job (s .limit) (s .cells) m₁ m₂ choices (k - 1) (k - 1) n choices w (λ x l g. (l, g)) alike (omega arith) (omega arith) (omega arith) (h .checkpoints);
       room = room-same len (h .room);
       uses = h .uses;
       cells = h .cells;
@@ -105,7 +105,7 @@ round-spent c job limit m m₁ rows forced t h u q a d = subst (λ (a : Answered
 -- ---- the first path has no checkpoint
 
 pub begins-first : (c : Code) (job : Window) (m : List ℕ) (limit cells : ℕ) → Room m (limit + 1) → Uses c cells × (cells ≤ frameCells) → Begins c job m 0 (record { height = 0; limit = limit; cells = cells })
-begins-first c job m limit cells r u = record { nodes = 0; choices = 0; windows = 0; stacked = record { marks = none refl; room = r; uses = u .0; cells = u .1 }; first = λ e. refl }
+begins-first c job m limit cells r u = record { nodes = 0; choices = 0; windows = 0; stacked = record { checkpoints = none refl; room = r; uses = u .0; cells = u .1 }; first = λ e. refl }
 
 -- the limit is that of the search
 pub round-as : (c : Code) (job : Window) (l limit : ℕ) (m m′ : List ℕ) (rows rows′ : List ℤ) (forced : ℕ) (t : Tally) (r : Then) → l ≡ limit → Round c job l m m′ rows rows′ forced t r → Round c job limit m m′ rows rows′ forced t r

@@ -52,7 +52,7 @@ pub enum Then {
 // What follows a path, and the checkpoints that there are.
 pub struct Rounded {
     pub then: Then,
-    pub marks: Stack,
+    pub stack: Stack,
 }
 
 // Takes back the newest choice that went true, of n: it goes false, and those after it are dropped.
@@ -163,33 +163,33 @@ fn round(
     size: usize,
     mem: &mut [u32],
     job: Window,
-    marks: Stack,
+    stack: Stack,
     forced: usize,
     t: Tally,
     rows: &mut [i32],
 ) -> Rounded
-    requires { ⌜ (2 * size + 16 ≤ length (now code)) × (size < 65536) × Begins (codeIn (now code) size) (ofWindow job) (now mem) forced marks × Filled (ofWindow job) × Fair (length (now rows)) t ⌝ }
-    ensures { λ r. ⌜ Round (codeIn (now (code .entry)) size) (ofWindow job) (marks .limit) (now (mem .entry)) (now (mem .exit)) (now (rows .entry)) (now (rows .exit)) forced t (r .then) × Resumes (codeIn (now (code .entry)) size) (ofWindow job) (now (mem .exit)) (marks .limit) (r .then) (r .marks) ⌝ }
+    requires { ⌜ (2 * size + 16 ≤ length (now code)) × (size < 65536) × Begins (codeIn (now code) size) (ofWindow job) (now mem) forced stack × Filled (ofWindow job) × Fair (length (now rows)) t ⌝ }
+    ensures { λ r. ⌜ Round (codeIn (now (code .entry)) size) (ofWindow job) (stack .limit) (now (mem .entry)) (now (mem .exit)) (now (rows .entry)) (now (rows .exit)) forced t (r .then) × Resumes (codeIn (now (code .entry)) size) (ofWindow job) (now (mem .exit)) (stack .limit) (r .then) (r .stack) ⌝ }
 {
-    match walks::run_path(code, size, mem, job, marks, forced, t.budget) {
+    match walks::run_path(code, size, mem, job, stack, forced, t.budget) {
         Walked::Spent => {
             let a = close(pay(t, 0), Ending::Spent);
             Rounded {
                 then: Then::Over(a),
-                marks: marks,
+                stack: stack,
             }
         }
         Walked::Returned(v, p, s, left) => {
             let x = at_return(mem, p, v, pay(t, left), rows);
-            Rounded { then: x, marks: s }
+            Rounded { then: x, stack: s }
         }
         Walked::Failed(p, s, left) => {
             let x = at_fail(mem, p, pay(t, left));
-            Rounded { then: x, marks: s }
+            Rounded { then: x, stack: s }
         }
         Walked::Cut(p, s, left) => {
             let x = at_cut(mem, p, pay(t, left));
-            Rounded { then: x, marks: s }
+            Rounded { then: x, stack: s }
         }
     }
 }
@@ -209,7 +209,7 @@ pub fn run(
     ensures { λ r. ⌜ Lists (codeIn (now (code .entry)) size) (ofWindow job) limit skip (length (now (rows .entry)) / 10) budget (now (rows .entry)) (now (rows .exit)) r ⌝ }
 {
     let mut forced: usize = 0;
-    let mut marks = Stack {
+    let mut stack = Stack {
         height: 0,
         limit: limit,
         cells: walks::cells::in_use(code, size),
@@ -223,13 +223,13 @@ pub fn run(
         cut: false,
     };
     loop {
-        let r = round(code, size, mem, job, marks, forced, t, rows);
+        let r = round(code, size, mem, job, stack, forced, t, rows);
         let x = r.then;
-        let s = r.marks;
+        let s = r.stack;
         match x {
             Then::On(k, u) => {
                 forced = k;
-                marks = s;
+                stack = s;
                 t = u;
             }
             Then::Over(a) => return a,

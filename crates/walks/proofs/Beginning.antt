@@ -38,10 +38,10 @@ use Rattle.checkpoints.specs.Words.{Agrees, forced, Restored, Ends}
 use Rattle.walks.specs.declared.Stack.{Stack}
 use Rattle.walks.specs.declared.Walked.{Walked}
 use Rattle.walks.specs.declared.Walked.the-variants.{Spent, Returned, Failed, Cut}
-use Rattle.walks.specs.Marks.{ComesTo, Marks, none, mark, Stacked, Dropped}
+use Rattle.walks.specs.Checkpoints.{ComesTo, Checkpoints, none, more, Stacked, Dropped}
 use Rattle.walks.specs.Walk.{atStart, Stands, Walks, Walking, FromMain, Begins}
 use Rattle.walks.specs.Walk as walk
-use Rattle.walks.proofs.Marks.{alike-stays, marks-paid, marks-stay}
+use Rattle.walks.proofs.Checkpoints.{alike-stays, checkpoints-fit, checkpoints-stay}
 use Rattle.walks.proofs.Dropping.{Newest, newest, empty}
 
 -- ---- the same path from another point
@@ -97,7 +97,7 @@ module _ (c : Code) (job : Window) (m m′ : List ℕ) (s : Stack) (r : Run) (f 
       few = omega arith;
       comes = subst (λ (x : Machine Value). Comes inUse job c (s .limit) x (stateAt m′ first)) (sym (h .is c))
           (subst (Comes inUse job c (s .limit) (start known work c)) begins-at (comes-start inUse job c (s .limit) (outcomesIn m 0 f)));
-      stacked = record { marks = none e; room = room-same len room; uses = uses; cells = cells };
+      stacked = record { checkpoints = none e; room = room-same len room; uses = uses; cells = cells };
     })
 
     pub first-walks : (p : Point) → p ≡ first → (limit budget : ℕ) (m₂ : List ℕ) (w : Walked) → s .limit ≡ limit → Walking c job (s .limit) budget (machineAt m′ (p .run)) (stateAt m′ p) m₂ w
@@ -110,13 +110,13 @@ module _ (c : Code) (job : Window) (m m′ : List ℕ) (s : Stack) (r : Run) (f 
 
 module _ (c : Code) (job : Window) (m : List ℕ) (f : ℕ) (s : Stack) (b : Begins c job m f s) where
   pub space-so : Room m (s .height)
-  space-so = room-less (s .height) (omega (arith, marks-paid c job (s .limit) (s .cells) (b .stacked .marks))) (b .stacked .room)
+  space-so = room-less (s .height) (omega (arith, checkpoints-fit c job (s .limit) (s .cells) (b .stacked .checkpoints))) (b .stacked .room)
 
   module _ (i : ℕ) (e : i ≡ f - 1) (r : Stack) (d : Dropped m s i r) where
-    pub marks-left : Marks c job (r .limit) (r .cells) m (f - 1) (b .nodes) (f - 1) (b .windows) (r .height)
-    marks-left = subst (λ (n : ℕ). Marks c job (r .limit) n m (f - 1) (b .nodes) (f - 1) (b .windows) (r .height)) (sym (d .cells))
-        (subst (λ (l : ℕ). Marks c job l (s .cells) m (f - 1) (b .nodes) (f - 1) (b .windows) (r .height)) (sym (d .limit))
-        (subst (λ (i : ℕ). Marks c job (s .limit) (s .cells) m (f - 1) (b .nodes) i (b .windows) (r .height)) e (d .is c job (f - 1) (b .nodes) (b .choices) (b .windows) (b .stacked .marks))))
+    pub checkpoints-left : Checkpoints c job (r .limit) (r .cells) m (f - 1) (b .nodes) (f - 1) (b .windows) (r .height)
+    checkpoints-left = subst (λ (n : ℕ). Checkpoints c job (r .limit) n m (f - 1) (b .nodes) (f - 1) (b .windows) (r .height)) (sym (d .cells))
+        (subst (λ (l : ℕ). Checkpoints c job l (s .cells) m (f - 1) (b .nodes) (f - 1) (b .windows) (r .height)) (sym (d .limit))
+        (subst (λ (i : ℕ). Checkpoints c job (s .limit) (s .cells) m (f - 1) (b .nodes) i (b .windows) (r .height)) e (d .is c job (f - 1) (b .nodes) (b .choices) (b .windows) (b .stacked .checkpoints))))
 
     pub uses-left : Uses c (r .cells)
     uses-left = subst (Uses c) (sym (d .cells)) (b .stacked .uses)
@@ -131,7 +131,7 @@ module _ (c : Code) (job : Window) (m : List ℕ) (f : ℕ) (s : Stack) (b : Beg
     some-forced h = ⊎-elim (λ g. absurd (h (omega (arith, d .fewer, b .first g)))) (λ g. omega arith) (is-or-not f 0)
 
     pub some-left : (r .height ≡ 0 → ⊥) → numberCount ≤ r .height
-    some-left h = ⊎-elim (λ g. omega arith) (λ g. ⊎-elim (λ g. absurd (h (empty c job (r .limit) (r .cells) m (f - 1) g marks-left))) (λ g. omega arith) g) (three (r .height) numberCount)
+    some-left h = ⊎-elim (λ g. omega arith) (λ g. ⊎-elim (λ g. absurd (h (empty c job (r .limit) (r .cells) m (f - 1) g checkpoints-left))) (λ g. omega arith) g) (three (r .height) numberCount)
 
 -- ---- a checkpoint
 
@@ -146,7 +146,7 @@ unfolding outcomesIn
 some-outcomes m i zero l = absurd (omega arith)
 some-outcomes m i (suc f) l = tt
 
-module _ (c : Code) (job : Window) (m : List ℕ) (s : Stack) (k : ℕ) (n u : ℕ) (some : 1 ≤ k) (ms : Marks c job (s .limit) (s .cells) m (k - 1) n (k - 1) u (s .height)) (room : Room m (s .limit + 1)) (uses : Uses c (s .cells)) (cells : s .cells ≤ frameCells)
+module _ (c : Code) (job : Window) (m : List ℕ) (s : Stack) (k : ℕ) (n u : ℕ) (some : 1 ≤ k) (ms : Checkpoints c job (s .limit) (s .cells) m (k - 1) n (k - 1) u (s .height)) (room : Room m (s .limit + 1)) (uses : Uses c (s .cells)) (cells : s .cells ≤ frameCells)
     (l : numberCount ≤ s .height) where
   abbrev o : Newest c job (s .limit) (s .cells) m (k - 1) n (k - 1) u (s .height)
   o = newest c job (s .limit) (s .cells) m (k - 1) l ms
@@ -161,7 +161,7 @@ module _ (c : Code) (job : Window) (m : List ℕ) (s : Stack) (k : ℕ) (n u : �
   ends-here = record { before = o .is .before; point = p; start = o .start; size = o .size; saved = o .is .saved; agrees = agrees }
 
   pub space-here : Room m (s .height)
-  space-here = room-less (s .height) (omega (arith, marks-paid c job (s .limit) (s .cells) ms)) room
+  space-here = room-less (s .height) (omega (arith, checkpoints-fit c job (s .limit) (s .cells) ms)) room
 
   module _ (m′ : List ℕ) (q : Point) (len : length m′ ≡ length m)
       (back : (m₀ : List ℕ) (p : Point) (v : ℕ) → s .height ≡ v + sizeOf (s .cells) p → Rattle.checkpoints.specs.Words.Saved (s .cells) m m₀ p v → Agrees m m₀ p → Restored m m₀ m′ p q (k - p .choices)) where
@@ -193,8 +193,8 @@ module _ (c : Code) (job : Window) (m : List ℕ) (s : Stack) (k : ℕ) (n u : �
       few = omega (arith, same-choices, same-steps, o .is .few);
       comes = comes-here;
       stacked = record {
-        marks = marks-stay c job (s .limit) (s .cells) m m′ (k - 1) (q .choices) (p .choices) (q .run .nodes) (q .choices) (q .windows) (λ x a b. (omega (arith, o .choices), a)) (alike-stays (p .windows) (s .height) len (λ i a. restored .starts i) (restored .stays))
-            (omega (arith, same-nodes)) (omega (arith, same-choices)) (omega (arith, same-windows)) (mark {n = p .run .nodes} {t = p .choices} {u = p .windows} p (o .start) (o .older) (o .is) (omega arith) (omega arith) (omega arith) (o .paid) (o .size));
+        checkpoints = checkpoints-stay c job (s .limit) (s .cells) m m′ (k - 1) (q .choices) (p .choices) (q .run .nodes) (q .choices) (q .windows) (λ x a b. (omega (arith, o .choices), a)) (alike-stays (p .windows) (s .height) len (λ i a. restored .starts i) (restored .stays))
+            (omega (arith, same-nodes)) (omega (arith, same-choices)) (omega (arith, same-windows)) (more {n = p .run .nodes} {t = p .choices} {u = p .windows} p (o .start) (o .older) (o .is) (omega arith) (omega arith) (omega arith) (o .fits) (o .size));
         room = room-same len room;
         uses = uses;
         cells = cells;

@@ -26,7 +26,7 @@ use Rattle.machine.proofs.Stays.{three}
 use Rattle.paths.specs.declared.Point.{Point}
 use Rattle.checkpoints.specs.Live.{Slim, Unused}
 use Rattle.checkpoints.proofs.Places.{either}
-use Rattle.walks.specs.Marks.{ComesTo}
+use Rattle.walks.specs.Checkpoints.{ComesTo}
 
 -- ---- cells
 

@@ -10,25 +10,25 @@ use Rattle.paths.specs.declared.Point.{Point}
 use Rattle.checkpoints.specs.Live.{sizeOf, numberCount}
 use Rattle.checkpoints.specs.Words.{pointAt}
 use Rattle.walks.specs.declared.Stack.{Stack}
-use Rattle.walks.specs.Marks.{Mark, Marks, none, mark, Dropped}
+use Rattle.walks.specs.Checkpoints.{Checkpoint, Checkpoints, none, more, Dropped}
 
 module _ (c : Code) (job : Window) (limit cells : ℕ) (m : List ℕ) (upto : ℕ) where
   -- the newest of the checkpoints up to mark w; its numbers are the last
   pub record Newest (n t u w : ℕ) : Type 0 where
     pub point : Point
     pub start : ℕ
-    pub older : Marks c job limit cells m upto (point .run .nodes) (point .choices) (point .windows) start
-    pub is : Mark c job limit cells m upto point start
+    pub older : Checkpoints c job limit cells m upto (point .run .nodes) (point .choices) (point .windows) start
+    pub is : Checkpoint c job limit cells m upto point start
     pub nodes : point .run .nodes ≤ n
     pub choices : point .choices ≤ t
     pub windows : point .windows ≤ u
-    pub paid : w ≤ limit
+    pub fits : w ≤ limit
     pub size : w ≡ start + sizeOf cells point
     pub reads : pointAt m (w - numberCount) ≡ point
 
-  pub newest : {n t u w : ℕ} → numberCount ≤ w → Marks c job limit cells m upto n t u w → Newest n t u w
+  pub newest : {n t u w : ℕ} → numberCount ≤ w → Checkpoints c job limit cells m upto n t u w → Newest n t u w
   newest l (none e) = absurd (omega arith)
-  newest {w = w} l (mark p v ms k a b g pay e) = record {
+  newest {w = w} l (more p v ms k a b g fit e) = record {
     point = p;
     start = v;
     older = ms;
@@ -36,26 +36,26 @@ module _ (c : Code) (job : Window) (limit cells : ℕ) (m : List ℕ) (upto : �
     nodes = a;
     choices = b;
     windows = g;
-    paid = pay;
+    fits = fit;
     size = e;
     reads = ap (pointAt m) {x = w - numberCount} {y = v + sizeOf cells p - numberCount} (omega arith) ∙ k .saved .numbers;
   }
 
   -- where there is none
-  pub empty : {n t u w : ℕ} → w < numberCount → Marks c job limit cells m upto n t u w → w ≡ 0
+  pub empty : {n t u w : ℕ} → w < numberCount → Checkpoints c job limit cells m upto n t u w → w ≡ 0
   empty l (none e) = e
-  empty l (mark p v ms k a b g pay e) = absurd (omega arith)
+  empty l (more p v ms k a b g fit e) = absurd (omega arith)
 
   -- the bounds may be higher
-  pub raised : {n t u w : ℕ} (n′ t′ u′ : ℕ) → n ≤ n′ → t ≤ t′ → u ≤ u′ → Marks c job limit cells m upto n t u w → Marks c job limit cells m upto n′ t′ u′ w
+  pub raised : {n t u w : ℕ} (n′ t′ u′ : ℕ) → n ≤ n′ → t ≤ t′ → u ≤ u′ → Checkpoints c job limit cells m upto n t u w → Checkpoints c job limit cells m upto n′ t′ u′ w
   raised n′ t′ u′ l g f (none e) = none e
-  raised n′ t′ u′ l g f (mark p v ms k a b z pay e) = mark {n = n′} {t = t′} {u = u′} p v ms k (omega arith) (omega arith) (omega arith) pay e
+  raised n′ t′ u′ l g f (more p v ms k a b z fit e) = more {n = n′} {t = t′} {u = u′} p v ms k (omega arith) (omega arith) (omega arith) fit e
 
 -- ---- one by one
 
 -- the checkpoints up to mark w are among those of the stack
 pub record Left (m : List ℕ) (s : Stack) (w : ℕ) : Type 0 where
-  pub is : (c : Code) (job : Window) (upto n t u : ℕ) → Marks c job (s .limit) (s .cells) m upto n t u (s .height) → Marks c job (s .limit) (s .cells) m upto n t u w
+  pub is : (c : Code) (job : Window) (upto n t u : ℕ) → Checkpoints c job (s .limit) (s .cells) m upto n t u (s .height) → Checkpoints c job (s .limit) (s .cells) m upto n t u w
   pub fewer : w ≤ s .height
 
 pub left-all : (m : List ℕ) (s : Stack) → Left m s (s .height)
@@ -66,7 +66,7 @@ left-less m s w p l e h = record {
   is = λ c job upto n t u k.
       let o = newest c job (s .limit) (s .cells) m upto l (h .is c job upto n t u k) in
       let q : p ≡ o .point = e ∙ o .reads in
-      subst (Marks c job (s .limit) (s .cells) m upto n t u) {x = o .start} {y = w - sizeOf (s .cells) p} (omega (arith, o .size, ap (sizeOf (s .cells)) q))
+      subst (Checkpoints c job (s .limit) (s .cells) m upto n t u) {x = o .start} {y = w - sizeOf (s .cells) p} (omega (arith, o .size, ap (sizeOf (s .cells)) q))
       (raised c job (s .limit) (s .cells) m upto n t u (o .nodes) (o .choices) (o .windows) (o .older));
   fewer = omega (arith, h .fewer);
 }
@@ -77,7 +77,7 @@ dropped-here m s w p i r l e f h g = subst (Dropped m s i) (sym g) (record {
   is = λ c job upto n t u k.
       let o = newest c job (s .limit) (s .cells) m upto l (h .is c job upto n t u k) in
       let q : p ≡ o .point = e ∙ o .reads in
-      mark {n = n} {t = i} {u = u} (o .point) (o .start) (o .older) (o .is) (o .nodes) (omega (arith, ap (λ (p : Point). p .choices) q)) (o .windows) (o .paid) (o .size);
+      more {n = n} {t = i} {u = u} (o .point) (o .start) (o .older) (o .is) (o .nodes) (omega (arith, ap (λ (p : Point). p .choices) q)) (o .windows) (o .fits) (o .size);
   limit = refl;
   cells = refl;
   fewer = h .fewer;

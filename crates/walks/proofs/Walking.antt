@@ -30,10 +30,10 @@ use Rattle.checkpoints.proofs.Starts.{starts-stay}
 use Rattle.known_steps.specs.Turns.{Paces, silent, step, Turns, none, more, moves, Passes}
 use Rattle.known_steps.proofs.Passing.{paced, turns-fewer, turns-forced, moves-less, moves-none}
 use Rattle.walks.specs.declared.Stack.{Stack}
-use Rattle.walks.specs.Marks.{Keeping}
+use Rattle.walks.specs.Checkpoints.{Keeping}
 use Rattle.walks.specs.Walk.{paid, Stands, Walks, Ends}
 use Rattle.walks.proofs.Blank.{slim-so}
-use Rattle.walks.proofs.Marks.{alike-stays, marks-paid, marks-stay, kept-machine, kept-state, kept-limit, kept-stands}
+use Rattle.walks.proofs.Checkpoints.{alike-stays, checkpoints-fit, checkpoints-stay, kept-machine, kept-state, kept-limit, kept-stands}
 
 -- ---- moves
 
@@ -81,7 +81,7 @@ pays-turn budget left f a p q o e l (step g h) k b t z =
 pub spare : (c : Code) (job : Window) (m : List ℕ) (p : Point) (s : Stack) → Stands c job m p s → Room m (s .limit) × (s .height ≤ s .limit) × (s .cells ≤ frameCells) × Slim (s .cells) m (p .run .depth)
 spare c job m p s h = (
   room-less (s .limit) (omega arith) (h .stacked .room),
-  marks-paid c job (s .limit) (s .cells) (h .stacked .marks),
+  checkpoints-fit c job (s .limit) (s .cells) (h .stacked .checkpoints),
   h .stacked .cells,
   slim-so c job (s .limit) (s .cells) m p (h .stacked .uses) (h .comes) (h .going .ready),
 )
@@ -162,7 +162,7 @@ module _ (c : Code) (job : Window) (limit : ℕ) where
           few = omega (arith, r .stands .few, h .fewer);
           comes = comes-on inUse job c (s .limit) (machineAt m (p .run)) (machineAt m′ (q .run)) (stateAt m p) (stateAt m′ q) (r .stands .comes) (ap (λ (t : Turn). t .went) (h .is));
           stacked = record {
-            marks = marks-stay c job (s .limit) (s .cells) m m′ (p .choices) (q .choices) (p .choices) (q .run .nodes) (q .choices) (q .windows) (λ z a b. (a, a)) (alike-stays (p .windows) (s .height) len (starts .0) stays) (h .grows) (h .older) (starts .1) (r .stands .stacked .marks);
+            checkpoints = checkpoints-stay c job (s .limit) (s .cells) m m′ (p .choices) (q .choices) (p .choices) (q .run .nodes) (q .choices) (q .windows) (λ z a b. (a, a)) (alike-stays (p .windows) (s .height) len (starts .0) stays) (h .grows) (h .older) (starts .1) (r .stands .stacked .checkpoints);
             room = room-same len (r .stands .stacked .room);
             uses = r .stands .stacked .uses;
             cells = r .stands .stacked .cells;
@@ -199,7 +199,7 @@ module _ (c : Code) (job : Window) (limit : ℕ) where
         few = omega (arith, r .stands .few, r .limited);
         rest = r .rest;
         stacked = record {
-          marks = marks-stay c job (s .limit) (s .cells) m m′ (p .choices) (p .choices) (p .choices) (p .run .nodes) (p .choices) (p .windows) (λ z a b. (a, a)) (alike-stays (p .windows) (s .height) len (starts-kept (p .windows) (r .stands .going .standing .tables .count) (starts-end inUse job c (machineAt m (p .run)) (stateAt m p) e (stateAt m′ p) (ap (λ (t : Turn). t .went) (h .is))) .0) stays) (omega arith) (omega arith) (omega arith) (r .stands .stacked .marks);
+          checkpoints = checkpoints-stay c job (s .limit) (s .cells) m m′ (p .choices) (p .choices) (p .choices) (p .run .nodes) (p .choices) (p .windows) (λ z a b. (a, a)) (alike-stays (p .windows) (s .height) len (starts-kept (p .windows) (r .stands .going .standing .tables .count) (starts-end inUse job c (machineAt m (p .run)) (stateAt m p) e (stateAt m′ p) (ap (λ (t : Turn). t .went) (h .is))) .0) stays) (omega arith) (omega arith) (omega arith) (r .stands .stacked .checkpoints);
           room = room-same len (r .stands .stacked .room);
           uses = r .stands .stacked .uses;
           cells = r .stands .stacked .cells;

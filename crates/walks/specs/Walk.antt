@@ -19,7 +19,7 @@ use Rattle.paths.specs.Point.{stateAt, Standing, Usable, Going}
 use Rattle.walks.specs.declared.Stack.{Stack}
 use Rattle.walks.specs.declared.Walked.{Walked}
 use Rattle.walks.specs.declared.Walked.the-variants.{Spent, Returned, Failed, Cut}
-use Rattle.walks.specs.Marks.{ComesTo, Stacked}
+use Rattle.walks.specs.Checkpoints.{ComesTo, Stacked}
 
 -- what has been counted, where so much of the budget is left
 abbrev pub paid : ℕ → Tally → Tally

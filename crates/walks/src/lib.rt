@@ -7,16 +7,14 @@ ghost use Rattle.simulation.specs.Words.{codeIn};
 ghost use Rattle.intervals.specs.Meaning.{Filled, ofWindow};
 ghost use Rattle.machine.specs.Layout.{frameCells, tablesPlace};
 ghost use Rattle.machine.specs.Memory.{machineAt, outcomesIn};
-ghost use Rattle.machine.specs.Contracts.{Room, Ready, Started};
+ghost use Rattle.machine.specs.Contracts.{Room, Started};
 ghost use Rattle.paths.specs.Point.{stateAt, Going};
 ghost use Rattle.checkpoints.specs.Live.{Small, Slim};
-ghost use Rattle.walks.specs.Marks.{Due, Keeping, Dropped};
+ghost use Rattle.walks.specs.Checkpoints.{Due, Keeping, Dropped};
 ghost use Rattle.walks.specs.Walk.{atStart, Stands, Walking, Begins, FromMain};
 use code::entry;
 use intervals::Window;
-use machine::Run;
 use machine::Value;
-use machine::layout;
 use paths::Point;
 use paths::Turned;
 
@@ -52,51 +50,14 @@ fn compares(code: &[u32], size: usize, pc: usize) -> bool
     false
 }
 
-// The cells of a frame, as a word, and more entries than a program has.
-const FRAME_CELLS: u32 = layout::CELLS as u32;
-
-const MOST_ENTRIES: u32 = 65536;
-
-// Whether the operand that ends with entry e is open, where nothing was taken before it.
-fn open_at(code: &[u32], size: usize, mem: &[u32], run: Run, e: usize) -> bool
-    requires { ⌜ (2 * size ≤ length (now code)) × Ready (now mem) run ⌝ }
-{
-    if size <= e {
-        return false;
-    }
-    let kind = code[entry::WORDS * e];
-    if kind == entry::NUMBER {
-        return false;
-    }
-    if kind == entry::NAME {
-        let a = (code[entry::WORDS * e + entry::NUMBER_WORD] % FRAME_CELLS) as usize;
-        return mem[layout::FRAME * run.depth + layout::CELL * a] != 0;
-    }
-    if run.top == 0 {
-        return false;
-    }
-    mem[layout::TEMPORARIES + layout::STRIDE * (run.top - 1)] != 0
-}
-
-// Whether one of the operands of the comparison at pc is open, as far as can be seen at once: no test on known values is a choice.
-fn opens(code: &[u32], size: usize, mem: &[u32], run: Run) -> bool
-    requires { ⌜ (2 * size ≤ length (now code)) × (run .pc < size) × Ready (now mem) run ⌝ }
-{
-    let d = (code[entry::WORDS * run.pc + entry::NUMBER_WORD] % MOST_ENTRIES) as usize;
-    if open_at(code, size, mem, run, ints::monus(run.pc, 1)) {
-        return true;
-    }
-    open_at(code, size, mem, run, ints::monus(run.pc, d + 1))
-}
-
 // Of each three steps that are left, two marks are kept back for checkpoints that are due later.
 const SHARE: usize = 3;
 
 const KEPT_BACK: usize = 2;
 
-// Whether a checkpoint is due: a choice may follow that no path has made yet, and there are marks for one more.
-fn is_due(code: &[u32], size: usize, mem: &[u32], p: Point, s: Stack) -> bool
-    requires { ⌜ (2 * size ≤ length (now code)) × Small p × (p .steps < 4294967296) × (s .limit < 4294967296) × (s .height ≤ s .limit) × (s .cells ≤ frameCells) × Ready (now mem) (p .run) ⌝ }
+// Whether a checkpoint is due: a choice may follow that no path has made yet, and there are marks for one more. Known steps have passed the comparisons of known values: at one that is left an operand is open, or the path ends there.
+fn is_due(code: &[u32], size: usize, p: Point, s: Stack) -> bool
+    requires { ⌜ (2 * size ≤ length (now code)) × Small p × (p .steps < 4294967296) × (s .limit < 4294967296) × (s .height ≤ s .limit) × (s .cells ≤ frameCells) ⌝ }
     ensures { λ r. ⌜ (r ≡ true → Due size p s) ⌝ }
 {
     if p.forced != 0 {
@@ -107,10 +68,8 @@ fn is_due(code: &[u32], size: usize, mem: &[u32], p: Point, s: Stack) -> bool
     }
     let run = p.run;
     if compares(code, size, run.pc) {
-        if opens(code, size, mem, run) {
-            let height = s.height + checkpoints::size_of(p, s.cells);
-            return SHARE * height + KEPT_BACK * p.steps <= SHARE * s.limit;
-        }
+        let height = s.height + checkpoints::size_of(p, s.cells);
+        return SHARE * height + KEPT_BACK * p.steps <= SHARE * s.limit;
     }
     false
 }
@@ -120,7 +79,7 @@ fn keep(code: &[u32], size: usize, mem: &mut [u32], p: Point, s: Stack) -> Stack
     requires { ⌜ (2 * size ≤ length (now code)) × (size < 65536) × Going (now mem) p × Room (now mem) (s .limit) × (s .height ≤ s .limit) × (s .cells ≤ frameCells) × Slim (s .cells) (now mem) (p .run .depth) ⌝ }
     ensures { λ r. ⌜ Keeping size (now (mem .entry)) (now (mem .exit)) p s r ⌝ }
 {
-    if is_due(code, size, mem, p, s) {
+    if is_due(code, size, p, s) {
         if checkpoints::unused(mem, s.cells) {
             checkpoints::save(mem, p, s.cells, s.height);
             return Stack {
@@ -140,14 +99,14 @@ fn walk(
     mem: &mut [u32],
     job: Window,
     begins: Point,
-    marks: Stack,
+    stack: Stack,
     budget: u32,
 ) -> Walked
-    requires { ⌜ (2 * size + 16 ≤ length (now code)) × (size < 65536) × Stands (codeIn (now code) size) (ofWindow job) (now mem) begins marks × Filled (ofWindow job) ⌝ }
-    ensures { λ r. ⌜ Walking (codeIn (now (code .entry)) size) (ofWindow job) (marks .limit) budget (machineAt (now (mem .entry)) (begins .run)) (stateAt (now (mem .entry)) begins) (now (mem .exit)) r ⌝ }
+    requires { ⌜ (2 * size + 16 ≤ length (now code)) × (size < 65536) × Stands (codeIn (now code) size) (ofWindow job) (now mem) begins stack × Filled (ofWindow job) ⌝ }
+    ensures { λ r. ⌜ Walking (codeIn (now (code .entry)) size) (ofWindow job) (stack .limit) budget (machineAt (now (mem .entry)) (begins .run)) (stateAt (now (mem .entry)) begins) (now (mem .exit)) r ⌝ }
 {
     let mut p = begins;
-    let mut s = marks;
+    let mut s = stack;
     let mut left = budget;
     loop {
         let passed = known_steps::pass(code, size, mem, p, left);
@@ -216,14 +175,14 @@ pub fn run_path(
     size: usize,
     mem: &mut [u32],
     job: Window,
-    marks: Stack,
+    stack: Stack,
     forced: usize,
     budget: u32,
 ) -> Walked
-    requires { ⌜ (2 * size + 16 ≤ length (now code)) × (size < 65536) × Begins (codeIn (now code) size) (ofWindow job) (now mem) forced marks × Filled (ofWindow job) ⌝ }
-    ensures { λ r. ⌜ FromMain (codeIn (now (code .entry)) size) (ofWindow job) (marks .limit) budget (outcomesIn (now (mem .entry)) 0 forced) (now (mem .exit)) r ⌝ }
+    requires { ⌜ (2 * size + 16 ≤ length (now code)) × (size < 65536) × Begins (codeIn (now code) size) (ofWindow job) (now mem) forced stack × Filled (ofWindow job) ⌝ }
+    ensures { λ r. ⌜ FromMain (codeIn (now (code .entry)) size) (ofWindow job) (stack .limit) budget (outcomesIn (now (mem .entry)) 0 forced) (now (mem .exit)) r ⌝ }
 {
-    let s = drop_after(mem, marks, ints::monus(forced, 1));
+    let s = drop_after(mem, stack, ints::monus(forced, 1));
     if s.height == 0 {
         let p = first(mem, s.limit, forced);
         return walk(code, size, mem, job, p, s, budget);

@@ -52,7 +52,7 @@ pay-requires-2 c κs =
     let p = g .0 .1 .0 in
     let s = g .0 .1 .1 .0 in
     let left = g .0 .1 .1 .1 .0 in
-    let w = walked-as x job (a .marks .limit) (a .t .budget) (outcomesIn (a .mem .now) 0 (a .forced)) m (rp .result) (Walked.Returned v p s left) (g .1) (rp .ensures) in
+    let w = walked-as x job (a .stack .limit) (a .t .budget) (outcomesIn (a .mem .now) 0 (a .forced)) m (rp .result) (Walked.Returned v p s left) (g .1) (rp .ensures) in
     (w .0 .rest, c .before .before .before .before .before .before .before .before .before .before .pre .4 .sum)
 
 -- src/lib.rt:183:17
@@ -68,9 +68,9 @@ at-return-requires c κs =
     let p = g .0 .1 .0 in
     let s = g .0 .1 .1 .0 in
     let left = g .0 .1 .1 .1 .0 in
-    let w = walked-as x job (a .marks .limit) (a .t .budget) (outcomesIn (a .mem .now) 0 (a .forced)) m (rp .result) (Walked.Returned v p s left) (g .1) (rp .ensures) in (
+    let w = walked-as x job (a .stack .limit) (a .t .budget) (outcomesIn (a .mem .now) 0 (a .forced)) m (rp .result) (Walked.Returned v p s left) (g .1) (rp .ensures) in (
       w .0 .standing,
-      room-few (a .mem .now) m (p .choices) (a .marks .limit) (w .0 .few) (rp .kept .1 .1 .0) (c .before .before .before .before .before .before .before .before .before .before .before .before .pre .2 .stacked .room),
+      room-few (a .mem .now) m (p .choices) (a .stack .limit) (w .0 .few) (rp .kept .1 .1 .0) (c .before .before .before .before .before .before .before .before .before .before .before .before .pre .2 .stacked .room),
       paying-fair (a .t) (c .before .pay2 .result) left (length (a .rows .now)) (c .before .pay2 .ensures) (w .0 .rest) (c .before .before .before .before .before .before .before .before .before .before .before .before .pre .4),
     )
 
@@ -90,7 +90,7 @@ pay-requires-3 c κs =
     let p = g .0 .0 in
     let s = g .0 .1 .0 in
     let left = g .0 .1 .1 .0 in
-    let w = walked-as x job (a .marks .limit) (a .t .budget) (outcomesIn (a .mem .now) 0 (a .forced)) m (rp .result) (Walked.Failed p s left) (g .1) (rp .ensures) in
+    let w = walked-as x job (a .stack .limit) (a .t .budget) (outcomesIn (a .mem .now) 0 (a .forced)) m (rp .result) (Walked.Failed p s left) (g .1) (rp .ensures) in
     (w .rest, c .before .before .before .before .before .before .before .before .before .before .pre .4 .sum)
 
 -- src/lib.rt:187:17
@@ -105,8 +105,8 @@ at-fail-requires c κs =
     let p = g .0 .0 in
     let s = g .0 .1 .0 in
     let left = g .0 .1 .1 .0 in
-    let w = walked-as x job (a .marks .limit) (a .t .budget) (outcomesIn (a .mem .now) 0 (a .forced)) m (rp .result) (Walked.Failed p s left) (g .1) (rp .ensures) in (
-      room-few (a .mem .now) m (p .choices) (a .marks .limit) (w .few) (rp .kept .1 .1 .0) (c .before .before .before .before .before .before .before .before .before .before .before .pre .2 .stacked .room),
+    let w = walked-as x job (a .stack .limit) (a .t .budget) (outcomesIn (a .mem .now) 0 (a .forced)) m (rp .result) (Walked.Failed p s left) (g .1) (rp .ensures) in (
+      room-few (a .mem .now) m (p .choices) (a .stack .limit) (w .few) (rp .kept .1 .1 .0) (c .before .before .before .before .before .before .before .before .before .before .before .pre .2 .stacked .room),
       (paying-fair (a .t) (c .pay3 .result) left (length (a .rows .now)) (c .pay3 .ensures) (w .rest) (c .before .before .before .before .before .before .before .before .before .before .before .pre .4)) .sum,
     )
 
@@ -126,7 +126,7 @@ pay-requires-4 c κs =
     let p = g .0 .0 in
     let s = g .0 .1 .0 in
     let left = g .0 .1 .1 .0 in
-    let w = walked-as x job (a .marks .limit) (a .t .budget) (outcomesIn (a .mem .now) 0 (a .forced)) m (rp .result) (Walked.Cut p s left) (g .1) (rp .ensures) in
+    let w = walked-as x job (a .stack .limit) (a .t .budget) (outcomesIn (a .mem .now) 0 (a .forced)) m (rp .result) (Walked.Cut p s left) (g .1) (rp .ensures) in
     (w .rest, c .before .before .before .before .before .before .before .before .before .before .pre .4 .sum)
 
 -- src/lib.rt:191:17
@@ -141,9 +141,9 @@ at-cut-requires c κs =
     let p = g .0 .0 in
     let s = g .0 .1 .0 in
     let left = g .0 .1 .1 .0 in
-    let w = walked-as x job (a .marks .limit) (a .t .budget) (outcomesIn (a .mem .now) 0 (a .forced)) m (rp .result) (Walked.Cut p s left) (g .1) (rp .ensures) in (
+    let w = walked-as x job (a .stack .limit) (a .t .budget) (outcomesIn (a .mem .now) 0 (a .forced)) m (rp .result) (Walked.Cut p s left) (g .1) (rp .ensures) in (
       w .standing,
-      room-few (a .mem .now) m (p .choices) (a .marks .limit) (w .few) (rp .kept .1 .1 .0) (c .before .before .before .before .before .before .before .before .before .before .before .pre .2 .stacked .room),
+      room-few (a .mem .now) m (p .choices) (a .stack .limit) (w .few) (rp .kept .1 .1 .0) (c .before .before .before .before .before .before .before .before .before .before .before .pre .2 .stacked .room),
       (paying-fair (a .t) (c .pay4 .result) left (length (a .rows .now)) (c .pay4 .ensures) (w .rest) (c .before .before .before .before .before .before .before .before .before .before .before .pre .4)) .sum,
     )
 
@@ -159,8 +159,8 @@ returns c =
     let job = ofWindow (a .job) in
     let rp = c .before .before .before .before .before .before .run-path in
     let m = rp .last .1 .1 .0 in
-    let w = walked-as x job (a .marks .limit) (a .t .budget) (outcomesIn (a .mem .now) 0 (a .forced)) m (rp .result) Walked.Spent (c .before .before .enum-told .given .1) (rp .ensures) in
-    (round-spent x job (a .marks .limit) (a .mem .now) m (a .rows .now) (a .forced) (a .t) w (c .before .pay .result) (c .before .pay .ensures) _ (c .close .ensures), tt)
+    let w = walked-as x job (a .stack .limit) (a .t .budget) (outcomesIn (a .mem .now) 0 (a .forced)) m (rp .result) Walked.Spent (c .before .before .enum-told .given .1) (rp .ensures) in
+    (round-spent x job (a .stack .limit) (a .mem .now) m (a .rows .now) (a .forced) (a .t) w (c .before .pay .result) (c .before .pay .ensures) _ (c .close .ensures), tt)
 
 -- src/lib.rt:161:1
 same-length-2 : tie.Need-same-length-2
@@ -183,9 +183,9 @@ returns-2 c =
     let p = g .0 .1 .0 in
     let s = g .0 .1 .1 .0 in
     let left = g .0 .1 .1 .1 .0 in
-    let w = walked-as x job (a .marks .limit) (a .t .budget) (outcomesIn (a .mem .now) 0 (a .forced)) m (rp .result) (Walked.Returned v p s left) (g .1) (rp .ensures) in
+    let w = walked-as x job (a .stack .limit) (a .t .budget) (outcomesIn (a .mem .now) 0 (a .forced)) m (rp .result) (Walked.Returned v p s left) (g .1) (rp .ensures) in
     let b = c .before .before .before .at-return in
-    round-ended x job (a .marks .limit) (a .mem .now) m (b .last .0) (a .rows .now) (b .last .1 .1 .1 .1 .0) (a .forced) (a .t) (returned (meant m (p .run .nodes) v)) p s left (w .0) (c .before .before .before .before .before .pay2 .result) (c .before .before .before .before .before .pay2 .ensures) (b .result) (b .kept .0) (b .ensures)
+    round-ended x job (a .stack .limit) (a .mem .now) m (b .last .0) (a .rows .now) (b .last .1 .1 .1 .1 .0) (a .forced) (a .t) (returned (meant m (p .run .nodes) v)) p s left (w .0) (c .before .before .before .before .before .pay2 .result) (c .before .before .before .before .before .pay2 .ensures) (b .result) (b .kept .0) (b .ensures)
 
 -- src/lib.rt:161:1
 same-length-4 : tie.Need-same-length-4
@@ -203,9 +203,9 @@ returns-3 c =
     let p = g .0 .0 in
     let s = g .0 .1 .0 in
     let left = g .0 .1 .1 .0 in
-    let w = walked-as x job (a .marks .limit) (a .t .budget) (outcomesIn (a .mem .now) 0 (a .forced)) m (rp .result) (Walked.Failed p s left) (g .1) (rp .ensures) in
+    let w = walked-as x job (a .stack .limit) (a .t .budget) (outcomesIn (a .mem .now) 0 (a .forced)) m (rp .result) (Walked.Failed p s left) (g .1) (rp .ensures) in
     let b = c .before .before .at-fail in
-    round-ended x job (a .marks .limit) (a .mem .now) m (b .last .0) (a .rows .now) (a .rows .now) (a .forced) (a .t) failed p s left w (c .before .before .before .pay3 .result) (c .before .before .before .pay3 .ensures) (b .result) (b .kept .0) (b .ensures (a .rows .now))
+    round-ended x job (a .stack .limit) (a .mem .now) m (b .last .0) (a .rows .now) (a .rows .now) (a .forced) (a .t) failed p s left w (c .before .before .before .pay3 .result) (c .before .before .before .pay3 .ensures) (b .result) (b .kept .0) (b .ensures (a .rows .now))
 
 -- src/lib.rt:161:1
 same-length-5 : tie.Need-same-length-5
@@ -223,9 +223,9 @@ returns-4 c =
     let p = g .0 .0 in
     let s = g .0 .1 .0 in
     let left = g .0 .1 .1 .0 in
-    let w = walked-as x job (a .marks .limit) (a .t .budget) (outcomesIn (a .mem .now) 0 (a .forced)) m (rp .result) (Walked.Cut p s left) (g .1) (rp .ensures) in
+    let w = walked-as x job (a .stack .limit) (a .t .budget) (outcomesIn (a .mem .now) 0 (a .forced)) m (rp .result) (Walked.Cut p s left) (g .1) (rp .ensures) in
     let b = c .before .before .at-cut in
-    round-ended x job (a .marks .limit) (a .mem .now) m (b .last .0) (a .rows .now) (a .rows .now) (a .forced) (a .t) cut p s left w (c .before .before .before .pay4 .result) (c .before .before .before .pay4 .ensures) (b .result) (b .kept .0) (b .ensures (a .rows .now))
+    round-ended x job (a .stack .limit) (a .mem .now) m (b .last .0) (a .rows .now) (a .rows .now) (a .forced) (a .t) cut p s left w (c .before .before .before .pay4 .result) (c .before .before .before .pay4 .ensures) (b .result) (b .kept .0) (b .ensures (a .rows .now))
 
 pub round-spec : {M : Type 1} → statement M
 round-spec =

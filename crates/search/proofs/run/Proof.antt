@@ -16,10 +16,10 @@ use Rattle.search.proofs.round.Reads as round-reads
 use Rattle.walks.proofs.cells.in_use.Reads as in-use-reads
 
 abbrev Inv-loop : tie.InvT-loop
-Inv-loop code size mem₀ job limit skip budget rows₀ forced₀ marks₀ t₀ mem rows forced marks t = Between (codeIn code size) (ofWindow job) limit skip (length rows₀ / 10) budget mem₀ rows₀ mem rows forced t × Begins (codeIn code size) (ofWindow job) mem forced marks × (marks .limit ≡ limit)
+Inv-loop code size mem₀ job limit skip budget rows₀ forced₀ stack₀ t₀ mem rows forced stack t = Between (codeIn code size) (ofWindow job) limit skip (length rows₀ / 10) budget mem₀ rows₀ mem rows forced t × Begins (codeIn code size) (ofWindow job) mem forced stack × (stack .limit ≡ limit)
 
 abbrev μ-loop : tie.MeasureT-loop
-μ-loop code size mem₀ job limit skip budget rows₀ forced₀ marks₀ t₀ mem rows forced marks t = t .budget
+μ-loop code size mem₀ job limit skip budget rows₀ forced₀ stack₀ t₀ mem rows forced stack t = t .budget
 
 -- src/lib.rt:215:16
 in-use-requires : tie.Need-in-use-requires Inv-loop μ-loop
@@ -56,7 +56,7 @@ loop-less c =
     let a = c .before .before .before .before .before .before .before .before .before .before .before .before .before .before .args in
     let x = c .before .before .before .before .before .before .before .round in
     let l = c .before .before .before .before .before .before .before .before .before .before .loop in
-    let h = round-as (codeIn (a .code .now) (a .size)) (ofWindow (a .job)) (l .marks .limit) (a .limit) (l .mem) (x .last .1 .1 .0) (l .rows) (x .last .1 .1 .1 .1 .1 .1 .1 .0) (l .forced) (l .t) (x .result .then) (l .inv .2) (x .ensures .0) in
+    let h = round-as (codeIn (a .code .now) (a .size)) (ofWindow (a .job)) (l .stack .limit) (a .limit) (l .mem) (x .last .1 .1 .0) (l .rows) (x .last .1 .1 .1 .1 .1 .1 .1 .0) (l .forced) (l .t) (x .result .then) (l .inv .2) (x .ensures .0) in
     between-less (codeIn (a .code .now) (a .size)) (ofWindow (a .job)) (a .limit) (a .skip) (length (a .rows .now) / 10) (a .budget) (a .mem .now) (a .rows .now) (l .mem) (l .rows) (l .forced)
     (l .t) (l .inv .0) (x .last .1 .1 .0) (x .last .1 .1 .1 .1 .1 .1 .1 .0) (x .result .then) h (c .before .x .given .0 .0) (c .before .x .given .0 .1 .0) (c .before .x .given .1)
 
@@ -66,8 +66,8 @@ loop-again c =
     let a = c .before .before .before .before .before .before .before .before .before .before .before .before .before .before .args in
     let x = c .before .before .before .before .before .before .before .round in
     let l = c .before .before .before .before .before .before .before .before .before .before .loop in
-    let h = round-as (codeIn (a .code .now) (a .size)) (ofWindow (a .job)) (l .marks .limit) (a .limit) (l .mem) (x .last .1 .1 .0) (l .rows) (x .last .1 .1 .1 .1 .1 .1 .1 .0) (l .forced) (l .t) (x .result .then) (l .inv .2) (x .ensures .0) in
-    let g = resumes-as (codeIn (a .code .now) (a .size)) (ofWindow (a .job)) (x .last .1 .1 .0) (l .marks .limit) (a .limit) (x .result .then) (x .result .marks) (c .before .x .given .0 .0) (c .before .x .given .0 .1 .0) (c .before .x .given .1) (l .inv .2) (x .ensures .1) in (
+    let h = round-as (codeIn (a .code .now) (a .size)) (ofWindow (a .job)) (l .stack .limit) (a .limit) (l .mem) (x .last .1 .1 .0) (l .rows) (x .last .1 .1 .1 .1 .1 .1 .1 .0) (l .forced) (l .t) (x .result .then) (l .inv .2) (x .ensures .0) in
+    let g = resumes-as (codeIn (a .code .now) (a .size)) (ofWindow (a .job)) (x .last .1 .1 .0) (l .stack .limit) (a .limit) (x .result .then) (x .result .stack) (c .before .x .given .0 .0) (c .before .x .given .0 .1 .0) (c .before .x .given .1) (l .inv .2) (x .ensures .1) in (
       between-next (codeIn (a .code .now) (a .size)) (ofWindow (a .job)) (a .limit) (a .skip) (length (a .rows .now) / 10) (a .budget) (a .mem .now) (a .rows .now) (l .mem) (l .rows) (l .forced)
           (l .t) (l .inv .0) (x .last .1 .1 .0) (x .last .1 .1 .1 .1 .1 .1 .1 .0) (x .result .then) h (c .before .x .given .0 .0) (c .before .x .given .0 .1 .0) (c .before .x .given .1) (x .kept .1 .1 .0) (x .kept .1 .1 .1 .1 .1 .1 .1 .0),
       g .0,
@@ -92,7 +92,7 @@ returns c =
     let a = c .before .before .before .before .before .before .before .before .before .before .before .before .before .before .args in
     let x = c .before .before .before .before .before .before .before .round in
     let l = c .before .before .before .before .before .before .before .before .before .before .loop in
-    let h = round-as (codeIn (a .code .now) (a .size)) (ofWindow (a .job)) (l .marks .limit) (a .limit) (l .mem) (x .last .1 .1 .0) (l .rows) (x .last .1 .1 .1 .1 .1 .1 .1 .0) (l .forced) (l .t) (x .result .then) (l .inv .2) (x .ensures .0) in
+    let h = round-as (codeIn (a .code .now) (a .size)) (ofWindow (a .job)) (l .stack .limit) (a .limit) (l .mem) (x .last .1 .1 .0) (l .rows) (x .last .1 .1 .1 .1 .1 .1 .1 .0) (l .forced) (l .t) (x .result .then) (l .inv .2) (x .ensures .0) in
     between-over (codeIn (a .code .now) (a .size)) (ofWindow (a .job)) (a .limit) (a .skip) (length (a .rows .now) / 10) (a .budget) (a .mem .now) (a .rows .now) (l .mem) (l .rows) (l .forced)
     (l .t) (l .inv .0) (omega arith) (x .last .1 .1 .0) (x .last .1 .1 .1 .1 .1 .1 .1 .0) (x .result .then) h (c .before .x2 .given .0 .0) (c .before .x2 .given .1) (x .kept .1 .1 .1 .1 .1 .1 .1 .0)
 

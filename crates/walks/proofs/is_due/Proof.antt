@@ -10,64 +10,44 @@ use Rattle.walks.proofs.is_due.Reads as reads
 use Rattle.walks.proofs.is_due.Lts as lts
 use Rattle.checkpoints.proofs.size_of.Reads as size-of-reads
 use Rattle.walks.proofs.compares.Reads as compares-reads
-use Rattle.walks.proofs.opens.Reads as opens-reads
 
--- src/lib.rt:103:9
 returns : tie.Need-returns
 returns c = λ e. never e
 
--- src/lib.rt:106:9
 returns-2 : tie.Need-returns-2
 returns-2 c = λ e. never e
 
--- src/lib.rt:109:8
 compares-requires : tie.Need-compares-requires
 compares-requires c κs = search needs
 
--- src/lib.rt:110:12
-opens-requires : tie.Need-opens-requires
-opens-requires c κs = (c .before .before .before .before .before .before .before .before .before .pre .0, c .before .compares .ensures (c .if3 .taken), c .before .before .before .before .before .before .before .before .before .pre .6)
-
--- src/lib.rt:111:37
 size-of-requires : tie.Need-size-of-requires
 size-of-requires c κs = search needs
 
--- src/lib.rt:111:26
 add-height : tie.Need-add-height
-add-height c = let q = c .before .before .before .before .before .before .before .before .before .before .before .before .before .pre in omega (arith, c .before .size-of .ensures, times-few (c .before .before .before .before .before .before .before .before .before .before .before .before .before .args .s .cells) (c .before .before .before .before .before .before .before .before .before .before .before .before .before .args .p .run .depth) (q .5), q .1 .depth, q .1 .top, q .1 .windows, q .2, q .3, q .4)
+add-height c = let q = c .before .before .before .before .before .before .before .before .before .before .pre in omega (arith, c .before .size-of .ensures, times-few (c .before .before .before .before .before .before .before .before .before .before .args .s .cells) (c .before .before .before .before .before .before .before .before .before .before .args .p .run .depth) (q .5), q .1 .depth, q .1 .top, q .1 .windows, q .2, q .3, q .4)
 
--- src/lib.rt:112:20
 mul-result : tie.Need-mul-result
-mul-result c = let q = c .before .before .before .before .before .before .before .before .before .before .before .before .before .pre in omega (arith, c .before .size-of .ensures, times-few (c .before .before .before .before .before .before .before .before .before .before .before .before .before .args .s .cells) (c .before .before .before .before .before .before .before .before .before .before .before .before .before .args .p .run .depth) (q .5), q .1 .depth, q .1 .top, q .1 .windows, q .2, q .3, q .4)
+mul-result c = let q = c .before .before .before .before .before .before .before .before .before .before .pre in omega (arith, c .before .size-of .ensures, times-few (c .before .before .before .before .before .before .before .before .before .before .args .s .cells) (c .before .before .before .before .before .before .before .before .before .before .args .p .run .depth) (q .5), q .1 .depth, q .1 .top, q .1 .windows, q .2, q .3, q .4)
 
--- src/lib.rt:112:37
 mul-result-2 : tie.Need-mul-result-2
-mul-result-2 c = let q = c .before .before .before .before .before .before .before .before .before .before .before .before .before .before .pre in omega (arith, c .before .before .size-of .ensures, times-few (c .before .before .before .before .before .before .before .before .before .before .before .before .before .before .args .s .cells) (c .before .before .before .before .before .before .before .before .before .before .before .before .before .before .args .p .run .depth) (q .5), q .1 .depth, q .1 .top, q .1 .windows, q .2, q .3, q .4)
+mul-result-2 c = let q = c .before .before .before .before .before .before .before .before .before .before .before .pre in omega (arith, c .before .before .size-of .ensures, times-few (c .before .before .before .before .before .before .before .before .before .before .before .args .s .cells) (c .before .before .before .before .before .before .before .before .before .before .before .args .p .run .depth) (q .5), q .1 .depth, q .1 .top, q .1 .windows, q .2, q .3, q .4)
 
--- src/lib.rt:112:20
 add-result : tie.Need-add-result
-add-result c = let q = c .before .before .before .before .before .before .before .before .before .before .before .before .before .before .pre in omega (arith, c .before .before .size-of .ensures, times-few (c .before .before .before .before .before .before .before .before .before .before .before .before .before .before .args .s .cells) (c .before .before .before .before .before .before .before .before .before .before .before .before .before .before .args .p .run .depth) (q .5), q .1 .depth, q .1 .top, q .1 .windows, q .2, q .3, q .4)
+add-result c = let q = c .before .before .before .before .before .before .before .before .before .before .before .pre in omega (arith, c .before .before .size-of .ensures, times-few (c .before .before .before .before .before .before .before .before .before .before .before .args .s .cells) (c .before .before .before .before .before .before .before .before .before .before .before .args .p .run .depth) (q .5), q .1 .depth, q .1 .top, q .1 .windows, q .2, q .3, q .4)
 
--- src/lib.rt:112:60
 mul-result-3 : tie.Need-mul-result-3
-mul-result-3 c = let q = c .before .before .before .before .before .before .before .before .before .before .before .before .before .before .before .pre in omega (arith, c .before .before .before .size-of .ensures, times-few (c .before .before .before .before .before .before .before .before .before .before .before .before .before .before .before .args .s .cells) (c .before .before .before .before .before .before .before .before .before .before .before .before .before .before .before .args .p .run .depth) (q .5), q .1 .depth, q .1 .top, q .1 .windows, q .2, q .3, q .4)
+mul-result-3 c = let q = c .before .before .before .before .before .before .before .before .before .before .before .before .pre in omega (arith, c .before .before .before .size-of .ensures, times-few (c .before .before .before .before .before .before .before .before .before .before .before .before .args .s .cells) (c .before .before .before .before .before .before .before .before .before .before .before .before .args .p .run .depth) (q .5), q .1 .depth, q .1 .top, q .1 .windows, q .2, q .3, q .4)
 
--- src/lib.rt:112:13
 returns-3 : tie.Need-returns-3
 returns-3 c =
     λ e. record {
-      unforced = omega (arith, c .before .before .before .before .before .before .before .before .before .before .before .if1 .left);
-      entry = c .before .before .before .before .before .before .before .compares .ensures (c .before .before .before .before .before .before .if3 .taken);
-      paid = omega (arith, leb-true (3 * (c .before .before .before .before .before .before .before .before .before .before .before .before .before .before .before .args .s .height + c .before .before .before .size-of .result) + 2 * c .before .before .before .before .before .before .before .before .before .before .before .before .before .before .before .args .p .steps) (3 * c .before .before .before .before .before .before .before .before .before .before .before .before .before .before .before .args .s .limit) e, c .before .before .before .size-of .ensures);
+      unforced = omega (arith, c .before .before .before .before .before .before .before .before .before .if1 .left);
+      entry = c .before .before .before .before .before .compares .ensures (c .before .before .before .before .if3 .taken);
+      fits = omega (arith, leb-true (3 * (c .before .before .before .before .before .before .before .before .before .before .before .before .args .s .height + c .before .before .before .size-of .result) + 2 * c .before .before .before .before .before .before .before .before .before .before .before .before .args .p .steps) (3 * c .before .before .before .before .before .before .before .before .before .before .before .before .args .s .limit) e, c .before .before .before .size-of .ensures);
     }
 
--- src/lib.rt:98:1
 returns-4 : tie.Need-returns-4
 returns-4 c = λ e. never e
-
--- src/lib.rt:98:1
-returns-5 : tie.Need-returns-5
-returns-5 c = λ e. never e
 
 pub is-due-spec : {M : Type 1} → statement M
 is-due-spec =
@@ -76,7 +56,6 @@ is-due-spec =
     returns
     returns-2
     compares-requires
-    opens-requires
     size-of-requires
     add-height
     mul-result
@@ -84,5 +63,4 @@ is-due-spec =
     add-result
     mul-result-3
     returns-3
-    returns-4
-    returns-5)
+    returns-4)

@@ -4,7 +4,7 @@ use native.Mathlib.Omega.{arith}
 use borrow.Author.Needs.{needs}
 use Rattle.simulation.specs.Words.{codeIn}
 use Rattle.intervals.specs.Meaning.{ofWindow}
-use Rattle.walks.proofs.Beginning.{space-so, marks-left, uses-left, cells-left, room-left, some-forced, some-left, first-stands, first-walks, ends-here, space-here, again-stands, again-walks}
+use Rattle.walks.proofs.Beginning.{space-so, checkpoints-left, uses-left, cells-left, room-left, some-forced, some-left, first-stands, first-walks, ends-here, space-here, again-stands, again-walks}
 use Rattle.walks.proofs.run_path.Statement.{statement}
 use Rattle.walks.proofs.run_path.Tie as tie
 use Rattle.walks.proofs.run_path.Reads as reads
@@ -27,7 +27,7 @@ drop-after-requires c κs =
     let job = ofWindow (a .job) in
     let b = c .before .before .before .before .pre .2 in
     let m = a .mem .now in
-    (space-so x job m (a .forced) (a .marks) b, b .stacked .cells)
+    (space-so x job m (a .forced) (a .stack) b, b .stacked .cells)
 
 -- src/lib.rt:176:13
 first-requires : tie.Need-first-requires
@@ -44,9 +44,9 @@ walk-requires c κs =
     let s = c .before .before .before .before .before .before .before .drop-after .result in
     let d = c .before .before .before .before .before .before .before .drop-after .ensures in
     let e = c .before .before .before .before .before .before .before .before .monus .ensures in
-    let room = room-left x job m (a .forced) (a .marks) b (c .before .before .before .before .before .before .before .before .monus .result) e s d in
-    let uses = uses-left x job m (a .forced) (a .marks) b (c .before .before .before .before .before .before .before .before .monus .result) e s d in
-    let cells = cells-left x job m (a .forced) (a .marks) b (c .before .before .before .before .before .before .before .before .monus .result) e s d in
+    let room = room-left x job m (a .forced) (a .stack) b (c .before .before .before .before .before .before .before .before .monus .result) e s d in
+    let uses = uses-left x job m (a .forced) (a .stack) b (c .before .before .before .before .before .before .before .before .monus .result) e s d in
+    let cells = cells-left x job m (a .forced) (a .stack) b (c .before .before .before .before .before .before .before .before .monus .result) e s d in
     let m′ = c .before .before .before .first .last .0 in
     let p = c .before .before .before .first .result in
     (c .before .before .before .before .before .before .before .before .before .before .before .before .pre .0, c .before .before .before .before .before .before .before .before .before .before .before .before .pre .1, first-stands x job m m′ s (p .run) (a .forced) (c .before .before .before .first .ensures .0) (c .before .before .before .first .kept .0) room uses cells (c .before .before .before .before .before .if1 .taken) p (c .before .before .before .first .ensures .1), c .before .before .before .before .before .before .before .before .before .before .before .before .pre .3)
@@ -66,12 +66,12 @@ returns c =
     let s = c .before .before .before .before .before .before .before .before .before .before .drop-after .result in
     let d = c .before .before .before .before .before .before .before .before .before .before .drop-after .ensures in
     let e = c .before .before .before .before .before .before .before .before .before .before .before .monus .ensures in
-    let room = room-left x job m (a .forced) (a .marks) b (c .before .before .before .before .before .before .before .before .before .before .before .monus .result) e s d in
-    let uses = uses-left x job m (a .forced) (a .marks) b (c .before .before .before .before .before .before .before .before .before .before .before .monus .result) e s d in
-    let cells = cells-left x job m (a .forced) (a .marks) b (c .before .before .before .before .before .before .before .before .before .before .before .monus .result) e s d in
+    let room = room-left x job m (a .forced) (a .stack) b (c .before .before .before .before .before .before .before .before .before .before .before .monus .result) e s d in
+    let uses = uses-left x job m (a .forced) (a .stack) b (c .before .before .before .before .before .before .before .before .before .before .before .monus .result) e s d in
+    let cells = cells-left x job m (a .forced) (a .stack) b (c .before .before .before .before .before .before .before .before .before .before .before .monus .result) e s d in
     let m′ = c .before .before .before .before .before .before .first .last .0 in
     let p = c .before .before .before .before .before .before .first .result in
-    first-walks x job m m′ s (p .run) (a .forced) (c .before .before .before .before .before .before .first .ensures .0) (c .before .before .before .before .before .before .first .kept .0) room uses cells (c .before .before .before .before .before .before .before .before .if1 .taken) p (c .before .before .before .before .before .before .first .ensures .1) (a .marks .limit) (a .budget) (c .before .before .walk .last .1 .1 .0) (c .before .before .walk .result) (d .limit) (c .before .before .walk .ensures)
+    first-walks x job m m′ s (p .run) (a .forced) (c .before .before .before .before .before .before .first .ensures .0) (c .before .before .before .before .before .before .first .kept .0) room uses cells (c .before .before .before .before .before .before .before .before .if1 .taken) p (c .before .before .before .before .before .before .first .ensures .1) (a .stack .limit) (a .budget) (c .before .before .walk .last .1 .1 .0) (c .before .before .walk .result) (d .limit) (c .before .before .walk .ensures)
 
 -- src/lib.rt:179:9
 restore-requires : tie.Need-restore-requires
@@ -84,12 +84,12 @@ restore-requires c κs =
     let s = c .before .before .before .drop-after .result in
     let d = c .before .before .before .drop-after .ensures in
     let e = c .before .before .before .before .monus .ensures in
-    let room = room-left x job m (a .forced) (a .marks) b (c .before .before .before .before .monus .result) e s d in
-    let uses = uses-left x job m (a .forced) (a .marks) b (c .before .before .before .before .monus .result) e s d in
-    let cells = cells-left x job m (a .forced) (a .marks) b (c .before .before .before .before .monus .result) e s d in
-    let ms = marks-left x job m (a .forced) (a .marks) b (c .before .before .before .before .monus .result) e s d in
-    let some = some-forced x job m (a .forced) (a .marks) b (c .before .before .before .before .monus .result) e s d (c .before .if1 .left) in
-    let l = some-left x job m (a .forced) (a .marks) b (c .before .before .before .before .monus .result) e s d (c .before .if1 .left) in
+    let room = room-left x job m (a .forced) (a .stack) b (c .before .before .before .before .monus .result) e s d in
+    let uses = uses-left x job m (a .forced) (a .stack) b (c .before .before .before .before .monus .result) e s d in
+    let cells = cells-left x job m (a .forced) (a .stack) b (c .before .before .before .before .monus .result) e s d in
+    let ms = checkpoints-left x job m (a .forced) (a .stack) b (c .before .before .before .before .monus .result) e s d in
+    let some = some-forced x job m (a .forced) (a .stack) b (c .before .before .before .before .monus .result) e s d (c .before .if1 .left) in
+    let l = some-left x job m (a .forced) (a .stack) b (c .before .before .before .before .monus .result) e s d (c .before .if1 .left) in
     (ends-here x job m s (a .forced) (b .nodes) (b .windows) some ms room uses cells l, cells, space-here x job m s (a .forced) (b .nodes) (b .windows) some ms room uses cells l)
 
 -- src/lib.rt:180:5
@@ -103,12 +103,12 @@ walk-requires-2 c κs =
     let s = c .before .before .before .before .before .before .before .drop-after .result in
     let d = c .before .before .before .before .before .before .before .drop-after .ensures in
     let e = c .before .before .before .before .before .before .before .before .monus .ensures in
-    let room = room-left x job m (a .forced) (a .marks) b (c .before .before .before .before .before .before .before .before .monus .result) e s d in
-    let uses = uses-left x job m (a .forced) (a .marks) b (c .before .before .before .before .before .before .before .before .monus .result) e s d in
-    let cells = cells-left x job m (a .forced) (a .marks) b (c .before .before .before .before .before .before .before .before .monus .result) e s d in
-    let ms = marks-left x job m (a .forced) (a .marks) b (c .before .before .before .before .before .before .before .before .monus .result) e s d in
-    let some = some-forced x job m (a .forced) (a .marks) b (c .before .before .before .before .before .before .before .before .monus .result) e s d (c .before .before .before .before .before .if1 .left) in
-    let l = some-left x job m (a .forced) (a .marks) b (c .before .before .before .before .before .before .before .before .monus .result) e s d (c .before .before .before .before .before .if1 .left) in
+    let room = room-left x job m (a .forced) (a .stack) b (c .before .before .before .before .before .before .before .before .monus .result) e s d in
+    let uses = uses-left x job m (a .forced) (a .stack) b (c .before .before .before .before .before .before .before .before .monus .result) e s d in
+    let cells = cells-left x job m (a .forced) (a .stack) b (c .before .before .before .before .before .before .before .before .monus .result) e s d in
+    let ms = checkpoints-left x job m (a .forced) (a .stack) b (c .before .before .before .before .before .before .before .before .monus .result) e s d in
+    let some = some-forced x job m (a .forced) (a .stack) b (c .before .before .before .before .before .before .before .before .monus .result) e s d (c .before .before .before .before .before .if1 .left) in
+    let l = some-left x job m (a .forced) (a .stack) b (c .before .before .before .before .before .before .before .before .monus .result) e s d (c .before .before .before .before .before .if1 .left) in
     (c .before .before .before .before .before .before .before .before .before .before .before .before .pre .0, c .before .before .before .before .before .before .before .before .before .before .before .before .pre .1, again-stands x job m s (a .forced) (b .nodes) (b .windows) some ms room uses cells l (c .before .before .before .restore .last .0) (c .before .before .before .restore .result) (c .before .before .before .restore .kept .0) (c .before .before .before .restore .ensures), c .before .before .before .before .before .before .before .before .before .before .before .before .pre .3)
 
 -- src/lib.rt:162:1
@@ -126,13 +126,13 @@ returns-2 c =
     let s = c .before .before .before .before .before .before .before .before .before .before .drop-after .result in
     let d = c .before .before .before .before .before .before .before .before .before .before .drop-after .ensures in
     let e = c .before .before .before .before .before .before .before .before .before .before .before .monus .ensures in
-    let room = room-left x job m (a .forced) (a .marks) b (c .before .before .before .before .before .before .before .before .before .before .before .monus .result) e s d in
-    let uses = uses-left x job m (a .forced) (a .marks) b (c .before .before .before .before .before .before .before .before .before .before .before .monus .result) e s d in
-    let cells = cells-left x job m (a .forced) (a .marks) b (c .before .before .before .before .before .before .before .before .before .before .before .monus .result) e s d in
-    let ms = marks-left x job m (a .forced) (a .marks) b (c .before .before .before .before .before .before .before .before .before .before .before .monus .result) e s d in
-    let some = some-forced x job m (a .forced) (a .marks) b (c .before .before .before .before .before .before .before .before .before .before .before .monus .result) e s d (c .before .before .before .before .before .before .before .before .if1 .left) in
-    let l = some-left x job m (a .forced) (a .marks) b (c .before .before .before .before .before .before .before .before .before .before .before .monus .result) e s d (c .before .before .before .before .before .before .before .before .if1 .left) in
-    again-walks x job m s (a .forced) (b .nodes) (b .windows) some ms room uses cells l (c .before .before .before .before .before .before .restore .last .0) (c .before .before .before .before .before .before .restore .result) (c .before .before .before .before .before .before .restore .kept .0) (c .before .before .before .before .before .before .restore .ensures) (a .marks .limit) (a .budget) (c .before .before .walk2 .last .1 .1 .0) (c .before .before .walk2 .result) (d .limit) (c .before .before .walk2 .ensures)
+    let room = room-left x job m (a .forced) (a .stack) b (c .before .before .before .before .before .before .before .before .before .before .before .monus .result) e s d in
+    let uses = uses-left x job m (a .forced) (a .stack) b (c .before .before .before .before .before .before .before .before .before .before .before .monus .result) e s d in
+    let cells = cells-left x job m (a .forced) (a .stack) b (c .before .before .before .before .before .before .before .before .before .before .before .monus .result) e s d in
+    let ms = checkpoints-left x job m (a .forced) (a .stack) b (c .before .before .before .before .before .before .before .before .before .before .before .monus .result) e s d in
+    let some = some-forced x job m (a .forced) (a .stack) b (c .before .before .before .before .before .before .before .before .before .before .before .monus .result) e s d (c .before .before .before .before .before .before .before .before .if1 .left) in
+    let l = some-left x job m (a .forced) (a .stack) b (c .before .before .before .before .before .before .before .before .before .before .before .monus .result) e s d (c .before .before .before .before .before .before .before .before .if1 .left) in
+    again-walks x job m s (a .forced) (b .nodes) (b .windows) some ms room uses cells l (c .before .before .before .before .before .before .restore .last .0) (c .before .before .before .before .before .before .restore .result) (c .before .before .before .before .before .before .restore .kept .0) (c .before .before .before .before .before .before .restore .ensures) (a .stack .limit) (a .budget) (c .before .before .walk2 .last .1 .1 .0) (c .before .before .walk2 .result) (d .limit) (c .before .before .walk2 .ensures)
 
 pub run-path-spec : {M : Type 1} → statement M
 run-path-spec =

@@ -13,7 +13,7 @@ use Rattle.machine.specs.Contracts.{meant}
 use Rattle.paths.specs.declared.Turned.the-variants as Turned
 use Rattle.paths.specs.Point.{stateAt}
 use Rattle.known_steps.proofs.Passing.{turns-nearer}
-use Rattle.walks.proofs.Marks.{kept-machine, kept-state}
+use Rattle.walks.proofs.Checkpoints.{kept-machine, kept-state}
 use Rattle.walks.proofs.Walking.{turned-as, spare, Reaches, begins-so, reaches-passed, reaches-kept, reaches-on, pays-none, pays-one, nearer, reaches-spent, reaches-end}
 use Rattle.walks.proofs.walk.Statement.{statement}
 use Rattle.walks.proofs.walk.Tie as tie
@@ -34,7 +34,7 @@ loop-holds : tie.Need-loop-holds Inv-loop μ-loop
 loop-holds c =
     let a = c .before .before .args in
     let x = codeIn (a .code .now) (a .size) in
-    (begins-so x (ofWindow (a .job)) (a .marks .limit) (a .budget) (machineAt (a .mem .now) (a .begins .run)) (stateAt (a .mem .now) (a .begins)) (a .mem .now) (a .begins) (a .marks) (c .before .before .pre .2) refl refl refl, refl)
+    (begins-so x (ofWindow (a .job)) (a .stack .limit) (a .budget) (machineAt (a .mem .now) (a .begins .run)) (stateAt (a .mem .now) (a .begins)) (a .mem .now) (a .begins) (a .stack) (c .before .before .pre .2) refl refl refl, refl)
 
 -- src/lib.rt:144:13
 pass-requires : tie.Need-pass-requires Inv-loop μ-loop
@@ -52,7 +52,7 @@ keep-requires c κs =
     let p = c .before .before .before .before .pass .result .point in
     let left = c .before .before .before .before .pass .result .left in
     let m = c .before .before .before .before .pass .last .1 .1 .0 in
-    let r = reaches-passed x job (a .marks .limit) (a .budget) y z (l .mem) m (l .p) p (l .s) (l .left) left (l .inv .0) (c .before .before .before .before .pass .ensures) in
+    let r = reaches-passed x job (a .stack .limit) (a .budget) y z (l .mem) m (l .p) p (l .s) (l .left) left (l .inv .0) (c .before .before .before .before .pass .ensures) in
     let h = spare x job m p (l .s) (r .stands) in
     (omega (arith, c .before .before .before .before .before .before .before .before .before .pre .0), c .before .before .before .before .before .before .before .before .before .pre .1, r .stands .going, h .0, h .1, h .2, h .3)
 
@@ -68,10 +68,10 @@ turn-requires c κs =
     let p = c .before .before .before .before .before .before .before .before .pass .result .point in
     let left = c .before .before .before .before .before .before .before .before .pass .result .left in
     let m = c .before .before .before .before .before .before .before .before .pass .last .1 .1 .0 in
-    let r = reaches-passed x job (a .marks .limit) (a .budget) y z (l .mem) m (l .p) p (l .s) (l .left) left (l .inv .0) (c .before .before .before .before .before .before .before .before .pass .ensures) in
+    let r = reaches-passed x job (a .stack .limit) (a .budget) y z (l .mem) m (l .p) p (l .s) (l .left) left (l .inv .0) (c .before .before .before .before .before .before .before .before .pass .ensures) in
     let m₁ = c .before .before .before .keep .last .1 .1 .0 in
     let k = c .before .before .before .keep .ensures in
-    let r₁ = reaches-kept x job (a .marks .limit) (a .budget) y z (a .size) m m₁ p (l .s) (c .before .before .before .keep .result) left (c .before .before .before .keep .kept .1 .1 .0) r k in
+    let r₁ = reaches-kept x job (a .stack .limit) (a .budget) y z (a .size) m m₁ p (l .s) (c .before .before .before .keep .result) left (c .before .before .before .keep .kept .1 .1 .0) r k in
     (c .before .before .before .before .before .before .before .before .before .before .before .before .before .pre .0, c .before .before .before .before .before .before .before .before .before .before .before .before .before .pre .1, r₁ .stands .going, c .before .before .before .before .before .before .before .before .before .before .before .before .before .pre .3)
 
 -- src/lib.rt:149:24
@@ -94,17 +94,17 @@ returns c =
     let p = c .before .before .before .before .before .before .before .before .before .before .before .before .before .before .before .before .pass .result .point in
     let left = c .before .before .before .before .before .before .before .before .before .before .before .before .before .before .before .before .pass .result .left in
     let m = c .before .before .before .before .before .before .before .before .before .before .before .before .before .before .before .before .pass .last .1 .1 .0 in
-    let r = reaches-passed x job (a .marks .limit) (a .budget) y z (l .mem) m (l .p) p (l .s) (l .left) left (l .inv .0) (c .before .before .before .before .before .before .before .before .before .before .before .before .before .before .before .before .pass .ensures) in
+    let r = reaches-passed x job (a .stack .limit) (a .budget) y z (l .mem) m (l .p) p (l .s) (l .left) left (l .inv .0) (c .before .before .before .before .before .before .before .before .before .before .before .before .before .before .before .before .pass .ensures) in
     let m₁ = c .before .before .before .before .before .before .before .before .before .before .before .keep .last .1 .1 .0 in
     let k = c .before .before .before .before .before .before .before .before .before .before .before .keep .ensures in
-    let r₁ = reaches-kept x job (a .marks .limit) (a .budget) y z (a .size) m m₁ p (l .s) (c .before .before .before .before .before .before .before .before .before .before .before .keep .result) left (c .before .before .before .before .before .before .before .before .before .before .before .keep .kept .1 .1 .0) r k in
+    let r₁ = reaches-kept x job (a .stack .limit) (a .budget) y z (a .size) m m₁ p (l .s) (c .before .before .before .before .before .before .before .before .before .before .before .keep .result) left (c .before .before .before .before .before .before .before .before .before .before .before .keep .kept .1 .1 .0) r k in
     let m′ = c .before .before .before .before .before .before .before .turn .last .1 .1 .0 in
     let here = turn inUse job x (machineAt m₁ (p .run)) (stateAt m₁ p) in
     let len = c .before .before .before .before .before .before .before .turn .kept .1 .1 .0 in
     let o = c .before .before .before .o .given .0 .0 in
     let q = c .before .before .before .o .given .0 .1 .0 in
     let g = turned-as here m′ p (c .before .before .before .before .before .before .before .turn .result) (Turned.On o q) (c .before .before .before .o .given .1) (c .before .before .before .before .before .before .before .turn .ensures .0) in
-    reaches-spent x job (a .marks .limit) (a .budget) y z m₁ m′ p (c .before .before .before .before .before .before .before .before .before .before .before .keep .result) left r₁ q o (g .0) (c .before .if1 .taken) (c .if2 .taken)
+    reaches-spent x job (a .stack .limit) (a .budget) y z m₁ m′ p (c .before .before .before .before .before .before .before .before .before .before .before .keep .result) left r₁ q o (g .0) (c .before .if1 .taken) (c .if2 .taken)
 
 -- src/lib.rt:154:21
 sub-left : tie.Need-sub-left Inv-loop μ-loop
@@ -122,10 +122,10 @@ loop-less c =
     let p = c .before .before .before .before .before .before .before .before .before .before .before .before .before .before .before .before .pass .result .point in
     let left = c .before .before .before .before .before .before .before .before .before .before .before .before .before .before .before .before .pass .result .left in
     let m = c .before .before .before .before .before .before .before .before .before .before .before .before .before .before .before .before .pass .last .1 .1 .0 in
-    let r = reaches-passed x job (a .marks .limit) (a .budget) y z (l .mem) m (l .p) p (l .s) (l .left) left (l .inv .0) (c .before .before .before .before .before .before .before .before .before .before .before .before .before .before .before .before .pass .ensures) in
+    let r = reaches-passed x job (a .stack .limit) (a .budget) y z (l .mem) m (l .p) p (l .s) (l .left) left (l .inv .0) (c .before .before .before .before .before .before .before .before .before .before .before .before .before .before .before .before .pass .ensures) in
     let m₁ = c .before .before .before .before .before .before .before .before .before .before .before .keep .last .1 .1 .0 in
     let k = c .before .before .before .before .before .before .before .before .before .before .before .keep .ensures in
-    let r₁ = reaches-kept x job (a .marks .limit) (a .budget) y z (a .size) m m₁ p (l .s) (c .before .before .before .before .before .before .before .before .before .before .before .keep .result) left (c .before .before .before .before .before .before .before .before .before .before .before .keep .kept .1 .1 .0) r k in
+    let r₁ = reaches-kept x job (a .stack .limit) (a .budget) y z (a .size) m m₁ p (l .s) (c .before .before .before .before .before .before .before .before .before .before .before .keep .result) left (c .before .before .before .before .before .before .before .before .before .before .before .keep .kept .1 .1 .0) r k in
     let m′ = c .before .before .before .before .before .before .before .turn .last .1 .1 .0 in
     let here = turn inUse job x (machineAt m₁ (p .run)) (stateAt m₁ p) in
     let len = c .before .before .before .before .before .before .before .turn .kept .1 .1 .0 in
@@ -134,7 +134,7 @@ loop-less c =
     let g = turned-as here m′ p (c .before .before .before .before .before .before .before .turn .result) (Turned.On o q) (c .before .before .before .o .given .1) (c .before .before .before .before .before .before .before .turn .ensures .0) in
     let deep = r .stands .going .ready .deep in
     let e : turns-left x (machineAt m₁ (p .run)) (stateAt m₁ p) ≡ turns-left x (machineAt m (p .run)) (stateAt m p) = ap₂ (turns-left x) (kept-machine (a .size) m m₁ p deep (l .s) (c .before .before .before .before .before .before .before .before .before .before .before .keep .result) k) (kept-state (a .size) m m₁ p deep (l .s) (c .before .before .before .before .before .before .before .before .before .before .before .keep .result) k) in
-    omega (arith, e, nearer x job (a .marks .limit) (a .budget) y z m₁ m′ p (c .before .before .before .before .before .before .before .before .before .before .before .keep .result) left r₁ q o (g .0), turns-nearer x (l .mem) (l .p) (l .inv .0 .stands .going) m p (c .before .before .before .before .before .before .before .before .before .before .before .before .before .before .before .before .pass .ensures .turns))
+    omega (arith, e, nearer x job (a .stack .limit) (a .budget) y z m₁ m′ p (c .before .before .before .before .before .before .before .before .before .before .before .keep .result) left r₁ q o (g .0), turns-nearer x (l .mem) (l .p) (l .inv .0 .stands .going) m p (c .before .before .before .before .before .before .before .before .before .before .before .before .before .before .before .before .pass .ensures .turns))
 
 -- src/lib.rt:143:5
 loop-again : tie.Need-loop-again Inv-loop μ-loop
@@ -148,17 +148,17 @@ loop-again c =
     let p = c .before .before .before .before .before .before .before .before .before .before .before .before .before .before .before .before .pass .result .point in
     let left = c .before .before .before .before .before .before .before .before .before .before .before .before .before .before .before .before .pass .result .left in
     let m = c .before .before .before .before .before .before .before .before .before .before .before .before .before .before .before .before .pass .last .1 .1 .0 in
-    let r = reaches-passed x job (a .marks .limit) (a .budget) y z (l .mem) m (l .p) p (l .s) (l .left) left (l .inv .0) (c .before .before .before .before .before .before .before .before .before .before .before .before .before .before .before .before .pass .ensures) in
+    let r = reaches-passed x job (a .stack .limit) (a .budget) y z (l .mem) m (l .p) p (l .s) (l .left) left (l .inv .0) (c .before .before .before .before .before .before .before .before .before .before .before .before .before .before .before .before .pass .ensures) in
     let m₁ = c .before .before .before .before .before .before .before .before .before .before .before .keep .last .1 .1 .0 in
     let k = c .before .before .before .before .before .before .before .before .before .before .before .keep .ensures in
-    let r₁ = reaches-kept x job (a .marks .limit) (a .budget) y z (a .size) m m₁ p (l .s) (c .before .before .before .before .before .before .before .before .before .before .before .keep .result) left (c .before .before .before .before .before .before .before .before .before .before .before .keep .kept .1 .1 .0) r k in
+    let r₁ = reaches-kept x job (a .stack .limit) (a .budget) y z (a .size) m m₁ p (l .s) (c .before .before .before .before .before .before .before .before .before .before .before .keep .result) left (c .before .before .before .before .before .before .before .before .before .before .before .keep .kept .1 .1 .0) r k in
     let m′ = c .before .before .before .before .before .before .before .turn .last .1 .1 .0 in
     let here = turn inUse job x (machineAt m₁ (p .run)) (stateAt m₁ p) in
     let len = c .before .before .before .before .before .before .before .turn .kept .1 .1 .0 in
     let o = c .before .before .before .o .given .0 .0 in
     let q = c .before .before .before .o .given .0 .1 .0 in
     let g = turned-as here m′ p (c .before .before .before .before .before .before .before .turn .result) (Turned.On o q) (c .before .before .before .o .given .1) (c .before .before .before .before .before .before .before .turn .ensures .0) in
-    (reaches-on x job (a .marks .limit) (a .budget) y z m₁ m′ p (c .before .before .before .before .before .before .before .before .before .before .before .keep .result) left r₁ q o (left - 1) (g .0) (g .1) (c .before .before .before .before .before .before .before .turn .ensures .1) len (omega (arith, r .rest)) (pays-one (a .budget) left o (c .before .if1 .taken) (omega (arith, c .if2 .left)) (r .rest)), len ∙ c .before .before .before .before .before .before .before .before .before .before .before .keep .kept .1 .1 .0 ∙ c .before .before .before .before .before .before .before .before .before .before .before .before .before .before .before .before .pass .kept .1 .1 .0 ∙ c .before .before .before .before .before .before .before .before .before .before .before .before .before .before .before .before .before .before .loop .inv .1)
+    (reaches-on x job (a .stack .limit) (a .budget) y z m₁ m′ p (c .before .before .before .before .before .before .before .before .before .before .before .keep .result) left r₁ q o (left - 1) (g .0) (g .1) (c .before .before .before .before .before .before .before .turn .ensures .1) len (omega (arith, r .rest)) (pays-one (a .budget) left o (c .before .if1 .taken) (omega (arith, c .if2 .left)) (r .rest)), len ∙ c .before .before .before .before .before .before .before .before .before .before .before .keep .kept .1 .1 .0 ∙ c .before .before .before .before .before .before .before .before .before .before .before .before .before .before .before .before .pass .kept .1 .1 .0 ∙ c .before .before .before .before .before .before .before .before .before .before .before .before .before .before .before .before .before .before .loop .inv .1)
 
 -- src/lib.rt:143:5
 loop-less-2 : tie.Need-loop-less-2 Inv-loop μ-loop
@@ -172,10 +172,10 @@ loop-less-2 c =
     let p = c .before .before .before .before .before .before .before .before .before .before .before .before .before .before .before .pass .result .point in
     let left = c .before .before .before .before .before .before .before .before .before .before .before .before .before .before .before .pass .result .left in
     let m = c .before .before .before .before .before .before .before .before .before .before .before .before .before .before .before .pass .last .1 .1 .0 in
-    let r = reaches-passed x job (a .marks .limit) (a .budget) y z (l .mem) m (l .p) p (l .s) (l .left) left (l .inv .0) (c .before .before .before .before .before .before .before .before .before .before .before .before .before .before .before .pass .ensures) in
+    let r = reaches-passed x job (a .stack .limit) (a .budget) y z (l .mem) m (l .p) p (l .s) (l .left) left (l .inv .0) (c .before .before .before .before .before .before .before .before .before .before .before .before .before .before .before .pass .ensures) in
     let m₁ = c .before .before .before .before .before .before .before .before .before .before .keep .last .1 .1 .0 in
     let k = c .before .before .before .before .before .before .before .before .before .before .keep .ensures in
-    let r₁ = reaches-kept x job (a .marks .limit) (a .budget) y z (a .size) m m₁ p (l .s) (c .before .before .before .before .before .before .before .before .before .before .keep .result) left (c .before .before .before .before .before .before .before .before .before .before .keep .kept .1 .1 .0) r k in
+    let r₁ = reaches-kept x job (a .stack .limit) (a .budget) y z (a .size) m m₁ p (l .s) (c .before .before .before .before .before .before .before .before .before .before .keep .result) left (c .before .before .before .before .before .before .before .before .before .before .keep .kept .1 .1 .0) r k in
     let m′ = c .before .before .before .before .before .before .turn .last .1 .1 .0 in
     let here = turn inUse job x (machineAt m₁ (p .run)) (stateAt m₁ p) in
     let len = c .before .before .before .before .before .before .turn .kept .1 .1 .0 in
@@ -184,7 +184,7 @@ loop-less-2 c =
     let g = turned-as here m′ p (c .before .before .before .before .before .before .turn .result) (Turned.On o q) (c .before .before .o .given .1) (c .before .before .before .before .before .before .turn .ensures .0) in
     let deep = r .stands .going .ready .deep in
     let e : turns-left x (machineAt m₁ (p .run)) (stateAt m₁ p) ≡ turns-left x (machineAt m (p .run)) (stateAt m p) = ap₂ (turns-left x) (kept-machine (a .size) m m₁ p deep (l .s) (c .before .before .before .before .before .before .before .before .before .before .keep .result) k) (kept-state (a .size) m m₁ p deep (l .s) (c .before .before .before .before .before .before .before .before .before .before .keep .result) k) in
-    omega (arith, e, nearer x job (a .marks .limit) (a .budget) y z m₁ m′ p (c .before .before .before .before .before .before .before .before .before .before .keep .result) left r₁ q o (g .0), turns-nearer x (l .mem) (l .p) (l .inv .0 .stands .going) m p (c .before .before .before .before .before .before .before .before .before .before .before .before .before .before .before .pass .ensures .turns))
+    omega (arith, e, nearer x job (a .stack .limit) (a .budget) y z m₁ m′ p (c .before .before .before .before .before .before .before .before .before .before .keep .result) left r₁ q o (g .0), turns-nearer x (l .mem) (l .p) (l .inv .0 .stands .going) m p (c .before .before .before .before .before .before .before .before .before .before .before .before .before .before .before .pass .ensures .turns))
 
 -- src/lib.rt:143:5
 loop-again-2 : tie.Need-loop-again-2 Inv-loop μ-loop
@@ -198,17 +198,17 @@ loop-again-2 c =
     let p = c .before .before .before .before .before .before .before .before .before .before .before .before .before .before .before .pass .result .point in
     let left = c .before .before .before .before .before .before .before .before .before .before .before .before .before .before .before .pass .result .left in
     let m = c .before .before .before .before .before .before .before .before .before .before .before .before .before .before .before .pass .last .1 .1 .0 in
-    let r = reaches-passed x job (a .marks .limit) (a .budget) y z (l .mem) m (l .p) p (l .s) (l .left) left (l .inv .0) (c .before .before .before .before .before .before .before .before .before .before .before .before .before .before .before .pass .ensures) in
+    let r = reaches-passed x job (a .stack .limit) (a .budget) y z (l .mem) m (l .p) p (l .s) (l .left) left (l .inv .0) (c .before .before .before .before .before .before .before .before .before .before .before .before .before .before .before .pass .ensures) in
     let m₁ = c .before .before .before .before .before .before .before .before .before .before .keep .last .1 .1 .0 in
     let k = c .before .before .before .before .before .before .before .before .before .before .keep .ensures in
-    let r₁ = reaches-kept x job (a .marks .limit) (a .budget) y z (a .size) m m₁ p (l .s) (c .before .before .before .before .before .before .before .before .before .before .keep .result) left (c .before .before .before .before .before .before .before .before .before .before .keep .kept .1 .1 .0) r k in
+    let r₁ = reaches-kept x job (a .stack .limit) (a .budget) y z (a .size) m m₁ p (l .s) (c .before .before .before .before .before .before .before .before .before .before .keep .result) left (c .before .before .before .before .before .before .before .before .before .before .keep .kept .1 .1 .0) r k in
     let m′ = c .before .before .before .before .before .before .turn .last .1 .1 .0 in
     let here = turn inUse job x (machineAt m₁ (p .run)) (stateAt m₁ p) in
     let len = c .before .before .before .before .before .before .turn .kept .1 .1 .0 in
     let o = c .before .before .o .given .0 .0 in
     let q = c .before .before .o .given .0 .1 .0 in
     let g = turned-as here m′ p (c .before .before .before .before .before .before .turn .result) (Turned.On o q) (c .before .before .o .given .1) (c .before .before .before .before .before .before .turn .ensures .0) in
-    (reaches-on x job (a .marks .limit) (a .budget) y z m₁ m′ p (c .before .before .before .before .before .before .before .before .before .before .keep .result) left r₁ q o left (g .0) (g .1) (c .before .before .before .before .before .before .turn .ensures .1) len (r .rest) (pays-none (a .budget) left o (c .if1 .left)), len ∙ c .before .before .before .before .before .before .before .before .before .before .keep .kept .1 .1 .0 ∙ c .before .before .before .before .before .before .before .before .before .before .before .before .before .before .before .pass .kept .1 .1 .0 ∙ c .before .before .before .before .before .before .before .before .before .before .before .before .before .before .before .before .before .loop .inv .1)
+    (reaches-on x job (a .stack .limit) (a .budget) y z m₁ m′ p (c .before .before .before .before .before .before .before .before .before .before .keep .result) left r₁ q o left (g .0) (g .1) (c .before .before .before .before .before .before .turn .ensures .1) len (r .rest) (pays-none (a .budget) left o (c .if1 .left)), len ∙ c .before .before .before .before .before .before .before .before .before .before .keep .kept .1 .1 .0 ∙ c .before .before .before .before .before .before .before .before .before .before .before .before .before .before .before .pass .kept .1 .1 .0 ∙ c .before .before .before .before .before .before .before .before .before .before .before .before .before .before .before .before .before .loop .inv .1)
 
 -- src/lib.rt:158:30
 enum-known-v : tie.Need-enum-known-v Inv-loop μ-loop
@@ -230,16 +230,16 @@ returns-2 c =
     let p = c .before .before .before .before .before .before .before .before .before .before .before .before .before .before .pass .result .point in
     let left = c .before .before .before .before .before .before .before .before .before .before .before .before .before .before .pass .result .left in
     let m = c .before .before .before .before .before .before .before .before .before .before .before .before .before .before .pass .last .1 .1 .0 in
-    let r = reaches-passed x job (a .marks .limit) (a .budget) y z (l .mem) m (l .p) p (l .s) (l .left) left (l .inv .0) (c .before .before .before .before .before .before .before .before .before .before .before .before .before .before .pass .ensures) in
+    let r = reaches-passed x job (a .stack .limit) (a .budget) y z (l .mem) m (l .p) p (l .s) (l .left) left (l .inv .0) (c .before .before .before .before .before .before .before .before .before .before .before .before .before .before .pass .ensures) in
     let m₁ = c .before .before .before .before .before .before .before .before .before .keep .last .1 .1 .0 in
     let k = c .before .before .before .before .before .before .before .before .before .keep .ensures in
-    let r₁ = reaches-kept x job (a .marks .limit) (a .budget) y z (a .size) m m₁ p (l .s) (c .before .before .before .before .before .before .before .before .before .keep .result) left (c .before .before .before .before .before .before .before .before .before .keep .kept .1 .1 .0) r k in
+    let r₁ = reaches-kept x job (a .stack .limit) (a .budget) y z (a .size) m m₁ p (l .s) (c .before .before .before .before .before .before .before .before .before .keep .result) left (c .before .before .before .before .before .before .before .before .before .keep .kept .1 .1 .0) r k in
     let m′ = c .before .before .before .before .before .turn .last .1 .1 .0 in
     let here = turn inUse job x (machineAt m₁ (p .run)) (stateAt m₁ p) in
     let len = c .before .before .before .before .before .turn .kept .1 .1 .0 in
     let v = c .before .v .given .0 .0 in
     let g = turned-as here m′ p (c .before .before .before .before .before .turn .result) (Turned.Returned v) (c .before .v .given .1) (c .before .before .before .before .before .turn .ensures .0) in
-    (reaches-end x job (a .marks .limit) (a .budget) y z m₁ m′ p (c .before .before .before .before .before .before .before .before .before .keep .result) left r₁ (returned (meant m′ (p .run .nodes) v)) (g .0 .stops) (c .before .before .before .before .before .turn .ensures .1) len, g .0 .usable)
+    (reaches-end x job (a .stack .limit) (a .budget) y z m₁ m′ p (c .before .before .before .before .before .before .before .before .before .keep .result) left r₁ (returned (meant m′ (p .run .nodes) v)) (g .0 .stops) (c .before .before .before .before .before .turn .ensures .1) len, g .0 .usable)
 
 -- src/lib.rt:159:31
 enum-told : tie.Need-enum-told Inv-loop μ-loop
@@ -261,15 +261,15 @@ returns-3 c =
     let p = c .before .before .before .before .before .before .before .before .before .before .before .before .before .pass .result .point in
     let left = c .before .before .before .before .before .before .before .before .before .before .before .before .before .pass .result .left in
     let m = c .before .before .before .before .before .before .before .before .before .before .before .before .before .pass .last .1 .1 .0 in
-    let r = reaches-passed x job (a .marks .limit) (a .budget) y z (l .mem) m (l .p) p (l .s) (l .left) left (l .inv .0) (c .before .before .before .before .before .before .before .before .before .before .before .before .before .pass .ensures) in
+    let r = reaches-passed x job (a .stack .limit) (a .budget) y z (l .mem) m (l .p) p (l .s) (l .left) left (l .inv .0) (c .before .before .before .before .before .before .before .before .before .before .before .before .before .pass .ensures) in
     let m₁ = c .before .before .before .before .before .before .before .before .keep .last .1 .1 .0 in
     let k = c .before .before .before .before .before .before .before .before .keep .ensures in
-    let r₁ = reaches-kept x job (a .marks .limit) (a .budget) y z (a .size) m m₁ p (l .s) (c .before .before .before .before .before .before .before .before .keep .result) left (c .before .before .before .before .before .before .before .before .keep .kept .1 .1 .0) r k in
+    let r₁ = reaches-kept x job (a .stack .limit) (a .budget) y z (a .size) m m₁ p (l .s) (c .before .before .before .before .before .before .before .before .keep .result) left (c .before .before .before .before .before .before .before .before .keep .kept .1 .1 .0) r k in
     let m′ = c .before .before .before .before .turn .last .1 .1 .0 in
     let here = turn inUse job x (machineAt m₁ (p .run)) (stateAt m₁ p) in
     let len = c .before .before .before .before .turn .kept .1 .1 .0 in
     let g = turned-as here m′ p (c .before .before .before .before .turn .result) Turned.Failed (c .enum-told .given .1) (c .before .before .before .before .turn .ensures .0) in
-    reaches-end x job (a .marks .limit) (a .budget) y z m₁ m′ p (c .before .before .before .before .before .before .before .before .keep .result) left r₁ failed (g .0) (c .before .before .before .before .turn .ensures .1) len
+    reaches-end x job (a .stack .limit) (a .budget) y z m₁ m′ p (c .before .before .before .before .before .before .before .before .keep .result) left r₁ failed (g .0) (c .before .before .before .before .turn .ensures .1) len
 
 -- src/lib.rt:160:28
 enum-told-2 : tie.Need-enum-told-2 Inv-loop μ-loop
@@ -291,15 +291,15 @@ returns-4 c =
     let p = c .before .before .before .before .before .before .before .before .before .before .before .before .before .pass .result .point in
     let left = c .before .before .before .before .before .before .before .before .before .before .before .before .before .pass .result .left in
     let m = c .before .before .before .before .before .before .before .before .before .before .before .before .before .pass .last .1 .1 .0 in
-    let r = reaches-passed x job (a .marks .limit) (a .budget) y z (l .mem) m (l .p) p (l .s) (l .left) left (l .inv .0) (c .before .before .before .before .before .before .before .before .before .before .before .before .before .pass .ensures) in
+    let r = reaches-passed x job (a .stack .limit) (a .budget) y z (l .mem) m (l .p) p (l .s) (l .left) left (l .inv .0) (c .before .before .before .before .before .before .before .before .before .before .before .before .before .pass .ensures) in
     let m₁ = c .before .before .before .before .before .before .before .before .keep .last .1 .1 .0 in
     let k = c .before .before .before .before .before .before .before .before .keep .ensures in
-    let r₁ = reaches-kept x job (a .marks .limit) (a .budget) y z (a .size) m m₁ p (l .s) (c .before .before .before .before .before .before .before .before .keep .result) left (c .before .before .before .before .before .before .before .before .keep .kept .1 .1 .0) r k in
+    let r₁ = reaches-kept x job (a .stack .limit) (a .budget) y z (a .size) m m₁ p (l .s) (c .before .before .before .before .before .before .before .before .keep .result) left (c .before .before .before .before .before .before .before .before .keep .kept .1 .1 .0) r k in
     let m′ = c .before .before .before .before .turn .last .1 .1 .0 in
     let here = turn inUse job x (machineAt m₁ (p .run)) (stateAt m₁ p) in
     let len = c .before .before .before .before .turn .kept .1 .1 .0 in
     let g = turned-as here m′ p (c .before .before .before .before .turn .result) Turned.Cut (c .enum-told2 .given .1) (c .before .before .before .before .turn .ensures .0) in
-    reaches-end x job (a .marks .limit) (a .budget) y z m₁ m′ p (c .before .before .before .before .before .before .before .before .keep .result) left r₁ cut (g .0) (c .before .before .before .before .turn .ensures .1) len
+    reaches-end x job (a .stack .limit) (a .budget) y z m₁ m′ p (c .before .before .before .before .before .before .before .before .keep .result) left r₁ cut (g .0) (c .before .before .before .before .turn .ensures .1) len
 
 pub walk-spec : {M : Type 1} → statement M
 walk-spec =

@@ -21,7 +21,7 @@ abbrev pub ComesTo : Code → Window → ℕ → List ℕ → Point → Type 0
 ComesTo c job limit m p = Comes inUse job c limit (machineAt m (p .run)) (stateAt m p)
 
 -- A checkpoint from mark w on: a path comes to what stood there. If at most `upto` choices were made there, its nodes, tests, outcomes and starting pairs still stand.
-pub record Mark (c : Code) (job : Window) (limit cells : ℕ) (m : List ℕ) (upto : ℕ) (p : Point) (w : ℕ) : Type 0 where
+pub record Checkpoint (c : Code) (job : Window) (limit cells : ℕ) (m : List ℕ) (upto : ℕ) (p : Point) (w : ℕ) : Type 0 where
   pub before : List ℕ
   pub saved : Saved cells m before p w
   pub comes : ComesTo c job limit before p
@@ -29,14 +29,14 @@ pub record Mark (c : Code) (job : Window) (limit cells : ℕ) (m : List ℕ) (up
   pub agrees : p .choices ≤ upto → Agrees m before p
 
 -- The checkpoints up to mark w; they have no more marks than steps may be made. Each has at most n nodes, t choices and u windows, and no fewer than the one before it.
-pub data Marks (c : Code) (job : Window) (limit cells : ℕ) (m : List ℕ) (upto : ℕ) : (n t u w : ℕ) → Type 0 where
-  none : {n t u w : ℕ} → w ≡ 0 → Marks c job limit cells m upto n t u w
-  mark : {n t u w : ℕ} (p : Point) (v : ℕ) → Marks c job limit cells m upto (p .run .nodes) (p .choices) (p .windows) v → Mark c job limit cells m upto p v → p .run .nodes ≤ n → p .choices ≤ t → p .windows ≤ u
-      → w ≤ limit → w ≡ v + sizeOf cells p → Marks c job limit cells m upto n t u w
+pub data Checkpoints (c : Code) (job : Window) (limit cells : ℕ) (m : List ℕ) (upto : ℕ) : (n t u w : ℕ) → Type 0 where
+  none : {n t u w : ℕ} → w ≡ 0 → Checkpoints c job limit cells m upto n t u w
+  more : {n t u w : ℕ} (p : Point) (v : ℕ) → Checkpoints c job limit cells m upto (p .run .nodes) (p .choices) (p .windows) v → Checkpoint c job limit cells m upto p v → p .run .nodes ≤ n → p .choices ≤ t → p .windows ≤ u
+      → w ≤ limit → w ≡ v + sizeOf cells p → Checkpoints c job limit cells m upto n t u w
 
 -- those of a stack, a memory that has room for them and for the tables of a path, and cells that are all that the code uses
 pub record Stacked (c : Code) (job : Window) (m : List ℕ) (upto n t u : ℕ) (s : Stack) : Type 0 where
-  pub marks : Marks c job (s .limit) (s .cells) m upto n t u (s .height)
+  pub checkpoints : Checkpoints c job (s .limit) (s .cells) m upto n t u (s .height)
   pub room : Room m (s .limit + 1)
   pub uses : Uses c (s .cells)
   pub cells : s .cells ≤ frameCells
@@ -47,7 +47,7 @@ pub record Stacked (c : Code) (job : Window) (m : List ℕ) (upto n t u : ℕ) (
 pub record Due (size : ℕ) (p : Point) (s : Stack) : Type 0 where
   pub unforced : p .forced ≡ 0
   pub entry : p .run .pc < size
-  pub paid : 3 * (s .height + sizeOf (s .cells) p) + 2 * p .steps ≤ 3 * s .limit
+  pub fits : 3 * (s .height + sizeOf (s .cells) p) + 2 * p .steps ≤ 3 * s .limit
 
 abbrev pub added : Stack → Point → Stack
 added s p = record { height = s .height + sizeOf (s .cells) p; limit = s .limit; cells = s .cells }
@@ -61,7 +61,7 @@ pub data Keeping (size : ℕ) (m m′ : List ℕ) (p : Point) (s r : Stack) : Ty
 
 -- of all checkpoints those with at most i choices are left
 pub record Dropped (m : List ℕ) (s : Stack) (i : ℕ) (r : Stack) : Type 0 where
-  pub is : (c : Code) (job : Window) (upto n t u : ℕ) → Marks c job (s .limit) (s .cells) m upto n t u (s .height) → Marks c job (s .limit) (s .cells) m upto n i u (r .height)
+  pub is : (c : Code) (job : Window) (upto n t u : ℕ) → Checkpoints c job (s .limit) (s .cells) m upto n t u (s .height) → Checkpoints c job (s .limit) (s .cells) m upto n i u (r .height)
   pub limit : r .limit ≡ s .limit
   pub cells : r .cells ≡ s .cells
   pub fewer : r .height ≤ s .height

@@ -21,7 +21,7 @@ use Rattle.checkpoints.specs.Live.{sizeOf, Small, Marking}
 use Rattle.checkpoints.specs.Words.{Sized, Saved, Agrees}
 use Rattle.checkpoints.proofs.Beside.{off, machinery-is, state-is, going-is, saved-stays}
 use Rattle.walks.specs.declared.Stack.{Stack}
-use Rattle.walks.specs.Marks.{ComesTo, Mark, Marks, none, mark, Stacked, Due, added, Keeping, passed, kept}
+use Rattle.walks.specs.Checkpoints.{ComesTo, Checkpoint, Checkpoints, none, more, Stacked, Due, added, Keeping, passed, kept}
 use Rattle.walks.specs.Walk.{Stands}
 
 -- the numbers of a point fit into words
@@ -50,17 +50,17 @@ pub alike-stays : {m m′ : List ℕ} {n d : ℕ} (u w : ℕ) → length m′ �
 alike-stays u w e h s = record { marks = λ i x l a b. s .marks x i a b; nodes = s .nodes; tests = s .tests; starts = h; len = e }
 
 module _ (c : Code) (job : Window) (limit cells : ℕ) where
-  pub marks-paid : {m : List ℕ} {upto n t u w : ℕ} → Marks c job limit cells m upto n t u w → w ≤ limit
-  marks-paid (none a) = omega arith
-  marks-paid (mark p v ms k a b g pay e) = pay
+  pub checkpoints-fit : {m : List ℕ} {upto n t u w : ℕ} → Checkpoints c job limit cells m upto n t u w → w ≤ limit
+  checkpoints-fit (none a) = omega arith
+  checkpoints-fit (more p v ms k a b g fit e) = fit
 
   -- of the checkpoints with at most upto′ choices, what stood there stood still, and d tests and outcomes have stayed
-  pub marks-stay : (m m′ : List ℕ) (upto upto′ d : ℕ) {n t u w : ℕ} (n′ t′ u′ : ℕ) → ((x : ℕ) → x ≤ t → x ≤ upto′ → (x ≤ upto) × (x ≤ d)) → Alike m m′ n d u w → n ≤ n′ → t ≤ t′ → u ≤ u′
-      → Marks c job limit cells m upto n t u w → Marks c job limit cells m′ upto′ n′ t′ u′ w
-  marks-stay m m′ upto upto′ d n′ t′ u′ h a l g f (none e) = none e
-  marks-stay m m′ upto upto′ d n′ t′ u′ h a l g f (mark p v ms k x y z pay e) =
-      mark {n = n′} {t = t′} {u = u′} p v
-      (marks-stay m m′ upto upto′ d (p .run .nodes) (p .choices) (p .windows) (λ i q r. h i (omega arith) r)
+  pub checkpoints-stay : (m m′ : List ℕ) (upto upto′ d : ℕ) {n t u w : ℕ} (n′ t′ u′ : ℕ) → ((x : ℕ) → x ≤ t → x ≤ upto′ → (x ≤ upto) × (x ≤ d)) → Alike m m′ n d u w → n ≤ n′ → t ≤ t′ → u ≤ u′
+      → Checkpoints c job limit cells m upto n t u w → Checkpoints c job limit cells m′ upto′ n′ t′ u′ w
+  checkpoints-stay m m′ upto upto′ d n′ t′ u′ h a l g f (none e) = none e
+  checkpoints-stay m m′ upto upto′ d n′ t′ u′ h a l g f (more p v ms k x y z fit e) =
+      more {n = n′} {t = t′} {u = u′} p v
+      (checkpoints-stay m m′ upto upto′ d (p .run .nodes) (p .choices) (p .windows) (λ i q r. h i (omega arith) r)
       (record { marks = λ i b q. a .marks i b (omega arith); nodes = λ b j i. a .nodes b j (omega arith); tests = a .tests; starts = λ b q. a .starts b (omega arith); len = a .len }) (omega arith) (omega arith) (omega arith) ms)
       (record {
         before = k .before;
@@ -76,7 +76,7 @@ module _ (c : Code) (job : Window) (limit cells : ℕ) where
               starts = a .starts (p .windows) z ∙ o .starts;
             };
       })
-      (omega arith) (omega arith) (omega arith) pay e
+      (omega arith) (omega arith) (omega arith) fit e
 
 -- ---- one more, if it is due
 
@@ -100,8 +100,8 @@ kept-stands c job size m m′ p s r len h (kept due saved k f) = subst (Stands c
   few = h .few;
   comes = comes-same;
   stacked = record {
-    marks = mark p (s .height)
-        (marks-stay c job (s .limit) (s .cells) m m′ (p .choices) (p .choices) (p .choices) (p .run .nodes) (p .choices) (p .windows) (λ x l g. (l, l)) alike (omega arith) (omega arith) (omega arith) (h .stacked .marks))
+    checkpoints = more p (s .height)
+        (checkpoints-stay c job (s .limit) (s .cells) m m′ (p .choices) (p .choices) (p .choices) (p .run .nodes) (p .choices) (p .windows) (λ x l g. (l, l)) alike (omega arith) (omega arith) (omega arith) (h .stacked .checkpoints))
         (record {
           before = m;
           saved = saved;
@@ -113,7 +113,7 @@ kept-stands c job size m m′ p s r len h (kept due saved k f) = subst (Stands c
             starts = starts-are (p .windows);
           };
         })
-        (omega arith) (omega arith) (omega arith) (omega (arith, due .paid)) refl;
+        (omega arith) (omega arith) (omega arith) (omega (arith, due .fits)) refl;
     room = room-same len (h .stacked .room);
     uses = h .stacked .uses;
     cells = h .stacked .cells;
