@@ -114,13 +114,11 @@ fn deep() -> Timed {
 
 /// 150 known steps, then eight choices on which windows narrow.
 fn known_before() -> Timed {
-    Timed { name: "150 known steps, then eight choices", ..grown(150, "") }
+    Timed { name: "150 known steps, then eight choices", ..names(150) }
 }
 
 /// So many known steps, then eight choices, which are taken back 255 times.
-fn grown(known: usize, name: &'static str) -> Timed {
-    let frees = frees(8);
-    let choices = each(8, |n| format!("if (v{n} > 0) ; else ; "));
+fn grown(name: &'static str, known: usize, frees: &str, choices: &str) -> Timed {
     // A turn makes four steps.
     let body = format!(
         "{frees}int i; i = 0; while (i < {}) i = i + 1; {}{choices} return i;",
@@ -130,15 +128,32 @@ fn grown(known: usize, name: &'static str) -> Timed {
     timed(name, main_with(&body), Job { skip: u32::MAX, ..job(0, 1, 1_000) })
 }
 
+/// Each choice between a name and a number.
+fn names(known: usize) -> Timed {
+    let choices = each(8, |n| format!("if (v{n} > 0) ; else ; "));
+    grown("names and numbers", known, &frees(8), &choices)
+}
+
+/// Each choice between two results of operations, the right one of which is
+/// known: the left one is not the newest temporary.
+fn results(known: usize) -> Timed {
+    let choices = "if (v0 + v0 > i * 0) ; else ; ".repeat(8);
+    grown("two results, the right one known", known, &frees(1), &choices)
+}
+
 /// The steps of a path of `grown` that are not known ones before the choices:
-/// of main, nine declarations, `i = 0`, the loop with its first test, eight
-/// choices of three steps and the return.
-const AROUND: usize = 1 + 9 + 1 + 2 + 24 + 1;
+/// of main, the declarations, `i = 0`, the loop with its first test, eight
+/// choices and the return.
+fn around(declarations: usize, choice: usize) -> usize {
+    1 + declarations + 1 + 2 + 8 * choice + 1
+}
 
 /// Paths of 100, 200, 400 and 800 steps with eight choices at their end.
 pub fn growth() -> Vec<(usize, Timed)> {
-    let of = |length| (length, grown(length - AROUND, "growth"));
-    [100, 200, 400, 800].map(of).into()
+    let of_names = |length| (length, names(length - around(9, 3)));
+    let of_results = |length| (length, results(length - around(2, 5)));
+    let lengths = [100, 200, 400, 800];
+    lengths.map(of_names).into_iter().chain(lengths.map(of_results)).collect()
 }
 
 /// One free number, doubled again and again, then a test that few settings

@@ -11,7 +11,9 @@
 //!   budget of 0, which checks and compiles the text and zeroes scratch too.
 //! - The same on chains `x = x + x` of growing length: a shared expression
 //!   must not cost what it would cost unfolded.
-//! - What a taking back costs, as the path before it grows.
+//! - What a taking back costs, as the path before it grows: of choices between
+//!   a name and a number, and between two results, the right one of which is
+//!   known.
 //!
 //! The lent buffers are made once and not cleared between calls.
 
@@ -145,15 +147,15 @@ fn lists(Timed { name, text, job }: &Timed) {
 
 /// The time of the whole search less that of its first path, for each choice
 /// that is taken back.
-fn takings_back(length: usize, Timed { text, job, .. }: &Timed) {
+fn takings_back(length: usize, Timed { name, text, job }: &Timed) {
     const TAKEN: u32 = 255;
     let text = text.as_bytes();
-    // The path's steps, and its one setting.
+    // The path's steps, and a setting.
     let first = Job { budget: length as u32 + 1, ..*job };
-    let whole = agree("growth", text, job);
-    let exact = agree("growth", text, &Job { steps: length as u32, ..*job });
+    let whole = agree(name, text, job);
+    let exact = agree(name, text, &Job { steps: length as u32, ..*job });
     assert_eq!(exact, whole, "no path has more than {length} steps");
-    assert_eq!(agree("growth", text, &first).moves, first.budget);
+    assert_eq!(agree(name, text, &first).moves, first.budget);
     let each = |whole: Duration, first: Duration| {
         (whole.saturating_sub(first) / TAKEN).as_secs_f64() * 1e9
     };
@@ -161,7 +163,7 @@ fn takings_back(length: usize, Timed { text, job, .. }: &Timed) {
     let [quick_whole, quick_first] = quick.each_mut();
     if !linked::LISTS {
         let [whole, first] = best([quick_whole, quick_first]);
-        println!("  {length} steps: quick {:.0}", each(whole, first));
+        println!("  {name}, {length} steps: quick {:.0}", each(whole, first));
         return;
     }
     let mut proved = [job, &first].map(|job| proved_list(text, job));
@@ -169,7 +171,7 @@ fn takings_back(length: usize, Timed { text, job, .. }: &Timed) {
     let times = best([proved_whole, proved_first, quick_whole, quick_first]);
     let [whole, first, quick_whole, quick_first] = times;
     println!(
-        "  {length} steps: proved {:.0}, quick {:.0}",
+        "  {name}, {length} steps: proved {:.0}, quick {:.0}",
         each(whole, first),
         each(quick_whole, quick_first)
     );
