@@ -81,7 +81,7 @@ fn save_pairs(mem: &mut [u32], p: Point, cells: usize, w: usize)
 }
 
 // Nine numbers are written at the marks from w on.
-fn put_numbers(mem: &mut [u32], h: [u32; 9], w: usize)
+fn put_numbers(mem: &mut [u32], h: [u32; NUMBERS], w: usize)
     requires { ⌜ Room (now mem) (w + numberCount) ⌝ }
     ensures { λ _. ⌜ Numbered (now (mem .entry)) (now (mem .exit)) h w numberCount ⌝ }
 {
@@ -100,7 +100,7 @@ fn bit(o: bool) -> u32
 }
 
 // The numbers of a point, in a row.
-fn numbers_of(p: Point) -> [u32; 9]
+fn numbers_of(p: Point) -> [u32; NUMBERS]
     requires { ⌜ Sized p ⌝ }
     ensures { λ r. ⌜ r ≡ numbersOf p ⌝ }
 {

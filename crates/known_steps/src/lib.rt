@@ -82,8 +82,8 @@ fn take(code: &[u32], size: usize, mem: &[u32], run: Run, j: usize) -> Operand
     if size < j {
         return pop(mem, run);
     }
-    let k = code[2 * (j - 1)];
-    let w = code[2 * (j - 1) + 1];
+    let k = code[entry::WORDS * (j - 1)];
+    let w = code[entry::WORDS * (j - 1) + entry::NUMBER_WORD];
     if k == entry::NUMBER {
         return Operand {
             kind: 0,
@@ -362,14 +362,14 @@ fn one(code: &[u32], size: usize, mem: &mut [u32], p: Point, floor: usize) -> Ne
     if size <= run.pc {
         return stop(p);
     }
-    let kind = code[2 * run.pc];
+    let kind = code[entry::WORDS * run.pc];
     if kind < entry::NUMBER {
         return stop(p);
     }
     if kind < entry::ADD {
         return silent(p, moved(run, run.pc + 1));
     }
-    let w = code[2 * run.pc + 1] as usize;
+    let w = code[entry::WORDS * run.pc + entry::NUMBER_WORD] as usize;
     if entry::COMPARE_LAST < kind {
         return act(code, size, mem, p, floor, kind, w);
     }

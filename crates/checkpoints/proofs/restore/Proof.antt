@@ -48,7 +48,8 @@ all-ranges-requires : tie.Need-all-ranges-requires
 all-ranges-requires c κs =
     let a = c .before .before .before .before .before .before .before .before .before .before .args in
     let r = reaches-so (a .cells) (a .mem .now) (a .w) (c .before .before .before .before .before .before .before .point-at .result) (c .before .before .before .before .before .before .before .before .before .before .pre .1) (c .before .before .before .before .before .before .before .point-at .ensures .0) (c .before .before .before .before .before .before .before .before .before .before .pre .0) in
-    ranges-asked (a .cells) (a .mem .now) (a .w) (c .before .before .before .before .before .before .before .point-at .result) (c .before .before .before .before .before .before .before .before .before .before .pre .1) (c .before .before .before .before .before .before .before .point-at .ensures .0) (c .before .before .before .restore-pairs .last .0) (a .w - c .before .before .before .before .before .size-of .result) (c .before .before .before .restore-pairs .ensures) (omega (arith, c .before .before .before .before .before .size-of .ensures, r .1)) (c .before .before .before .restore-pairs .kept .0) (c .before .before .before .before .before .before .before .before .before .before .pre .0)
+    let q = ranges-asked (a .cells) (a .mem .now) (a .w) (c .before .before .before .before .before .before .before .point-at .result) (c .before .before .before .before .before .before .before .before .before .before .pre .1) (c .before .before .before .before .before .before .before .point-at .ensures .0) (c .before .before .before .restore-pairs .last .0) (a .w - c .before .before .before .before .before .size-of .result) (c .before .before .before .restore-pairs .ensures) (omega (arith, c .before .before .before .before .before .size-of .ensures, r .1)) (c .before .before .before .restore-pairs .kept .0) (c .before .before .before .before .before .before .before .before .before .before .pre .0) in
+    (q .0, room-less _ (omega arith) (q .1), q .2)
 
 -- src/lib.rt:258:14
 monus-requires : tie.Need-monus-requires

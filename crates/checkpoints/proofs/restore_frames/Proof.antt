@@ -37,7 +37,7 @@ restore-row-requires : tie.Need-restore-row-requires Inv-loop μ-loop
 restore-row-requires c κs =
     let a = c .before .before .before .before .args in
     let v = c .before .before .loop .inv in (
-      low-row {m = c .before .before .loop .mem} (omega (arith, v .3, c .before .before .before .before .pre .2)) (framePlace (c .before .before .loop .j + 1)) (a .cells) (omega (arith, c .before .before .before .before .pre .0, c .before .before .before .before .pre .1, c .before .loop-test .taken)),
+      low-row {m = c .before .before .loop .mem} (omega (arith, v .3, c .before .before .before .before .pre .2)) _ (a .cells) (omega (arith, c .before .before .before .before .pre .0, c .before .before .before .before .pre .1, c .before .loop-test .taken)),
       room-less _ (omega (arith, v .2, times-on (a .cells) (c .before .before .loop .j) (a .d) (c .before .loop-test .taken))) (room-same {m = a .mem .now} (v .3) (c .before .before .before .before .pre .3)),
     )
 
