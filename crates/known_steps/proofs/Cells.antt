@@ -18,6 +18,11 @@ pub cell-as : (k x : ℕ) → cellOf (valueAs k x) ≡ cellAs k x
 cell-as zero x = refl
 cell-as (suc k) x = refl
 
+-- whichever word says that a cell is open
+pub open-as : (k x : ℕ) → (k ≡ 0 → ⊥) → cellAs 1 x ≡ cellAs k x
+open-as zero x n = absurd (n refl)
+open-as (suc k) x n = refl
+
 pub sized-as : (k x : ℕ) → x < 4294967296 → Sized (valueAs k x)
 sized-as zero x l = sfits-toZ {w = w32} {n = x} (record { fits = l })
 sized-as (suc k) x l = l

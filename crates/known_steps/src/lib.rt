@@ -1,7 +1,7 @@
 // Turns that choose nothing and add no node, in a loop of their own: values stay words, and nothing but the point goes from turn to turn.
 ghost use mathlib.Core.Path.{_≡_};
 ghost use mathlib.Core.Bool.{true};
-ghost use Prim.Native.Nat.{_+_, _-_, _*_, _<_, _≤_, suc};
+ghost use Prim.Native.Nat.{ℕ, _+_, _-_, _*_, _<_, _≤_, suc};
 ghost use lib.ListN.{length, getD};
 ghost use mir.Syntax.{w32};
 ghost use mir.Val.{toZ};
@@ -140,6 +140,13 @@ fn put(mem: &mut [u32], at: usize, kind: u32, word: u32)
 {
     mem[at] = kind;
     mem[at + 1] = word;
+}
+
+// The first word of a cell, as it is written here: 0, or 1 if the cell is open. Two words that were just written each by itself are slow to read as one, and so they are copied one by one.
+fn first_word(kind: u32) -> u32
+    ensures { λ r. ⌜ ((x : ℕ) → cellAs r x ≡ cellAs kind x) ⌝ }
+{
+    if kind == 0 { 0 } else { 1 }
 }
 
 // The operation with this number, on words.
@@ -300,7 +307,7 @@ fn store(code: &[u32], size: usize, mem: &mut [u32], p: Point, floor: usize, w: 
     put(
         mem,
         layout::FRAME * run.depth + layout::CELL * (w % layout::CELLS),
-        t.kind,
+        first_word(t.kind),
         t.word,
     );
     silent(

@@ -386,19 +386,19 @@ fn test_end(mem: &[u32], j: usize) -> usize
     )
 }
 
-// Where the nodes, of n, end on which the tests rest. Once that is the end of all, no further test is looked at: a path may have made hundreds.
+// Where the nodes, of n, end on which the tests rest, from the newest test back. Once that is the end of all, no further test is looked at: a path may have made hundreds, and its newest ones rest on its newest nodes.
 fn tests_end(mem: &[u32], n: usize, tests: usize) -> usize
     requires { ⌜ Room (now mem) tests ⌝ }
     ensures { λ r. ⌜ Front (now (mem .entry)) n tests r ⌝ }
 {
     let mut end: usize = 0;
-    let mut j: usize = 0;
-    while j < tests {
+    let mut j = tests;
+    while 0 < j {
+        j -= 1;
         end = larger(end, test_end(mem, j));
         if n <= end {
             return n;
         }
-        j += 1;
     }
     end
 }
