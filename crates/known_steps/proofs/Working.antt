@@ -17,11 +17,11 @@ use Rattle.simulation.specs.Nodes.{Cell}
 use Rattle.simulation.specs.Words.{codeIn}
 use Rattle.ints.specs.Numbers.{operation, comparison}
 use Rattle.machine.specs.Layout.{variablePlace, tempPlace}
-use Rattle.machine.specs.Memory.{cellAs}
+use Rattle.machine.specs.Memory.{cellAs, cellAt}
 use Rattle.machine.specs.Contracts.{Put, Taking, Paired, Tested, acts, flagged}
 use Rattle.machine.specs.declared.Value.the-variants.{Known}
 use Rattle.machine.specs.declared.Run.{Run}
-use Rattle.machine.proofs.Operands.{worked-both}
+use Rattle.machine.proofs.Operands.{worked-both, popped-one, taking-other}
 use Rattle.machine.proofs.Tables.{room-less}
 use Rattle.machine.proofs.Moves.{operated, stored}
 use Rattle.machine.proofs.Entries.{goes-from, adv-op, adv-cmp, adv-store}
@@ -29,8 +29,9 @@ use Rattle.paths.specs.declared.Point.{Point}
 use Rattle.paths.specs.Point.{Going, running}
 use Rattle.paths.specs.Turn.{spending}
 use Rattle.known_steps.specs.Cells.{valueAs}
-use Rattle.known_steps.specs.Turns.{Made}
-use Rattle.known_steps.proofs.Cells.{cell-as}
+use Rattle.known_steps.specs.declared.Next.{Next}
+use Rattle.known_steps.specs.Turns.{Made, Result, made}
+use Rattle.known_steps.proofs.Cells.{cell-as, sized-as}
 use Rattle.known_steps.proofs.Making.{silent-made, step-made, test-made}
 
 -- ---- operations and comparisons of words are those of the numbers they stand for
@@ -77,3 +78,28 @@ module _ (ws : List ℕ) (size : ℕ) (m : List ℕ) (p : Point) (g : Going m p)
   store-made e k x t taken m′ len put = silent-made c m p g m′ (next (p .run .flag) t) len
       (goes-from (ap (λ (w : ℕ). acts c m (p .run) (Act.store (slot (w % 16)))) w-is ∙ adv-store ws size m (p .run) inside (sym k-is ∙ e))
       (stored ws size m m′ (p .run) (w % 16) (valueAs k x) t (g .ready) (omega arith) len taken (subst (Put m m′ (variablePlace (p .run .depth) (w % 16))) (sym (cell-as k x)) put)))
+
+  -- the assignment behind an operation, whose value is the newest temporary
+  pub result-made : kind ≡ 22 → (v : ℕ) → v < 4294967296 → Result ws m p v → (m′ : List ℕ) → length m′ ≡ length m → Put m m′ (variablePlace (p .run .depth) (w % 16)) (cellAs 0 v)
+      → Made c m m′ p (running p (next (p .run .flag) (p .run .top - 1)))
+  result-made e v f r m′ len put = store-made e 0 v (p .run .top - 1)
+      (taking-other ws size m (p .run) (p .run .pc) (getD ws (2 * (p .run .pc - 1)) 0) (getD ws (2 * (p .run .pc - 1) + 1) 0) (λ q. omega (arith, r .behind)) (λ q. omega arith) refl refl (valueAs 0 v) (p .run .top - 1) (λ q. omega (arith, r .operation)) (λ q. omega (arith, r .operation))
+      (popped-one m (p .run) (valueAs 0 v) (g .ready) (λ q. omega (arith, r .some)) (record { is = sym (r .cell); sized = sized-as 0 v f }))) m′ len put
+
+-- an operation, and what it leaves for the assignment behind it
+module _ (ws : List ℕ) (size : ℕ) (m : List ℕ) (p : Point) (g : Going m p) (inside : p .run .pc < size) (kind w : ℕ) (k-is : kind ≡ getD ws (2 * p .run .pc) 0) (w-is : w ≡ getD ws (2 * p .run .pc + 1) 0)
+    (l : 1 ≤ p .steps) (x y t : ℕ) (pair : Paired (codeIn ws size) m (p .run) w (Known (toZ w32 x)) (Known (toZ w32 y)) t)
+    (a : 4 ≤ kind) (b : kind < 7) (v : ℕ) (f : v < 4294967296) (e : toZ w32 v ≡ int.arith (operation (kind - 4)) (toZ w32 x) (toZ w32 y)) (m′ : List ℕ) (len : length m′ ≡ length m) (put : Put m m′ (tempPlace t) (cellAs 0 v)) where
+  abbrev after : Point
+  after = spending p (record { pc = p .run .pc + 1; flag = p .run .flag; base = p .run .base; top = t + 1; depth = p .run .depth; nodes = p .run .nodes })
+
+  left : Result ws m′ after v
+  left = record {
+    some = omega (arith, pair .low);
+    behind = omega arith;
+    operation = subst (λ (i : ℕ). 4 ≤ getD ws (2 * i) 0) {x = p .run .pc} {y = p .run .pc + 1 - 1} (omega arith) (omega (arith, k-is));
+    cell = subst (λ (i : ℕ). cellAt m′ (tempPlace i) ≡ cellAs 0 v) {x = t} {y = t + 1 - 1} (omega arith) (put .cell);
+  }
+
+  pub op-left : (n : Next) → n ≡ made after → Made (codeIn ws size) m m′ p (n .point) × Result ws m′ (n .point) v
+  op-left n q = subst (λ (n : Next). Made (codeIn ws size) m m′ p (n .point) × Result ws m′ (n .point) v) (sym q) (op-made ws size m p g inside kind w k-is w-is l x y t pair a b v f e m′ len put, left)

@@ -1,15 +1,17 @@
 -- Turns of a path, one after another.
-use Prim.Native.Nat.{ℕ, zero, suc, _+_, _-_, _≤_}
+use Prim.Native.Nat.{ℕ, zero, suc, _+_, _-_, _*_, _≤_, _<_}
 use mathlib.Core.Path.{_≡_}
 use mathlib.Core.Bool.{Bool, true, false}
 use mathlib.Core.List.{List}
 use lib.Dec.{eqb}
 use lib.ListN as lists
+use lib.ListN.{getD}
 use Rattle.semantics.specs.Program.{Window}
 use Rattle.semantics.specs.Search.{inUse}
 use Rattle.simulation.specs.Code.{Code}
 use Rattle.simulation.specs.Path.{turn}
-use Rattle.machine.specs.Memory.{machineAt}
+use Rattle.machine.specs.Layout.{tempPlace}
+use Rattle.machine.specs.Memory.{cellAs, cellAt, machineAt}
 use Rattle.paths.specs.declared.Point.{Point}
 use Rattle.paths.specs.Point.{stateAt, Going, Stays}
 use Rattle.paths.specs.Turn.{Onward}
@@ -37,6 +39,18 @@ pub data Turns (c : Code) (m : List ℕ) (p : Point) : (m′ : List ℕ) (q : Po
 
 -- ---- one turn
 
+-- a turn leads from p to q; or two do, that of an operation and that of the assignment behind it
+pub data Leads (c : Code) (m m′ : List ℕ) (p q : Point) : Type 0 where
+  once : Made c m m′ p q → Leads c m m′ p q
+  twice : (m₁ : List ℕ) (p₁ : Point) → Made c m m₁ p p₁ → Made c m₁ m′ p₁ q → Leads c m m′ p q
+
+-- the newest temporary of the running function has the word v: the value of the operation before the entry at the point
+pub record Result (words m : List ℕ) (p : Point) (v : ℕ) : Type 0 where
+  pub some : p .run .base < p .run .top
+  pub behind : 0 < p .run .pc
+  pub operation : 4 ≤ getD words (2 * (p .run .pc - 1)) 0
+  pub cell : cellAt m (tempPlace (p .run .top - 1)) ≡ cellAs 0 v
+
 -- a turn was made, or there is none of this kind
 abbrev pub made : Point → Next
 made q = record { on = true; point = q }
@@ -45,7 +59,7 @@ abbrev pub stopped : Point → Next
 stopped p = record { on = false; point = p }
 
 pub data One (c : Code) (m m′ : List ℕ) (p : Point) (floor : ℕ) (r : Next) : Type 0 where
-  one : r .on ≡ true → Made c m m′ p (r .point) → floor ≤ r .point .steps → One c m m′ p floor r
+  one : r .on ≡ true → Leads c m m′ p (r .point) → floor ≤ r .point .steps → One c m m′ p floor r
   no : r .on ≡ false → m′ ≡ m → One c m m′ p floor r
 
 -- ---- what the moves cost

@@ -12,10 +12,12 @@ ghost use Rattle.ints.specs.Numbers.{operation, comparison};
 ghost use Rattle.machine.specs.Memory.{cellAs};
 ghost use Rattle.machine.specs.Contracts.{Ready, Put, Popped, Taking, Paired, moved as movedS, flagged as flaggedS};
 ghost use Rattle.machine.specs.declared.Value.the-variants.{Known};
+ghost use mathlib.Core.List.{List};
+ghost use Rattle.paths.specs.declared.Point as point;
 ghost use Rattle.paths.specs.Point.{Going, running};
 ghost use Rattle.paths.specs.Turn.{spending};
 ghost use Rattle.known_steps.specs.Cells.{valueAs};
-ghost use Rattle.known_steps.specs.Turns.{Turns, made, stopped, One, moves, Passes};
+ghost use Rattle.known_steps.specs.Turns.{Turns, Made, Leads, Result, made, stopped, One, moves, Passes};
 use code::entry;
 use machine::Run;
 use machine::layout;
@@ -247,6 +249,46 @@ fn landing(run: Run, flag: bool, w: usize) -> usize
     }
 }
 
+// A turn was made, up to the point p.
+fn go(p: Point) -> Next
+    ensures { λ r. ⌜ r ≡ made p ⌝ }
+{
+    Next { on: true, point: p }
+}
+
+// The assignment behind an operation whose value is v, if there is one.
+fn assign(code: &[u32], size: usize, mem: &mut [u32], p: Point, v: u32) -> Point
+    requires { ⌜ (2 * size ≤ length (now code)) × (size < 65536) × Going (now mem) p × Result (now code) (now mem) p v ⌝ }
+    ensures { λ r. ⌜ ((m : List ℕ) (before : point.Point) → Made (codeIn (now (code .entry)) size) m (now (mem .entry)) before p → Leads (codeIn (now (code .entry)) size) m (now (mem .exit)) before r) × (r .steps ≡ p .steps) ⌝ }
+{
+    let run = p.run;
+    if size <= run.pc {
+        return p;
+    }
+    if code[entry::WORDS * run.pc] != entry::STORE {
+        return p;
+    }
+    let w = code[entry::WORDS * run.pc + entry::NUMBER_WORD] as usize;
+    put(
+        mem,
+        layout::FRAME * run.depth + layout::CELL * (w % layout::CELLS),
+        0,
+        v,
+    );
+    let next = silent(
+        p,
+        Run {
+            pc: run.pc + 1,
+            flag: run.flag,
+            base: run.base,
+            top: run.top - 1,
+            depth: run.depth,
+            nodes: run.nodes,
+        },
+    );
+    next.point
+}
+
 // An operation or a comparison, on known values.
 fn work(
     code: &[u32],
@@ -264,13 +306,9 @@ fn work(
     let b = pair(code, size, mem, run, d);
     if b.known {
         if kind < entry::COMPARE {
-            put(
-                mem,
-                layout::TEMPORARIES + layout::STRIDE * b.top,
-                0,
-                operate(kind - entry::ADD, b.left, b.right),
-            );
-            return step(
+            let v = operate(kind - entry::ADD, b.left, b.right);
+            put(mem, layout::TEMPORARIES + layout::STRIDE * b.top, 0, v);
+            let next = step(
                 p,
                 Run {
                     pc: run.pc + 1,
@@ -281,6 +319,7 @@ fn work(
                     nodes: run.nodes,
                 },
             );
+            return go(assign(code, size, mem, next.point, v));
         }
         return step(
             p,

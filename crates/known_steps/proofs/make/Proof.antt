@@ -6,8 +6,8 @@ use Rattle.simulation.specs.Words.{codeIn}
 use Rattle.simulation.proofs.Drive.{turns-left}
 use Rattle.machine.specs.Memory.{machineAt}
 use Rattle.paths.specs.Point.{stateAt, Going}
-use Rattle.known_steps.specs.Turns.{Turns, none, more}
-use Rattle.known_steps.proofs.Passing.{one-yes, one-nothing, nearer}
+use Rattle.known_steps.specs.Turns.{Turns, none}
+use Rattle.known_steps.proofs.Passing.{one-yes, one-nothing, leads-nearer, leads-going, leads-on}
 use Rattle.known_steps.proofs.make.Statement.{statement}
 use Rattle.known_steps.proofs.make.Tie as tie
 use Rattle.known_steps.proofs.make.Reads as reads
@@ -36,7 +36,7 @@ loop-less c =
     let o = c .before .before .before .before .one in
     let m′ = o .last .1 .1 .0 in
     let h = one-yes (codeIn (a .code .now) (a .size)) (l .mem) m′ (l .p) (a .floor) (o .result) (o .ensures) (c .before .if1 .taken) in
-    nearer (codeIn (a .code .now) (a .size)) (l .mem) m′ (l .p) (o .result .point) (l .inv .1) (h .0)
+    leads-nearer (codeIn (a .code .now) (a .size)) (l .mem) m′ (l .p) (o .result .point) (l .inv .1) (h .0)
 
 -- src/lib.rt:372:5
 loop-again : tie.Need-loop-again Inv-loop μ-loop
@@ -45,8 +45,12 @@ loop-again c =
     let l = c .before .before .before .before .before .before .loop in
     let o = c .before .before .before .before .one in
     let m′ = o .last .1 .1 .0 in
-    let h = one-yes (codeIn (a .code .now) (a .size)) (l .mem) m′ (l .p) (a .floor) (o .result) (o .ensures) (c .before .if1 .taken) in
-    (more (l .mem) (l .p) (l .inv .0) (h .0), h .0 .going, h .1, o .kept .1 .1 .0 ∙ l .inv .3)
+    let h = one-yes (codeIn (a .code .now) (a .size)) (l .mem) m′ (l .p) (a .floor) (o .result) (o .ensures) (c .before .if1 .taken) in (
+      leads-on (codeIn (a .code .now) (a .size)) (a .mem .now) (l .mem) m′ (a .begins) (l .p) (o .result .point) (l .inv .0) (h .0),
+      leads-going (codeIn (a .code .now) (a .size)) (l .mem) m′ (l .p) (o .result .point) (h .0),
+      h .1,
+      o .kept .1 .1 .0 ∙ l .inv .3,
+    )
 
 -- src/lib.rt:377:13
 same-length : tie.Need-same-length Inv-loop μ-loop

@@ -1,9 +1,10 @@
 use Prim.Native.Nat.{_+_, _*_}
-use mathlib.Core.Path.{refl}
+use mathlib.Core.Path.{refl, ap}
 use native.Mathlib.Omega.{arith}
 use Rattle.simulation.specs.Words.{codeIn}
-use Rattle.known_steps.proofs.Making.{one-made, one-not}
-use Rattle.known_steps.proofs.Working.{op-made, cmp-made}
+use Rattle.known_steps.specs.declared.Next.{Next}
+use Rattle.known_steps.proofs.Making.{one-leads, one-made, one-not}
+use Rattle.known_steps.proofs.Working.{op-left, cmp-made}
 use borrow.Author.Needs.{needs}
 use Rattle.known_steps.proofs.work.Statement.{statement}
 use Rattle.known_steps.proofs.work.Tie as tie
@@ -20,72 +21,73 @@ use Rattle.known_steps.proofs.stop.Reads as stop-reads
 pair-requires : tie.Need-pair-requires
 pair-requires c κs = search needs
 
--- src/lib.rt:254:39
-mul-put : tie.Need-mul-put
-mul-put c = omega (arith, c .before .before .before .before .pair .ensures (c .before .before .before .if1 .taken) .high, c .before .before .before .before .before .before .before .before .before .pre .2 .tops .small)
-
--- src/lib.rt:254:17
-add-put : tie.Need-add-put
-add-put c = omega (arith, c .before .before .before .before .pair .ensures (c .before .before .before .if1 .taken) .high, c .before .before .before .before .before .before .before .before .before .pre .2 .tops .small)
-
--- src/lib.rt:256:25
 sub-operate : tie.Need-sub-operate
 sub-operate c = search needs
 
--- src/lib.rt:256:17
 operate-requires : tie.Need-operate-requires
 operate-requires c κs = search needs
 
--- src/lib.rt:252:13
+mul-put : tie.Need-mul-put
+mul-put c = omega (arith, c .before .before .before .before .before .pair .ensures (c .before .before .before .before .if1 .taken) .high, c .before .before .before .before .before .before .before .before .before .before .pre .2 .tops .small)
+
+add-put : tie.Need-add-put
+add-put c = omega (arith, c .before .before .before .before .before .pair .ensures (c .before .before .before .before .if1 .taken) .high, c .before .before .before .before .before .before .before .before .before .before .pre .2 .tops .small)
+
 put-requires : tie.Need-put-requires
 put-requires c κs = omega (arith, c .before .before .before .before .before .pair .ensures (c .before .before .before .before .if1 .taken) .high, c .before .before .before .before .before .before .before .before .before .before .pre .2 .tops .words)
 
--- src/lib.rt:261:25
-add-t17 : tie.Need-add-t17
-add-t17 c = search needs
+add-t20 : tie.Need-add-t20
+add-t20 c = search needs
 
--- src/lib.rt:264:26
-add-t18 : tie.Need-add-t18
-add-t18 c = omega (arith, c .before .before .before .before .before .before .before .before .before .before .pair .ensures (c .before .before .before .before .before .before .before .before .before .if1 .taken) .high, c .before .before .before .before .before .before .before .before .before .before .before .before .before .before .before .pre .2 .tops .small)
+add-t21 : tie.Need-add-t21
+add-t21 c = omega (arith, c .before .before .before .before .before .before .before .before .before .before .pair .ensures (c .before .before .before .before .before .before .before .before .before .if1 .taken) .high, c .before .before .before .before .before .before .before .before .before .before .before .before .before .before .before .pre .2 .tops .small)
 
--- src/lib.rt:258:13
 step-requires : tie.Need-step-requires
 step-requires c κs = search needs
 
--- src/lib.rt:258:13
+assign-requires : tie.Need-assign-requires
+assign-requires c κs =
+    let s = c .before .before .before .before .before .before .before .before .before .before .before .before .before .before .before .before .before in
+    let a = s .args in
+    let b = c .before .before .before .before .before .before .before .before .before .before .before .before .pair in
+    let o = c .before .before .before .before .before .before .before .before .before .operate in
+    let u = c .before .before .before .before .before .before .put in
+    let n = c .before .step in
+    let h = op-left (a .code .now) (a .size) (a .mem .now) (a .p) (s .pre .2) (s .pre .3) (a .kind) (a .d) (s .pre .4) (s .pre .5) (omega (arith, s .pre .8)) (b .result .left) (b .result .right) (b .result .top) (b .ensures (c .before .before .before .before .before .before .before .before .before .before .before .if1 .taken))
+    (s .pre .6) (c .before .before .before .before .before .before .before .before .before .before .if2 .taken) (o .result) (omega (arith, o .ok)) (o .ensures) (u .last .0) (u .kept .0) (u .ensures) (n .result) (n .ensures) in
+    (s .pre .0, s .pre .1, h .0 .going, h .1)
+
+go-requires : tie.Need-go-requires
+go-requires c κs = search needs
+
 same-length : tie.Need-same-length
 same-length c = search needs
 
--- src/lib.rt:258:13
 returns : tie.Need-returns
 returns c =
-    let s = c .before .before .before .before .before .before .before .before .before .before .before .before .before .before .before .before in
+    let s = c .before .before .before .before .before .before .before .before .before .before .before .before .before .before .before .before .before .before .before .before .before in
     let a = s .args in
-    let b = c .before .before .before .before .before .before .before .before .before .before .before .pair in
-    let o = c .before .before .before .before .before .before .operate in
-    let u = c .before .before .before .before .before .put in
-    one-made (codeIn (a .code .now) (a .size)) (a .mem .now) (u .last .0) (a .p) (a .floor) (c .step .result) _ (c .step .ensures)
-    (op-made (a .code .now) (a .size) (a .mem .now) (a .p) (s .pre .2) (s .pre .3) (a .kind) (a .d) (s .pre .4) (s .pre .5) (omega (arith, s .pre .8)) (b .result .left) (b .result .right) (b .result .top) (b .ensures (c .before .before .before .before .before .before .before .before .before .before .if1 .taken))
-    (s .pre .6) (c .before .before .before .before .before .before .before .before .before .if2 .taken) (o .result) (omega (arith, o .ok)) (o .ensures) (u .last .0) (u .kept .0) (u .ensures))
-    (omega (arith, s .pre .8))
+    let b = c .before .before .before .before .before .before .before .before .before .before .before .before .before .before .before .before .pair in
+    let o = c .before .before .before .before .before .before .before .before .before .before .before .before .before .operate in
+    let u = c .before .before .before .before .before .before .before .before .before .before .put in
+    let n = c .before .before .before .before .before .step in
+    let h = op-left (a .code .now) (a .size) (a .mem .now) (a .p) (s .pre .2) (s .pre .3) (a .kind) (a .d) (s .pre .4) (s .pre .5) (omega (arith, s .pre .8)) (b .result .left) (b .result .right) (b .result .top) (b .ensures (c .before .before .before .before .before .before .before .before .before .before .before .before .before .before .before .if1 .taken))
+    (s .pre .6) (c .before .before .before .before .before .before .before .before .before .before .before .before .before .before .if2 .taken) (o .result) (omega (arith, o .ok)) (o .ensures) (u .last .0) (u .kept .0) (u .ensures) (n .result) (n .ensures) in
+    let d = c .before .before .before .assign in
+    one-leads (codeIn (a .code .now) (a .size)) (a .mem .now) (d .last .1 .1 .0) (a .p) (a .floor) (c .go .result) (d .result) (c .go .ensures) (d .ensures .0 (a .mem .now) (a .p) (h .0)) (omega (arith, s .pre .8, d .ensures .1, ap (λ (x : Next). x .point .steps) (n .ensures)))
 
--- src/lib.rt:273:21
-add-t22 : tie.Need-add-t22
-add-t22 c = search needs
+add-t26 : tie.Need-add-t26
+add-t26 c = search needs
 
--- src/lib.rt:274:23
 holds-requires : tie.Need-holds-requires
 holds-requires c κs = search needs
 
--- src/lib.rt:270:9
 step-requires-2 : tie.Need-step-requires-2
 step-requires-2 c κs = search needs
 
--- src/lib.rt:270:9
 same-length-2 : tie.Need-same-length-2
 same-length-2 c = search needs
 
--- src/lib.rt:270:9
 returns-2 : tie.Need-returns-2
 returns-2 c =
     let s = c .before .before .before .before .before .before .before .before .before .before in
@@ -115,17 +117,19 @@ work-spec =
     tie.close
     (tie.spec
     pair-requires
-    mul-put
-    add-put
     sub-operate
     operate-requires
+    mul-put
+    add-put
     put-requires
-    add-t17
-    add-t18
+    add-t20
+    add-t21
     step-requires
+    assign-requires
+    go-requires
     same-length
     returns
-    add-t22
+    add-t26
     holds-requires
     step-requires-2
     same-length-2
