@@ -409,10 +409,10 @@ fn one(code: &[u32], size: usize, mem: &mut [u32], p: Point, floor: usize) -> Ne
         return stop(p);
     }
     let kind = code[entry::WORDS * run.pc];
-    if kind < entry::NUMBER {
-        return stop(p);
-    }
     if kind < entry::ADD {
+        if kind < entry::NUMBER {
+            return stop(p);
+        }
         return silent(p, moved(run, run.pc + 1));
     }
     let w = code[entry::WORDS * run.pc + entry::NUMBER_WORD] as usize;

@@ -45,7 +45,7 @@ stop-requires-2 c κs = search needs
 -- src/lib.rt:351:9
 returns-2 : tie.Need-returns-2
 returns-2 c =
-    let a = c .before .before .before .before .before .before .before .before .before .args in
+    let a = c .before .before .before .before .before .before .before .before .before .before .args in
     one-not (codeIn (a .code .now) (a .size)) (a .mem .now) _ (a .p) (a .floor) (c .stop2 .result) (c .stop2 .ensures) refl
 
 -- src/lib.rt:354:37
@@ -68,7 +68,7 @@ returns-3 c =
     let r = c .before .moved .result in
     one-made (codeIn (a .code .now) (a .size)) (a .mem .now) (a .mem .now) (a .p) (a .floor) (c .silent .result) (running (a .p) r) (c .silent .ensures)
     (silent-made (codeIn (a .code .now) (a .size)) (a .mem .now) (a .p) (s .pre .2) (a .mem .now) r refl
-    (goes-run (c .before .moved .ensures) (adv-leaf (a .code .now) (a .size) (a .mem .now) (a .p .run) (c .before .before .before .before .before .before .before .if1 .left) (c .before .before .before .before .if2 .left) (c .before .before .before .if3 .taken) (s .pre .2 .ready))))
+    (goes-run (c .before .moved .ensures) (adv-leaf (a .code .now) (a .size) (a .mem .now) (a .p .run) (c .before .before .before .before .before .before .before .if1 .left) (c .before .before .before .if3 .left) (c .before .before .before .before .if2 .taken) (s .pre .2 .ready))))
     (s .pre .3)
 
 -- src/lib.rt:356:18
@@ -89,13 +89,12 @@ shared-slice-read-w c = search needs
 
 -- src/lib.rt:356:13
 cast-w : tie.Need-cast-w
-cast-w c = omega (arith, c .shared-slice-known3 .given (2 * c .before .before .before .before .before .before .before .before .before .before .before .args .p .run .pc + 1))
+cast-w c = omega (arith, c .shared-slice-known3 .given (2 * c .before .before .before .before .before .before .before .before .before .before .args .p .run .pc + 1))
 
--- src/lib.rt:358:9
 act-requires : tie.Need-act-requires
 act-requires c κs =
-    let s = c .before .before .before .before .before .before .before .before .before .before .before .before .before in
-    (s .pre .0, s .pre .1, s .pre .2, c .before .before .before .before .before .before .before .before .if1 .left, refl, refl, omega (arith, c .before .before .shared-slice-known3 .given (2 * s .args .p .run .pc + 1)), s .pre .3)
+    let s = c .before .before .before .before .before .before .before .before .before .before .before .before in
+    (s .pre .0, s .pre .1, s .pre .2, c .before .before .before .before .before .before .before .if1 .left, refl, refl, omega (arith, c .before .before .shared-slice-known3 .given (2 * s .args .p .run .pc + 1)), s .pre .3)
 
 -- src/lib.rt:358:9
 same-length : tie.Need-same-length
@@ -112,14 +111,13 @@ stop-requires-3 c κs = search needs
 -- src/lib.rt:361:9
 returns-5 : tie.Need-returns-5
 returns-5 c =
-    let a = c .before .before .before .before .before .before .before .before .before .before .before .before .before .before .before .args in
+    let a = c .before .before .before .before .before .before .before .before .before .before .before .before .before .before .args in
     one-not (codeIn (a .code .now) (a .size)) (a .mem .now) _ (a .p) (a .floor) (c .stop3 .result) (c .stop3 .ensures) refl
 
--- src/lib.rt:363:5
 work-requires : tie.Need-work-requires
 work-requires c κs =
-    let s = c .before .before .before .before .before .before .before .before .before .before .before .before .before .before .before in
-    (s .pre .0, s .pre .1, s .pre .2, c .before .before .before .before .before .before .before .before .before .before .if1 .left, refl, refl, c .before .before .before .before .before .before .if3 .left, omega (arith, c .before .before .before .if4 .left), omega (arith, c .before .if5 .left, s .pre .3))
+    let s = c .before .before .before .before .before .before .before .before .before .before .before .before .before .before in
+    (s .pre .0, s .pre .1, s .pre .2, c .before .before .before .before .before .before .before .before .before .if1 .left, refl, refl, c .before .before .before .before .before .before .if2 .left, omega (arith, c .before .before .before .if4 .left), omega (arith, c .before .if5 .left, s .pre .3))
 
 -- src/lib.rt:341:1
 same-length-2 : tie.Need-same-length-2
