@@ -2,9 +2,8 @@
 ghost use mathlib.Core.Path.{_≡_};
 ghost use mathlib.Core.List.{List};
 ghost use Prim.Native.Nat.{ℕ, _+_, _-_, _*_, _<_, _≤_};
-ghost use mathlib.Core.Bool.{true};
-ghost use lib.ListN.{length, getD};
-ghost use Rattle.machine.specs.Layout.{frameCells, cellWords, tablesPlace};
+ghost use lib.ListN.{length};
+ghost use Rattle.machine.specs.Layout.{frameCells, tablesPlace};
 ghost use Rattle.machine.specs.Contracts.{Room};
 ghost use Rattle.paths.specs.declared.Point as point;
 ghost use Rattle.paths.specs.Point.{Going};
@@ -155,22 +154,6 @@ pub fn save(mem: &mut [u32], p: Point, cells: usize, w: usize)
     let n = size_of(p, cells);
     save_pairs(mem, p, cells, w);
     put_numbers(mem, numbers_of(p), w + n - NUMBERS);
-}
-
-// Whether the first cells of the first frame are blank.
-pub fn unused(mem: &[u32], cells: usize) -> bool
-    requires { ⌜ (tablesPlace ≤ length (now mem)) × (cells ≤ frameCells) ⌝ }
-    ensures { λ r. ⌜ (r ≡ true → (x : ℕ) → x < cellWords * cells → getD (now (mem .entry)) x 0 ≡ 0) ⌝ }
-{
-    let n = layout::CELL * cells;
-    let mut i: usize = 0;
-    while i < n {
-        if mem[i] != 0 {
-            return false;
-        }
-        i += 1;
-    }
-    true
 }
 
 // Makes the first n words 0.

@@ -1,4 +1,4 @@
--- A machine's frames hold 0 beside the cells that its code uses, wherever a path comes; and on the way starting pairs are added and none is changed.
+-- A machine's frames hold 0 beside the cells that its code uses, wherever a path comes, and that of the start holds nothing; and on the way starting pairs are added and none is changed.
 use Prim.Native.Nat.{ℕ, zero, suc, _+_, _-_, _≤_, _<_}
 use mathlib.Core.Path.{_≡_, refl, sym, ap, _∙_, subst}
 use mathlib.Core.Bool.{Bool}
@@ -20,7 +20,7 @@ use Rattle.simulation.specs.Words.{placeOf}
 use Rattle.simulation.specs.Path.{State, begins, outcome, holding, End, cut, Went, on, ended, Turn, counted, still, stepped, reached, siding, choosing, comparing, turning, turn}
 use Rattle.simulation.specs.Back.{Passes, here, turned}
 use Rattle.simulation.specs.Resume.{Comes}
-use Rattle.simulation.specs.Cells.{Stores, Fills, Uses, Blank, Blanks, Spares}
+use Rattle.simulation.specs.Cells.{Stores, Fills, Uses, Blank, Blanks, Spares, CallsMain, BlankStart}
 
 -- ---- a turn
 
@@ -84,6 +84,21 @@ module _ (P : Machine Value → Type 0) (solver : Solver) (job : Window) where
   onto-turn (Doing.returned v) s h = extends-none
   onto-turn Doing.failed s h = extends-none
   onto-turn Doing.cut s h = extends-none
+
+-- ---- what each turn keeps
+
+module _ (c : Code) (P : Machine Value → Type 0) (keeps : (m : Machine Value) → P m → After P (advance known work c m)) where
+  turn-keeps : (solver : Solver) (job : Window) (m m₂ : Machine Value) (s s₂ : State) → P m → turn solver job c m s .went ≡ on m₂ s₂ → P m₂
+  unfolding turn
+  turn-keeps solver job m m₂ s s₂ h e = subst (Onto P (s .starts)) e (onto-turn P solver job (advance known work c m) s (keeps m h)) .0
+
+  passes-keeps : {solver : Solver} {job : Window} {m m₂ : Machine Value} {s s₂ : State} → Passes solver job c m s m₂ s₂ → P m → P m₂
+  passes-keeps here h = h
+  passes-keeps {solver} {job} (turned {m} {m₂} {s = s} {s₂} e p) h = passes-keeps p (turn-keeps solver job m m₂ s s₂ h e)
+
+  -- holds wherever a path comes, if it holds at the start
+  comes-keeps : P (start known work c) → {solver : Solver} {job : Window} {most : ℕ} {m : Machine Value} {s : State} → Comes solver job c most m s → P m
+  comes-keeps h k = passes-keeps (k .again []) h
 
 -- ---- more cells
 
@@ -198,14 +213,58 @@ module _ (c : Code) (n : ℕ) (uses : Uses c n) where
   unfolding advance
   spares-advance m s = spares-entry (m .pc) (m .flag) (m .temps) (m .frame) (m .callers) (m .left) (s .frame) (s .callers) (entryAt c (m .pc)) (uses .each (m .pc))
 
-  spares-turn : (solver : Solver) (job : Window) (m m₂ : Machine Value) (s s₂ : State) → Spares n m → turn solver job c m s .went ≡ on m₂ s₂ → Spares n m₂
-  unfolding turn
-  spares-turn solver job m m₂ s s₂ h e = subst (Onto (Spares n) (s .starts)) e (onto-turn (Spares n) solver job (advance known work c m) s (spares-advance m h)) .0
-
-  spares-passes : {solver : Solver} {job : Window} {m m₂ : Machine Value} {s s₂ : State} → Passes solver job c m s m₂ s₂ → Spares n m → Spares n m₂
-  spares-passes here h = h
-  spares-passes {solver} {job} (turned {m} {m₂} {s = s} {s₂} e p) h = spares-passes p (spares-turn solver job m m₂ s s₂ h e)
-
   -- wherever a path comes, no other cell was written
   pub spares-comes : {solver : Solver} {job : Window} {most : ℕ} {m : Machine Value} {s : State} → Comes solver job c most m s → Spares n m
-  spares-comes k = spares-passes (k .again []) (record { frame = frame-blank n [] (λ i l. absurd (omega arith)); callers = tt })
+  spares-comes = comes-keeps c (Spares n) spares-advance (record { frame = frame-blank n [] (λ i l. absurd (omega arith)); callers = tt })
+
+-- ---- the frame of the start
+
+abbrev StartIn : Machine Value → Type 0
+StartIn m = BlankStart (m .pc) (m .frame) (m .callers)
+
+module _ (c : Code) (calls-main : CallsMain c) where
+  start-entering : (d i g : ℕ) (a : Gathered Value) (b : Bool) (f : List Value) (cs : List (Caller Value)) → BlankStart (suc i) f cs → After StartIn (entering known work c d g a i b f cs)
+  start-entering zero i g a b f cs h = tt
+  start-entering (suc d) i g a b f cs h = h
+
+  module _ (b : Bool) (ts f : List Value) (d : ℕ) where
+    -- the start itself calls main, and returns
+    start-runs : (i : ℕ) → i < 2 → Blank 0 f → After StartIn (working known work c i b ts f [] d (entryAt c i))
+    start-runs zero l h = subst (λ (x : Entry). After StartIn (working known work c 0 b ts f [] d x)) (sym (calls-main .calls))
+        (start-entering d 0 (calls-main .main) (gather known work c f ts (calls-main .arguments) 0 []) b f [] (omega arith, h))
+    start-runs (suc zero) l h = subst (λ (x : Entry). After StartIn (working known work c 1 b ts f [] d x)) (sym (calls-main .returns)) tt
+    start-runs (suc (suc i)) l h = absurd (omega arith)
+
+    -- above it nothing that is done reaches its frame
+    module _ (i : ℕ) (r : Caller Value) (cs : List (Caller Value)) (h : BlankStart (r .pc) (r .frame) cs) where
+      start-act : (a : Act) → After StartIn (acting known work c i b ts f (r ∷ cs) d a)
+      start-act (Act.operate o m) = h
+      start-act (Act.compare o m) = λ q. h
+      start-act (Act.call g m) = start-entering d i g (gather known work c f ts m i []) b f (r ∷ cs) h
+      start-act (Act.constant o) = h
+      start-act (Act.jump o m) = h
+      start-act (Act.skip m) = h
+      start-act (Act.again m) = h
+      start-act Act.begin = h
+      start-act (Act.ask a) = λ v. h
+      start-act (Act.own a) = λ v. h
+      start-act (Act.store a) = h
+      start-act Act.return = h
+      start-act Act.fail = tt
+
+      start-waits : (x : Entry) → After StartIn (working known work c i b ts f (r ∷ cs) d x)
+      start-waits (leaf l) = h
+      start-waits (argument m) = h
+      start-waits (act a) = start-act a
+
+    start-works : (i : ℕ) (cs : List (Caller Value)) → BlankStart i f cs → After StartIn (working known work c i b ts f cs d (entryAt c i))
+    start-works i [] h = start-runs i (h .0) (h .1)
+    start-works i (r ∷ cs) h = start-waits i r cs h (entryAt c i)
+
+  start-advance : (m : Machine Value) → StartIn m → After StartIn (advance known work c m)
+  unfolding advance
+  start-advance m h = start-works (m .flag) (m .temps) (m .frame) (m .left) (m .pc) (m .callers) h
+
+  -- wherever a path comes, nothing was stored there
+  pub start-comes : {solver : Solver} {job : Window} {most : ℕ} {m : Machine Value} {s : State} → Comes solver job c most m s → BlankStart (m .pc) (m .frame) (m .callers)
+  start-comes = comes-keeps c StartIn start-advance (omega arith, frame-blank 0 [] (λ i l. absurd (omega arith)))

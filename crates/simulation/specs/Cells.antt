@@ -46,3 +46,17 @@ Blanks n (r ∷ cs) = Blank n (r .frame) × Blanks n cs
 pub record Spares (n : ℕ) (m : Machine Value) : Type 0 where
   pub frame : Blank n (m .frame)
   pub callers : Blanks n (m .callers)
+
+-- ---- the frame of the start
+
+-- a code that begins with the call of main, whose value is returned
+pub record CallsMain (c : Code) : Type 0 where
+  pub main : ℕ
+  pub arguments : ℕ
+  pub calls : entryAt c 0 ≡ act (call main arguments)
+  pub returns : entryAt c 1 ≡ act return
+
+-- the outermost frame is blank, and its function at one of those two entries; f runs at entry i, and cs wait for it
+abbrev pub BlankStart : ℕ → List Value → List (Caller Value) → Type 0
+BlankStart i f [] = (i < 2) × Blank 0 f
+BlankStart i f (r ∷ cs) = BlankStart (r .pc) (r .frame) cs

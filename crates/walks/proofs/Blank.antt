@@ -1,10 +1,9 @@
--- What the machine says of cells, said of the memory's words: those that the code does not use are blank.
+-- What the machine says of cells, said of the memory's words: those that the code does not use are blank, and so is the first frame.
 use mathlib.Core.Path.{_≡_, refl, sym, ap, _∙_, subst}
 use mathlib.Core.Bool.{Bool, true, false}
 use mathlib.Core.Logic.{⊎-elim}
 use mathlib.Core.List.{List}
 use Prim.Native.Nat.{ℕ, zero, suc, _+_, _-_, _*_, _/_, _%_, _^_, _≤_, _<_}
-use native.Mathlib.Decide.{decLt}
 use native.Mathlib.Omega.{arith}
 use lib.ListN.{length, getD}
 use lib.IntN.{ℤ, pos, negsuc}
@@ -15,9 +14,9 @@ use Rattle.semantics.specs.Program.{Window}
 use Rattle.semantics.specs.Search.{Value, known, inUse}
 use Rattle.simulation.specs.Code.{Code}
 use Rattle.simulation.specs.Nodes.{Cell, Known, Open, Node, meaning, values, Within}
-use Rattle.simulation.specs.Cells.{Uses, Blank, Blanks}
+use Rattle.simulation.specs.Cells.{Uses, Blank, Blanks, CallsMain, BlankStart}
 use Rattle.simulation.proofs.Nodes.{IsOpen, meaning-open}
-use Rattle.simulation.proofs.Cells.{spares-comes}
+use Rattle.simulation.proofs.Cells.{spares-comes, start-comes}
 use Rattle.machine.specs.Layout.{frameCells, cellWords, frameWords, framePlace, variablePlace, cellPlace}
 use Rattle.machine.specs.Memory.{cellAs, cellAt, nodesIn, cells, frameAt, callers, machineAt}
 use Rattle.machine.specs.Contracts.{Ready}
@@ -51,28 +50,43 @@ unfolding callers
 blanks-at f m n zero top h j l = absurd (omega arith)
 blanks-at f m n (suc d) top h j l = ⊎-elim (λ e. subst (λ (j : ℕ). Blank n (frameAt f m j)) (sym e) (h .0)) (λ g. ⊎-elim (λ g. blanks-at f m n d _ (h .1) j g) (λ g. absurd (omega arith)) g) (three j d)
 
--- where a path comes, no cell of a frame that the code does not use holds anything but 0
-pub slim-so : (c : Code) (job : Window) (limit n : ℕ) (m : List ℕ) (p : Point) → Uses c n → ComesTo c job limit m p → Ready m (p .run) → Slim n m (p .run .depth)
-slim-so c job limit n m p uses comes ready = record { rest = λ j a b l g h. either (λ (b : ℕ). getD m (variablePlace j a + b) 0 ≡ 0) (ap (λ (x : ℕ). getD m x 0) {x = variablePlace j a + 0} {y = variablePlace j a} (omega arith) ∙ words j a l g h .0) (words j a l g h .1) b }
-  where
-    f : Cell → Value
-    f = meaning (nodesIn m (p .run .nodes))
+-- the first frame is that of the start
+start-at : (f : Cell → Value) (m : List ℕ) (i d top : ℕ) → BlankStart i (frameAt f m d) (callers f m d top) → Blank 0 (frameAt f m 0)
+unfolding callers
+start-at f m i zero top h = h .1
+start-at f m i (suc d) top h = start-at f m _ d _ h
 
-    frames : (j : ℕ) → j ≤ p .run .depth → Blank n (frameAt f m j)
-    frames j l =
-        let s = spares-comes c n uses comes in
-        ⊎-elim (λ e. subst (λ (j : ℕ). Blank n (frameAt f m j)) (sym e) (s .frame)) (λ g. ⊎-elim (λ g. blanks-at f m n (p .run .depth) (p .run .base) (s .callers) j g) (λ g. absurd (omega arith)) g) (three j (p .run .depth))
+-- ---- words
 
-    words : (j a : ℕ) → j ≤ p .run .depth → n ≤ a → a < frameCells → (getD m (variablePlace j a) 0 ≡ 0) × (getD m (variablePlace j a + 1) 0 ≡ 0)
-    words j a l g h = zero-cell (nodesIn m (p .run .nodes)) (getD m (variablePlace j a) 0) (getD m (variablePlace j a + 1) 0)
-        (subst (λ (k : ℕ). Within k (cellAt m (variablePlace j a))) (sym (nodes-length m (p .run .nodes)))
-        (subst (λ (x : ℕ). Within (p .run .nodes) (cellAt m x)) {x = cellPlace (frameCells * j + a)} {y = variablePlace j a} (omega arith) (ready .framed (frameCells * j + a) (omega arith))))
-        (sym (cells-at f m (framePlace j) frameCells a h) ∙ frames j l .rest a g)
+module _ (c : Code) (job : Window) (limit : ℕ) (m : List ℕ) (p : Point) (comes : ComesTo c job limit m p) (ready : Ready m (p .run)) where
+  abbrev f : Cell → Value
+  f = meaning (nodesIn m (p .run .nodes))
 
--- with the first frame, where its cells in use are blank too
-pub unused-so : (n : ℕ) (m : List ℕ) (d : ℕ) → ((x : ℕ) → x < cellWords * n → getD m x 0 ≡ 0) → Slim n m d → Unused n m d
-unused-so n m d h s = record { first = λ x l. by x l (decLt x (cellWords * n)); slim = s }
-  where
-    by : (x : ℕ) → x < frameWords → Dec (x < cellWords * n) → getD m x 0 ≡ 0
-    by x l (yes g) = h x g
-    by x l (no g) = subst (λ (y : ℕ). getD m y 0 ≡ 0) {x = variablePlace 0 (x / 2) + x % 2} {y = x} (omega arith) (s .rest 0 (x / 2) (x % 2) (omega arith) (omega arith) (omega arith) (omega arith))
+  -- the two words of a cell that is blank
+  blank-words : (n j a : ℕ) → Blank n (frameAt f m j) → j ≤ p .run .depth → n ≤ a → a < frameCells → (getD m (variablePlace j a) 0 ≡ 0) × (getD m (variablePlace j a + 1) 0 ≡ 0)
+  blank-words n j a h l g k = zero-cell (nodesIn m (p .run .nodes)) (getD m (variablePlace j a) 0) (getD m (variablePlace j a + 1) 0)
+      (subst (λ (k : ℕ). Within k (cellAt m (variablePlace j a))) (sym (nodes-length m (p .run .nodes)))
+      (subst (λ (x : ℕ). Within (p .run .nodes) (cellAt m x)) {x = cellPlace (frameCells * j + a)} {y = variablePlace j a} (omega arith) (ready .framed (frameCells * j + a) (omega arith))))
+      (sym (cells-at f m (framePlace j) frameCells a k) ∙ h .rest a g)
+
+  blank-word : (n j a b : ℕ) → Blank n (frameAt f m j) → j ≤ p .run .depth → n ≤ a → a < frameCells → b < cellWords → getD m (variablePlace j a + b) 0 ≡ 0
+  blank-word n j a b h l g k = either (λ (b : ℕ). getD m (variablePlace j a + b) 0 ≡ 0) (ap (λ (x : ℕ). getD m x 0) {x = variablePlace j a + 0} {y = variablePlace j a} (omega arith) ∙ blank-words n j a h l g k .0) (blank-words n j a h l g k .1) b
+
+  -- where a path comes, no cell of a frame that the code does not use holds anything but 0
+  slim-so : (n : ℕ) → Uses c n → Slim n m (p .run .depth)
+  slim-so n uses = record { rest = λ j a b l. blank-word n j a b (frames j l) l }
+    where
+      frames : (j : ℕ) → j ≤ p .run .depth → Blank n (frameAt f m j)
+      frames j l =
+          let s = spares-comes c n uses comes in
+          ⊎-elim (λ e. subst (λ (j : ℕ). Blank n (frameAt f m j)) (sym e) (s .frame)) (λ g. ⊎-elim (λ g. blanks-at f m n (p .run .depth) (p .run .base) (s .callers) j g) (λ g. absurd (omega arith)) g) (three j (p .run .depth))
+
+  -- and no cell of the first frame does, if the code begins with the call of main
+  pub unused-so : (n : ℕ) → Uses c n → CallsMain c → Unused n m (p .run .depth)
+  unused-so n uses calls-main = record {
+    first = λ x l. subst (λ (y : ℕ). getD m y 0 ≡ 0) {x = variablePlace 0 (x / 2) + x % 2} {y = x} (omega arith) (blank-word 0 0 (x / 2) (x % 2) blank (omega arith) (omega arith) (omega arith) (omega arith));
+    slim = slim-so n uses;
+  }
+    where
+      blank : Blank 0 (frameAt f m 0)
+      blank = start-at f m (p .run .pc) (p .run .depth) (p .run .base) (start-comes c calls-main comes)

@@ -1,5 +1,5 @@
--- Which cells an entry uses, by its kind, and those that a code uses.
-use mathlib.Core.Path.{_≡_, refl, sym, subst}
+-- Which cells an entry uses, by its kind, and those that a code uses; and that a code begins with the call of main.
+use mathlib.Core.Path.{_≡_, refl, sym, ap, _∙_, subst}
 use mathlib.Core.List.{List, [], _∷_}
 use mathlib.Core.Logic.{⊎-elim}
 use Prim.Native.Nat.{ℕ, zero, suc, _+_, _*_, _/_, _%_, _≤_, _<_}
@@ -8,7 +8,7 @@ use native.Mathlib.Decide.{decLt}
 use lib.ListN.{length, getD, List·getD-eq-default}
 use Rattle.simulation.specs.Code.{Entry, act, Act}
 use Rattle.simulation.specs.Words.{kinds, entryOf, entriesIn, codeIn}
-use Rattle.simulation.specs.Cells.{Fills, Uses}
+use Rattle.simulation.specs.Cells.{Fills, Uses, CallsMain}
 use Rattle.simulation.proofs.Words.{entry-in, length-entries}
 use Rattle.simulation.proofs.Cells.{fills-more}
 use Rattle.machine.proofs.Stays.{three}
@@ -51,3 +51,13 @@ pub one-more : (ws : List ℕ) (e n r k : ℕ) → ((i : ℕ) → i < e → Fill
     → (i : ℕ) → i < e + 1 → Fills k (entryOf (getD ws (2 * i) 0) (getD ws (2 * i + 1) 0))
 one-more ws e n r k h x a b i l = ⊎-elim (λ q. subst (λ (i : ℕ). Fills k (entryOf (getD ws (2 * i) 0) (getD ws (2 * i + 1) 0))) (sym q) (fills-more r k b (entryOf (getD ws (2 * e) 0) (getD ws (2 * e + 1) 0)) x))
     (λ q. ⊎-elim (λ q. fills-more n k a (entryOf (getD ws (2 * i) 0) (getD ws (2 * i + 1) 0)) (h i q)) (λ q. absurd (omega arith)) q) (three i e)
+
+-- the kinds of the first two entries, a call and a return
+pub calls-main-so : (ws : List ℕ) (size : ℕ) → 2 ≤ size → getD ws 0 0 ≡ 13 → getD ws 2 0 ≡ 23 → CallsMain (codeIn ws size)
+unfolding entryOf
+calls-main-so ws size l a b = record {
+  main = getD ws 1 0 % 16;
+  arguments = getD ws 1 0 / 16;
+  calls = entry-in ws 0 size 0 (omega arith) ∙ ap (λ k. entryOf k (getD ws 1 0)) a;
+  returns = entry-in ws 0 size 1 (omega arith) ∙ ap (λ k. entryOf k (getD ws 3 0)) b;
+}

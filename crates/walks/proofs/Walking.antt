@@ -12,6 +12,7 @@ use Rattle.semantics.specs.Search.{Value, spent, inUse}
 use Rattle.simulation.specs.Code.{Code}
 use Rattle.simulation.specs.Machine.{Machine}
 use Rattle.simulation.specs.Path.{State, Turn, End, on, ended, still, turn}
+use Rattle.simulation.specs.Cells.{CallsMain}
 use Rattle.simulation.specs.Lister.{Tally, tally, Next, go, over, then, closed, charge, charged, finish, Start, back, path}
 use Rattle.simulation.proofs.Drive.{turns-left}
 use Rattle.simulation.proofs.Resume.{after, path-turn, comes-on}
@@ -25,14 +26,14 @@ use Rattle.paths.specs.declared.Turned.{Turned}
 use Rattle.paths.specs.Point.{stateAt, Going, Stays}
 use Rattle.paths.specs.Turn.{Onward, Stops, Turning, Onwards}
 use Rattle.paths.proofs.Keeping.{nearer-of}
-use Rattle.checkpoints.specs.Live.{Slim}
+use Rattle.checkpoints.specs.Live.{Unused}
 use Rattle.checkpoints.proofs.Starts.{starts-stay}
 use Rattle.known_steps.specs.Turns.{Paces, silent, step, Turns, none, more, moves, Passes}
 use Rattle.known_steps.proofs.Passing.{paced, turns-fewer, turns-forced, moves-less, moves-none}
 use Rattle.walks.specs.declared.Stack.{Stack}
 use Rattle.walks.specs.Checkpoints.{Keeping}
 use Rattle.walks.specs.Walk.{paid, Stands, Walks, Ends}
-use Rattle.walks.proofs.Blank.{slim-so}
+use Rattle.walks.proofs.Blank.{unused-so}
 use Rattle.walks.proofs.Checkpoints.{alike-stays, checkpoints-fit, checkpoints-stay, kept-machine, kept-state, kept-limit, kept-stands}
 
 -- ---- moves
@@ -77,13 +78,13 @@ pays-turn budget left f a p q o e l (step g h) k b t z =
 
 -- ---- where a path stands
 
--- the room that the checkpoints have yet, and cells that are not in use
-pub spare : (c : Code) (job : Window) (m : List ℕ) (p : Point) (s : Stack) → Stands c job m p s → Room m (s .limit) × (s .height ≤ s .limit) × (s .cells ≤ frameCells) × Slim (s .cells) m (p .run .depth)
+-- the room that the checkpoints have yet, and cells that are not in use, those of the first frame with them
+pub spare : (c : Code) (job : Window) (m : List ℕ) (p : Point) (s : Stack) → Stands c job m p s → Room m (s .limit) × (s .height ≤ s .limit) × (s .cells ≤ frameCells) × (CallsMain c → Unused (s .cells) m (p .run .depth))
 spare c job m p s h = (
   room-less (s .limit) (omega arith) (h .stacked .room),
   checkpoints-fit c job (s .limit) (s .cells) (h .stacked .checkpoints),
   h .stacked .cells,
-  slim-so c job (s .limit) (s .cells) m p (h .stacked .uses) (h .comes) (h .going .ready),
+  unused-so c job (s .limit) m p (h .comes) (h .going .ready) (s .cells) (h .stacked .uses),
 )
 
 module _ (c : Code) (job : Window) (limit : ℕ) where

@@ -4,12 +4,13 @@ ghost use mathlib.Core.Bool.{true};
 ghost use Prim.Native.Nat.{_+_, _*_, _<_, _≤_};
 ghost use lib.ListN.{length};
 ghost use Rattle.simulation.specs.Words.{codeIn};
+ghost use Rattle.simulation.specs.Cells.{CallsMain};
 ghost use Rattle.intervals.specs.Meaning.{Filled, ofWindow};
 ghost use Rattle.machine.specs.Layout.{frameCells, tablesPlace};
 ghost use Rattle.machine.specs.Memory.{machineAt, outcomesIn};
 ghost use Rattle.machine.specs.Contracts.{Room, Started};
 ghost use Rattle.paths.specs.Point.{stateAt, Going};
-ghost use Rattle.checkpoints.specs.Live.{Small, Slim};
+ghost use Rattle.checkpoints.specs.Live.{Small, Unused};
 ghost use Rattle.walks.specs.Checkpoints.{Due, Keeping, Dropped};
 ghost use Rattle.walks.specs.Walk.{atStart, Stands, Walking, Begins, FromMain};
 use code::entry;
@@ -74,13 +75,27 @@ fn is_due(code: &[u32], size: usize, p: Point, s: Stack) -> bool
     false
 }
 
+// Whether the code begins with the call of main, whose value is returned: then nothing is ever stored in the first frame, that of the start.
+fn calls_main(code: &[u32], size: usize) -> bool
+    requires { ⌜ 2 * size ≤ length (now code) ⌝ }
+    ensures { λ r. ⌜ (r ≡ true → CallsMain (codeIn (now (code .entry)) size)) ⌝ }
+{
+    if size < 2 {
+        return false;
+    }
+    if code[0] != entry::CALL {
+        return false;
+    }
+    code[entry::WORDS] == entry::RETURN
+}
+
 // Saves a checkpoint, if one is due.
 fn keep(code: &[u32], size: usize, mem: &mut [u32], p: Point, s: Stack) -> Stack
-    requires { ⌜ (2 * size ≤ length (now code)) × (size < 65536) × Going (now mem) p × Room (now mem) (s .limit) × (s .height ≤ s .limit) × (s .cells ≤ frameCells) × Slim (s .cells) (now mem) (p .run .depth) ⌝ }
+    requires { ⌜ (2 * size ≤ length (now code)) × (size < 65536) × Going (now mem) p × Room (now mem) (s .limit) × (s .height ≤ s .limit) × (s .cells ≤ frameCells) × (CallsMain (codeIn (now code) size) → Unused (s .cells) (now mem) (p .run .depth)) ⌝ }
     ensures { λ r. ⌜ Keeping size (now (mem .entry)) (now (mem .exit)) p s r ⌝ }
 {
     if is_due(code, size, p, s) {
-        if checkpoints::unused(mem, s.cells) {
+        if calls_main(code, size) {
             checkpoints::save(mem, p, s.cells, s.height);
             return Stack {
                 height: s.height + checkpoints::size_of(p, s.cells),
