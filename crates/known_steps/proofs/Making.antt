@@ -30,7 +30,7 @@ use Rattle.paths.proofs.Comparing.{compared-so}
 use Rattle.paths.proofs.Turning.{step-on, spent-standing, test-on}
 use Rattle.paths.proofs.Keeping.{standing-kept, growing-kept, silent-on, onwards, turned, test-turned}
 use Rattle.known_steps.specs.declared.Next.{Next}
-use Rattle.known_steps.specs.Turns.{silent, step, Made, Leads, once, made, stopped, One, one, no}
+use Rattle.known_steps.specs.Turns.{silent, step, Made, OneOrTwo, once, made, stopped, One, one, no}
 use Rattle.known_steps.proofs.Decided.{decided-known}
 
 module _ (c : Code) (m : List ℕ) (p : Point) (g : Going m p) where
@@ -105,11 +105,11 @@ module _ (c : Code) (m : List ℕ) (p : Point) (g : Going m p) where
 
 -- ---- what one turn answers
 
-pub one-leads : (c : Code) (m m′ : List ℕ) (p : Point) (floor : ℕ) (r : Next) (q : Point) → r ≡ made q → Leads c m m′ p q → floor ≤ q .steps → One c m m′ p floor r
-one-leads c m m′ p floor r q e h l = subst (One c m m′ p floor) (sym e) (one refl h l)
+pub one-both : (c : Code) (m m′ : List ℕ) (p : Point) (floor : ℕ) (r : Next) (q : Point) → r ≡ made q → OneOrTwo c m m′ p q → floor ≤ q .steps → One c m m′ p floor r
+one-both c m m′ p floor r q e h l = subst (One c m m′ p floor) (sym e) (one refl h l)
 
 pub one-made : (c : Code) (m m′ : List ℕ) (p : Point) (floor : ℕ) (r : Next) (q : Point) → r ≡ made q → Made c m m′ p q → floor ≤ q .steps → One c m m′ p floor r
-one-made c m m′ p floor r q e h l = one-leads c m m′ p floor r q e (once h) l
+one-made c m m′ p floor r q e h l = one-both c m m′ p floor r q e (once h) l
 
 pub one-not : (c : Code) (m m′ : List ℕ) (p : Point) (floor : ℕ) (r : Next) → r ≡ stopped p → m′ ≡ m → One c m m′ p floor r
 one-not c m m′ p floor r e h = subst (One c m m′ p floor) (sym e) (no refl h)

@@ -13,12 +13,12 @@ use Rattle.paths.specs.declared.Point.{Point}
 use Rattle.paths.specs.Point.{stateAt, Going}
 use Rattle.paths.proofs.Keeping.{nearer-of}
 use Rattle.known_steps.specs.declared.Next.{Next}
-use Rattle.known_steps.specs.Turns.{Paces, silent, step, Made, Turns, none, more, Leads, once, twice, One, one, no, moves}
+use Rattle.known_steps.specs.Turns.{Paces, silent, step, Made, Turns, none, more, OneOrTwo, once, twice, One, one, no, moves}
 
 -- ---- one turn
 
 module _ (c : Code) (m m′ : List ℕ) (p : Point) (floor : ℕ) (r : Next) where
-  pub one-yes : One c m m′ p floor r → r .on ≡ true → Leads c m m′ p (r .point) × (floor ≤ r .point .steps)
+  pub one-yes : One c m m′ p floor r → r .on ≡ true → OneOrTwo c m m′ p (r .point) × (floor ≤ r .point .steps)
   one-yes (one e h l) t = (h, l)
   one-yes (no e h) t = absurd (true≢false (sym t ∙ e))
 
@@ -30,17 +30,17 @@ module _ (c : Code) (m m′ : List ℕ) (p : Point) (floor : ℕ) (r : Next) whe
 pub nearer : (c : Code) (m m′ : List ℕ) (p q : Point) → Going m p → Made c m m′ p q → turns-left c (machineAt m′ (q .run)) (stateAt m′ q) < turns-left c (machineAt m (p .run)) (stateAt m p)
 nearer c m m′ p q g h = nearer-of all32 c m m′ p q (h .move) (g .ready) (h .is all32 .is) .nearer
 
-pub leads-nearer : (c : Code) (m m′ : List ℕ) (p q : Point) → Going m p → Leads c m m′ p q → turns-left c (machineAt m′ (q .run)) (stateAt m′ q) < turns-left c (machineAt m (p .run)) (stateAt m p)
-leads-nearer c m m′ p q g (once h) = nearer c m m′ p q g h
-leads-nearer c m m′ p q g (twice m₁ p₁ h k) = omega (arith, nearer c m m₁ p p₁ g h, nearer c m₁ m′ p₁ q (h .going) k)
+pub both-nearer : (c : Code) (m m′ : List ℕ) (p q : Point) → Going m p → OneOrTwo c m m′ p q → turns-left c (machineAt m′ (q .run)) (stateAt m′ q) < turns-left c (machineAt m (p .run)) (stateAt m p)
+both-nearer c m m′ p q g (once h) = nearer c m m′ p q g h
+both-nearer c m m′ p q g (twice m₁ p₁ h k) = omega (arith, nearer c m m₁ p p₁ g h, nearer c m₁ m′ p₁ q (h .going) k)
 
-pub leads-going : (c : Code) (m m′ : List ℕ) (p q : Point) → Leads c m m′ p q → Going m′ q
-leads-going c m m′ p q (once h) = h .going
-leads-going c m m′ p q (twice m₁ p₁ h k) = k .going
+pub both-going : (c : Code) (m m′ : List ℕ) (p q : Point) → OneOrTwo c m m′ p q → Going m′ q
+both-going c m m′ p q (once h) = h .going
+both-going c m m′ p q (twice m₁ p₁ h k) = k .going
 
-pub leads-on : (c : Code) (m₀ m m′ : List ℕ) (p₀ p q : Point) → Turns c m₀ p₀ m p → Leads c m m′ p q → Turns c m₀ p₀ m′ q
-leads-on c m₀ m m′ p₀ p q ts (once h) = more m p ts h
-leads-on c m₀ m m′ p₀ p q ts (twice m₁ p₁ h k) = more m₁ p₁ (more m p ts h) k
+pub both-on : (c : Code) (m₀ m m′ : List ℕ) (p₀ p q : Point) → Turns c m₀ p₀ m p → OneOrTwo c m m′ p q → Turns c m₀ p₀ m′ q
+both-on c m₀ m m′ p₀ p q ts (once h) = more m p ts h
+both-on c m₀ m m′ p₀ p q ts (twice m₁ p₁ h k) = more m₁ p₁ (more m p ts h) k
 
 -- ---- all turns
 

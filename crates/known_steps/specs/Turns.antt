@@ -39,10 +39,10 @@ pub data Turns (c : Code) (m : List ℕ) (p : Point) : (m′ : List ℕ) (q : Po
 
 -- ---- one turn
 
--- a turn leads from p to q; or two do, that of an operation and that of the assignment behind it
-pub data Leads (c : Code) (m m′ : List ℕ) (p q : Point) : Type 0 where
-  once : Made c m m′ p q → Leads c m m′ p q
-  twice : (m₁ : List ℕ) (p₁ : Point) → Made c m m₁ p p₁ → Made c m₁ m′ p₁ q → Leads c m m′ p q
+-- from p to q by a turn, or by two, that of an operation and that of the assignment behind it
+pub data OneOrTwo (c : Code) (m m′ : List ℕ) (p q : Point) : Type 0 where
+  once : Made c m m′ p q → OneOrTwo c m m′ p q
+  twice : (m₁ : List ℕ) (p₁ : Point) → Made c m m₁ p p₁ → Made c m₁ m′ p₁ q → OneOrTwo c m m′ p q
 
 -- the newest temporary of the running function has the word v: the value of the operation before the entry at the point
 pub record Result (words m : List ℕ) (p : Point) (v : ℕ) : Type 0 where
@@ -59,7 +59,7 @@ abbrev pub stopped : Point → Next
 stopped p = record { on = false; point = p }
 
 pub data One (c : Code) (m m′ : List ℕ) (p : Point) (floor : ℕ) (r : Next) : Type 0 where
-  one : r .on ≡ true → Leads c m m′ p (r .point) → floor ≤ r .point .steps → One c m m′ p floor r
+  one : r .on ≡ true → OneOrTwo c m m′ p (r .point) → floor ≤ r .point .steps → One c m m′ p floor r
   no : r .on ≡ false → m′ ≡ m → One c m m′ p floor r
 
 -- ---- what the moves cost

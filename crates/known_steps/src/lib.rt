@@ -17,7 +17,7 @@ ghost use Rattle.paths.specs.declared.Point as point;
 ghost use Rattle.paths.specs.Point.{Going, running};
 ghost use Rattle.paths.specs.Turn.{spending};
 ghost use Rattle.known_steps.specs.Cells.{valueAs};
-ghost use Rattle.known_steps.specs.Turns.{Turns, Made, Leads, Result, made, stopped, One, moves, Passes};
+ghost use Rattle.known_steps.specs.Turns.{Turns, Made, OneOrTwo, Result, made, stopped, One, moves, Passes};
 use code::entry;
 use machine::Run;
 use machine::layout;
@@ -259,7 +259,7 @@ fn go(p: Point) -> Next
 // The assignment behind an operation whose value is v, if there is one.
 fn assign(code: &[u32], size: usize, mem: &mut [u32], p: Point, v: u32) -> Point
     requires { ⌜ (2 * size ≤ length (now code)) × (size < 65536) × Going (now mem) p × Result (now code) (now mem) p v ⌝ }
-    ensures { λ r. ⌜ ((m : List ℕ) (before : point.Point) → Made (codeIn (now (code .entry)) size) m (now (mem .entry)) before p → Leads (codeIn (now (code .entry)) size) m (now (mem .exit)) before r) × (r .steps ≡ p .steps) ⌝ }
+    ensures { λ r. ⌜ ((m : List ℕ) (before : point.Point) → Made (codeIn (now (code .entry)) size) m (now (mem .entry)) before p → OneOrTwo (codeIn (now (code .entry)) size) m (now (mem .exit)) before r) × (r .steps ≡ p .steps) ⌝ }
 {
     let run = p.run;
     if size <= run.pc {

@@ -4,7 +4,7 @@ use native.Mathlib.Omega.{arith}
 use lib.ListN.{getD}
 use Rattle.simulation.specs.Words.{codeIn}
 use Rattle.known_steps.specs.declared.Next.{Next}
-use Rattle.known_steps.specs.Turns.{Leads, once, twice}
+use Rattle.known_steps.specs.Turns.{OneOrTwo, once, twice}
 use Rattle.known_steps.proofs.Working.{result-made}
 use borrow.Author.Needs.{needs}
 use Rattle.known_steps.proofs.assign.Statement.{statement}
@@ -93,7 +93,7 @@ returns-3 c =
     let a = s .args in
     let u = c .before .before .before .before .before .before .put in
     let n = c .before .silent in (
-      λ m before h. subst (λ (x : Next). Leads (codeIn (a .code .now) (a .size)) m (u .last .0) before (x .point)) (sym (n .ensures))
+      λ m before h. subst (λ (x : Next). OneOrTwo (codeIn (a .code .now) (a .size)) m (u .last .0) before (x .point)) (sym (n .ensures))
           (twice (a .mem .now) (a .p) h
           (result-made (a .code .now) (a .size) (a .mem .now) (a .p) (s .pre .2) (omega (arith, c .before .before .before .before .before .before .before .before .before .before .before .before .before .before .if1 .left)) (getD (a .code .now) (2 * a .p .run .pc) 0) (getD (a .code .now) (2 * a .p .run .pc + 1) 0) refl refl (c .before .before .before .before .before .before .before .before .before .before .before .if2 .left) (a .v) (omega (arith, s .fits .v)) (s .pre .3) (u .last .0) (u .kept .0) (u .ensures))),
       ap (λ (x : Next). x .point .steps) (n .ensures),

@@ -7,7 +7,7 @@ use Rattle.simulation.proofs.Drive.{turns-left}
 use Rattle.machine.specs.Memory.{machineAt}
 use Rattle.paths.specs.Point.{stateAt, Going}
 use Rattle.known_steps.specs.Turns.{Turns, none}
-use Rattle.known_steps.proofs.Passing.{one-yes, one-nothing, leads-nearer, leads-going, leads-on}
+use Rattle.known_steps.proofs.Passing.{one-yes, one-nothing, both-nearer, both-going, both-on}
 use Rattle.known_steps.proofs.make.Statement.{statement}
 use Rattle.known_steps.proofs.make.Tie as tie
 use Rattle.known_steps.proofs.make.Reads as reads
@@ -36,7 +36,7 @@ loop-less c =
     let o = c .before .before .before .before .one in
     let m′ = o .last .1 .1 .0 in
     let h = one-yes (codeIn (a .code .now) (a .size)) (l .mem) m′ (l .p) (a .floor) (o .result) (o .ensures) (c .before .if1 .taken) in
-    leads-nearer (codeIn (a .code .now) (a .size)) (l .mem) m′ (l .p) (o .result .point) (l .inv .1) (h .0)
+    both-nearer (codeIn (a .code .now) (a .size)) (l .mem) m′ (l .p) (o .result .point) (l .inv .1) (h .0)
 
 -- src/lib.rt:372:5
 loop-again : tie.Need-loop-again Inv-loop μ-loop
@@ -46,8 +46,8 @@ loop-again c =
     let o = c .before .before .before .before .one in
     let m′ = o .last .1 .1 .0 in
     let h = one-yes (codeIn (a .code .now) (a .size)) (l .mem) m′ (l .p) (a .floor) (o .result) (o .ensures) (c .before .if1 .taken) in (
-      leads-on (codeIn (a .code .now) (a .size)) (a .mem .now) (l .mem) m′ (a .begins) (l .p) (o .result .point) (l .inv .0) (h .0),
-      leads-going (codeIn (a .code .now) (a .size)) (l .mem) m′ (l .p) (o .result .point) (h .0),
+      both-on (codeIn (a .code .now) (a .size)) (a .mem .now) (l .mem) m′ (a .begins) (l .p) (o .result .point) (l .inv .0) (h .0),
+      both-going (codeIn (a .code .now) (a .size)) (l .mem) m′ (l .p) (o .result .point) (h .0),
       h .1,
       o .kept .1 .1 .0 ∙ l .inv .3,
     )

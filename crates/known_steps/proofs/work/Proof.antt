@@ -3,7 +3,7 @@ use mathlib.Core.Path.{refl, ap}
 use native.Mathlib.Omega.{arith}
 use Rattle.simulation.specs.Words.{codeIn}
 use Rattle.known_steps.specs.declared.Next.{Next}
-use Rattle.known_steps.proofs.Making.{one-leads, one-made, one-not}
+use Rattle.known_steps.proofs.Making.{one-both, one-made, one-not}
 use Rattle.known_steps.proofs.Working.{op-left, cmp-made}
 use borrow.Author.Needs.{needs}
 use Rattle.known_steps.proofs.work.Statement.{statement}
@@ -74,7 +74,7 @@ returns c =
     let h = op-left (a .code .now) (a .size) (a .mem .now) (a .p) (s .pre .2) (s .pre .3) (a .kind) (a .d) (s .pre .4) (s .pre .5) (omega (arith, s .pre .8)) (b .result .left) (b .result .right) (b .result .top) (b .ensures (c .before .before .before .before .before .before .before .before .before .before .before .before .before .before .before .if1 .taken))
     (s .pre .6) (c .before .before .before .before .before .before .before .before .before .before .before .before .before .before .if2 .taken) (o .result) (omega (arith, o .ok)) (o .ensures) (u .last .0) (u .kept .0) (u .ensures) (n .result) (n .ensures) in
     let d = c .before .before .before .assign in
-    one-leads (codeIn (a .code .now) (a .size)) (a .mem .now) (d .last .1 .1 .0) (a .p) (a .floor) (c .go .result) (d .result) (c .go .ensures) (d .ensures .0 (a .mem .now) (a .p) (h .0)) (omega (arith, s .pre .8, d .ensures .1, ap (λ (x : Next). x .point .steps) (n .ensures)))
+    one-both (codeIn (a .code .now) (a .size)) (a .mem .now) (d .last .1 .1 .0) (a .p) (a .floor) (c .go .result) (d .result) (c .go .ensures) (d .ensures .0 (a .mem .now) (a .p) (h .0)) (omega (arith, s .pre .8, d .ensures .1, ap (λ (x : Next). x .point .steps) (n .ensures)))
 
 add-t26 : tie.Need-add-t26
 add-t26 c = search needs
