@@ -27,8 +27,8 @@ use Rattle.paths.specs.Point.{stateAt, Tested, Standing, Going, Stays}
 use Rattle.paths.proofs.Table.{starts-same, node-same, nodes-same}
 use Rattle.paths.proofs.Choice.{outcomes-same}
 use Rattle.paths.proofs.Choosing.{test-same, tests-same}
-use Rattle.checkpoints.specs.Live.{livePairs, numberCount, sizeOf, Reaches, Unused}
-use Rattle.checkpoints.specs.Words.{pointAt, Alive, Back, Saved, Agrees, forced, Restored, Ends}
+use Rattle.checkpoints.specs.Live.{livePairs, numberCount, sizeOf, HasLive, Unused}
+use Rattle.checkpoints.specs.Words.{pointAt, Alive, Back, Saved, Agrees, forced, Restored, EndsBefore}
 use Rattle.checkpoints.proofs.Places.{in-pairs}
 
 -- the first pairs, where the words of these stay
@@ -199,10 +199,10 @@ module _ (n : ℕ) (m : List ℕ) (w : ℕ) (q : Point) (fits : n ≤ 16) (read 
   is-point : (m₀ : List ℕ) (p : Point) (v : ℕ) → w ≡ v + sizeOf n p → Saved n m m₀ p v → q ≡ p
   is-point m₀ p v e s = read ∙ ap (pointAt m) {x = w - numberCount} {y = v + sizeOf n p - numberCount} (omega arith) ∙ s .numbers
 
-  pub reaches-so : Ends n m w → Reaches m q × (sizeOf n q ≤ w)
+  pub reaches-so : EndsBefore n m w → HasLive m q × (sizeOf n q ≤ w)
   reaches-so h =
       let g = h .saved .going in
-      subst (λ (p : Point). Reaches m p × (sizeOf n p ≤ w)) (sym (is-point (h .before) (h .point) (h .start) (h .size) (h .saved))) (
+      subst (λ (p : Point). HasLive m p × (sizeOf n p ≤ w)) (sym (is-point (h .before) (h .point) (h .start) (h .size) (h .saved))) (
         record { deep = g .ready .deep; few = g .standing .tables .count; tops = room-same {m = h .before} {m′ = m} (sym (h .saved .same-length)) (g .ready .tops) },
         omega (arith, h .size),
       )
@@ -213,7 +213,7 @@ module _ (n : ℕ) (m : List ℕ) (w : ℕ) (q : Point) (fits : n ≤ 16) (read 
         let f = is-point m₀ p u e s in
         subst (Back n m m₁ p) {x = v} {y = u} (omega (arith, ap (sizeOf n) f)) (subst (λ (p : Point). Back n m m₁ p v) f back)
 
-    pub ranges-asked : Ends n m w → (q .windows ≤ 8) × Room m₁ (q .run .nodes) × Windows (windowsIn m₁ (q .windows))
+    pub ranges-asked : EndsBefore n m w → (q .windows ≤ 8) × Room m₁ (q .run .nodes) × Windows (windowsIn m₁ (q .windows))
     ranges-asked h =
         let g = h .saved .going in
         subst (λ (p : Point). (p .windows ≤ 8) × Room m₁ (p .run .nodes) × Windows (windowsIn m₁ (p .windows))) (sym (is-point (h .before) (h .point) (h .start) (h .size) (h .saved))) (

@@ -35,7 +35,7 @@ pub record Small (p : Point) : Type 0 where
   pub windows : p .windows < 4294967296
 
 -- a memory that has all that is live at the point
-pub record Reaches (m : List ℕ) (p : Point) : Type 0 where
+pub record HasLive (m : List ℕ) (p : Point) : Type 0 where
   pub deep : p .run .depth ≤ 32
   pub few : p .windows ≤ 8
   pub tops : Room m (p .run .top)

@@ -36,7 +36,7 @@ pointAt m w = record {
 }
 
 -- numbers that fit into words
-pub record Sized (p : Point) : Type 0 where
+pub record WordSized (p : Point) : Type 0 where
   pub pc : p .run .pc < 4294967296
   pub base : p .run .base < 4294967296
   pub nodes : p .run .nodes < 4294967296
@@ -101,7 +101,7 @@ pub record Restored (m m₀ m′ : List ℕ) (p q : Point) (f : ℕ) : Type 0 wh
   pub starts : (k : ℕ) → startsIn m′ k ≡ startsIn m k
 
 -- a checkpoint ends before mark w
-pub record Ends (n : ℕ) (m : List ℕ) (w : ℕ) : Type 0 where
+pub record EndsBefore (n : ℕ) (m : List ℕ) (w : ℕ) : Type 0 where
   pub before : List ℕ
   pub point : Point
   pub start : ℕ

@@ -7,8 +7,8 @@ ghost use Rattle.machine.specs.Layout.{frameCells, tablesPlace};
 ghost use Rattle.machine.specs.Contracts.{Room};
 ghost use Rattle.paths.specs.declared.Point as point;
 ghost use Rattle.paths.specs.Point.{Going};
-ghost use Rattle.checkpoints.specs.Live.{framed, livePairs, sizeOf, numberCount, Small, Reaches, Unused, Row, Marking, RowSaved, RowBack, FramesSaved, FramesBack, Cleared};
-ghost use Rattle.checkpoints.specs.Words.{bitOf, numbersOf, numberAt, pointAt, Sized, Numbered, Lives, Back, Saved, Agrees, forced as forcedS, Restored, Ends};
+ghost use Rattle.checkpoints.specs.Live.{framed, livePairs, sizeOf, numberCount, Small, HasLive, Unused, Row, Marking, RowSaved, RowBack, FramesSaved, FramesBack, Cleared};
+ghost use Rattle.checkpoints.specs.Words.{bitOf, numbersOf, numberAt, pointAt, WordSized, Numbered, Lives, Back, Saved, Agrees, forced as forcedS, Restored, EndsBefore};
 use machine::Run;
 use machine::layout;
 use paths::Point;
@@ -66,7 +66,7 @@ fn save_frames(mem: &mut [u32], cells: usize, d: usize, w: usize)
 
 // What is live at the point p is copied to the marks from w on: frames, callers, windows, temporaries.
 fn save_pairs(mem: &mut [u32], p: Point, cells: usize, w: usize)
-    requires { ⌜ Reaches (now mem) p × (cells ≤ frameCells) × Room (now mem) (w + livePairs cells p) ⌝ }
+    requires { ⌜ HasLive (now mem) p × (cells ≤ frameCells) × Room (now mem) (w + livePairs cells p) ⌝ }
     ensures { λ _. ⌜ Lives cells (now (mem .exit)) (now (mem .entry)) p w × Marking (now (mem .entry)) (now (mem .exit)) w (livePairs cells p) ⌝ }
 {
     let run = p.run;
@@ -100,7 +100,7 @@ fn bit(o: bool) -> u32
 
 // The numbers of a point, in a row.
 fn numbers_of(p: Point) -> [u32; NUMBERS]
-    requires { ⌜ Sized p ⌝ }
+    requires { ⌜ WordSized p ⌝ }
     ensures { λ r. ⌜ r ≡ numbersOf p ⌝ }
 {
     let run = p.run;
@@ -148,7 +148,7 @@ pub fn point_at(mem: &[u32], w: usize) -> Point
 
 // Saves the point p from mark w on, where so many cells of a frame are in use.
 pub fn save(mem: &mut [u32], p: Point, cells: usize, w: usize)
-    requires { ⌜ Going (now mem) p × Sized p × (p .forced ≡ 0) × (cells ≤ frameCells) × Room (now mem) (w + sizeOf cells p) × Unused cells (now mem) (p .run .depth) ⌝ }
+    requires { ⌜ Going (now mem) p × WordSized p × (p .forced ≡ 0) × (cells ≤ frameCells) × Room (now mem) (w + sizeOf cells p) × Unused cells (now mem) (p .run .depth) ⌝ }
     ensures { λ _. ⌜ Saved cells (now (mem .exit)) (now (mem .entry)) p w × Marking (now (mem .entry)) (now (mem .exit)) w (sizeOf cells p) ⌝ }
 {
     let n = size_of(p, cells);
@@ -200,7 +200,7 @@ fn restore_frames(mem: &mut [u32], cells: usize, d: usize, w: usize)
 
 // What was live at the point p is put back, from mark w on.
 fn restore_pairs(mem: &mut [u32], p: Point, cells: usize, w: usize)
-    requires { ⌜ Reaches (now mem) p × (cells ≤ frameCells) × Room (now mem) (w + livePairs cells p) ⌝ }
+    requires { ⌜ HasLive (now mem) p × (cells ≤ frameCells) × Room (now mem) (w + livePairs cells p) ⌝ }
     ensures { λ _. ⌜ Back cells (now (mem .entry)) (now (mem .exit)) p w ⌝ }
 {
     let run = p.run;
@@ -230,7 +230,7 @@ fn force(p: Point, f: usize) -> Point
 
 // Comes back to the checkpoint that ends before mark w, with the outcomes of choices up to number k forced: what stands in the memory is what stood when it was saved.
 pub fn restore(mem: &mut [u32], cells: usize, w: usize, k: usize) -> Point
-    requires { ⌜ Ends cells (now mem) w × (cells ≤ frameCells) × Room (now mem) w ⌝ }
+    requires { ⌜ EndsBefore cells (now mem) w × (cells ≤ frameCells) × Room (now mem) w ⌝ }
     ensures { λ r. ⌜ ((m₀ : List ℕ) (p : point.Point) (v : ℕ) → w ≡ v + sizeOf cells p → Saved cells (now (mem .entry)) m₀ p v → Agrees (now (mem .entry)) m₀ p → Restored (now (mem .entry)) m₀ (now (mem .exit)) p r (k - p .choices)) ⌝ }
 {
     let p = point_at(mem, w - NUMBERS);

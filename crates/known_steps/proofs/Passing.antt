@@ -7,7 +7,7 @@ use native.Mathlib.Omega.{arith}
 use lib.ListN.{length}
 use Rattle.semantics.specs.Search.{all32}
 use Rattle.simulation.specs.Code.{Code}
-use Rattle.simulation.proofs.Drive.{turns-left}
+use Rattle.simulation.specs.Measure.{turnsLeft}
 use Rattle.machine.specs.Memory.{machineAt}
 use Rattle.paths.specs.declared.Point.{Point}
 use Rattle.paths.specs.Point.{stateAt, Going}
@@ -27,10 +27,10 @@ module _ (c : Code) (m m′ : List ℕ) (p : Point) (floor : ℕ) (r : Next) whe
   one-nothing (no e h) t = h
 
 -- after a turn the end is nearer
-pub nearer : (c : Code) (m m′ : List ℕ) (p q : Point) → Going m p → Made c m m′ p q → turns-left c (machineAt m′ (q .run)) (stateAt m′ q) < turns-left c (machineAt m (p .run)) (stateAt m p)
+pub nearer : (c : Code) (m m′ : List ℕ) (p q : Point) → Going m p → Made c m m′ p q → turnsLeft c (machineAt m′ (q .run)) (stateAt m′ q) < turnsLeft c (machineAt m (p .run)) (stateAt m p)
 nearer c m m′ p q g h = nearer-of all32 c m m′ p q (h .move) (g .ready) (h .is all32 .is) .nearer
 
-pub both-nearer : (c : Code) (m m′ : List ℕ) (p q : Point) → Going m p → OneOrTwo c m m′ p q → turns-left c (machineAt m′ (q .run)) (stateAt m′ q) < turns-left c (machineAt m (p .run)) (stateAt m p)
+pub both-nearer : (c : Code) (m m′ : List ℕ) (p q : Point) → Going m p → OneOrTwo c m m′ p q → turnsLeft c (machineAt m′ (q .run)) (stateAt m′ q) < turnsLeft c (machineAt m (p .run)) (stateAt m p)
 both-nearer c m m′ p q g (once h) = nearer c m m′ p q g h
 both-nearer c m m′ p q g (twice m₁ p₁ h k) = omega (arith, nearer c m m₁ p p₁ g h, nearer c m₁ m′ p₁ q (h .going) k)
 
@@ -61,9 +61,9 @@ module _ (c : Code) (m : List ℕ) (p : Point) (g : Going m p) where
   turns-forced m′ q (none e f) = ap (λ (q : Point). q .forced) f
   turns-forced m′ q (more m₁ p₁ ts h) = h .forced ∙ turns-forced m₁ p₁ ts
 
-  pub turns-nearer : (m′ : List ℕ) (q : Point) → Turns c m p m′ q → turns-left c (machineAt m′ (q .run)) (stateAt m′ q) ≤ turns-left c (machineAt m (p .run)) (stateAt m p)
+  pub turns-nearer : (m′ : List ℕ) (q : Point) → Turns c m p m′ q → turnsLeft c (machineAt m′ (q .run)) (stateAt m′ q) ≤ turnsLeft c (machineAt m (p .run)) (stateAt m p)
   turns-nearer m′ q (none e f) =
-      let z : turns-left c (machineAt m′ (q .run)) (stateAt m′ q) ≡ turns-left c (machineAt m (p .run)) (stateAt m p) = ap₂ (λ (l : List ℕ) (q : Point). turns-left c (machineAt l (q .run)) (stateAt l q)) e f in
+      let z : turnsLeft c (machineAt m′ (q .run)) (stateAt m′ q) ≡ turnsLeft c (machineAt m (p .run)) (stateAt m p) = ap₂ (λ (l : List ℕ) (q : Point). turnsLeft c (machineAt l (q .run)) (stateAt l q)) e f in
       omega arith
   turns-nearer m′ q (more m₁ p₁ ts h) = omega (arith, turns-nearer m₁ p₁ ts, nearer c m₁ m′ p₁ q (turns-going m₁ p₁ ts) h)
 

@@ -9,6 +9,7 @@ use lib.ListN.{getD}
 use Rattle.semantics.specs.Program.{Window}
 use Rattle.semantics.specs.Search.{inUse}
 use Rattle.simulation.specs.Code.{Code}
+use Rattle.simulation.specs.Words.{cAdd}
 use Rattle.simulation.specs.Path.{turn}
 use Rattle.machine.specs.Layout.{tempPlace}
 use Rattle.machine.specs.Memory.{cellAs, cellAt, machineAt}
@@ -48,7 +49,7 @@ pub data OneOrTwo (c : Code) (m m′ : List ℕ) (p q : Point) : Type 0 where
 pub record Result (words m : List ℕ) (p : Point) (v : ℕ) : Type 0 where
   pub some : p .run .base < p .run .top
   pub behind : 0 < p .run .pc
-  pub operation : 4 ≤ getD words (2 * (p .run .pc - 1)) 0
+  pub operation : cAdd ≤ getD words (2 * (p .run .pc - 1)) 0
   pub cell : cellAt m (tempPlace (p .run .top - 1)) ≡ cellAs 0 v
 
 -- a turn was made, or there is none of this kind

@@ -1,16 +1,15 @@
 // Turns that choose nothing and add no node, in a loop of their own: values stay words, and nothing but the point goes from turn to turn.
 ghost use mathlib.Core.Path.{_≡_};
 ghost use mathlib.Core.Bool.{true};
-ghost use Prim.Native.Nat.{ℕ, _+_, _-_, _*_, _<_, _≤_, suc};
+ghost use Prim.Native.Nat.{ℕ, _+_, _-_, _*_, _<_, _≤_};
 ghost use lib.ListN.{length, getD};
 ghost use mir.Syntax.{w32};
 ghost use mir.Val.{toZ};
 ghost use Rattle.semantics.specs.Int.{arith, holds as holdsOf};
-ghost use Rattle.simulation.specs.Machine.{landing as landingS};
-ghost use Rattle.simulation.specs.Words.{codeIn};
+ghost use Rattle.simulation.specs.Words.{cAdd, cCall, cStore, codeIn};
 ghost use Rattle.ints.specs.Numbers.{operation, comparison};
 ghost use Rattle.machine.specs.Memory.{cellAs};
-ghost use Rattle.machine.specs.Contracts.{Ready, Put, Popped, Taking, Paired, moved as movedS, flagged as flaggedS};
+ghost use Rattle.machine.specs.Contracts.{Ready, Put, Popped, Taking, Paired, moved as movedS};
 ghost use Rattle.machine.specs.declared.Value.the-variants.{Known};
 ghost use mathlib.Core.List.{List};
 ghost use Rattle.paths.specs.declared.Point as point;
@@ -222,33 +221,6 @@ fn moved(run: Run, pc: usize) -> Run
     }
 }
 
-// The same run at the next entry, with another flag.
-fn flagged(run: Run, flag: bool) -> Run
-    requires { ⌜ run .pc < 65536 ⌝ }
-    ensures { λ r. ⌜ r ≡ movedS (flaggedS run flag) (run .pc + 1) ⌝ }
-{
-    Run {
-        pc: run.pc + 1,
-        flag: flag,
-        base: run.base,
-        top: run.top,
-        depth: run.depth,
-        nodes: run.nodes,
-    }
-}
-
-// Where a jump over w entries goes that is made if the flag is as said.
-fn landing(run: Run, flag: bool, w: usize) -> usize
-    requires { ⌜ (run .pc < 65536) × (w < 4294967296) ⌝ }
-    ensures { λ r. ⌜ r ≡ landingS flag (run .flag) w (suc (run .pc)) ⌝ }
-{
-    if run.flag == flag {
-        run.pc + 1 + w
-    } else {
-        run.pc + 1
-    }
-}
-
 // A turn was made, up to the point p.
 fn go(p: Point) -> Next
     ensures { λ r. ⌜ r ≡ made p ⌝ }
@@ -299,7 +271,7 @@ fn work(
     kind: u32,
     d: usize,
 ) -> Next
-    requires { ⌜ (2 * size ≤ length (now code)) × (size < 65536) × Going (now mem) p × (p .run .pc < size) × (kind ≡ getD (now code) (2 * p .run .pc) 0) × (d ≡ getD (now code) (2 * p .run .pc + 1) 0) × (4 ≤ kind) × (kind < 13) × (floor < p .steps) ⌝ }
+    requires { ⌜ (2 * size ≤ length (now code)) × (size < 65536) × Going (now mem) p × (p .run .pc < size) × (kind ≡ getD (now code) (2 * p .run .pc) 0) × (d ≡ getD (now code) (2 * p .run .pc + 1) 0) × (cAdd ≤ kind) × (kind < cCall) × (floor < p .steps) ⌝ }
     ensures { λ r. ⌜ One (codeIn (now (code .entry)) size) (now (mem .entry)) (now (mem .exit)) p floor r ⌝ }
 {
     let run = p.run;
@@ -338,7 +310,7 @@ fn work(
 
 // An assignment.
 fn store(code: &[u32], size: usize, mem: &mut [u32], p: Point, floor: usize, w: usize) -> Next
-    requires { ⌜ (2 * size ≤ length (now code)) × (size < 65536) × Going (now mem) p × (p .run .pc < size) × (getD (now code) (2 * p .run .pc) 0 ≡ 22) × (w ≡ getD (now code) (2 * p .run .pc + 1) 0) × (floor ≤ p .steps) ⌝ }
+    requires { ⌜ (2 * size ≤ length (now code)) × (size < 65536) × Going (now mem) p × (p .run .pc < size) × (getD (now code) (2 * p .run .pc) 0 ≡ cStore) × (w ≡ getD (now code) (2 * p .run .pc + 1) 0) × (floor ≤ p .steps) ⌝ }
     ensures { λ r. ⌜ One (codeIn (now (code .entry)) size) (now (mem .entry)) (now (mem .exit)) p floor r ⌝ }
 {
     let run = p.run;
@@ -377,10 +349,10 @@ fn act(
 {
     let run = p.run;
     match kind {
-        entry::NEVER => silent(p, flagged(run, false)),
-        entry::ALWAYS => silent(p, flagged(run, true)),
-        entry::JUMP => silent(p, moved(run, landing(run, false, w))),
-        entry::JUMP_TRUE => silent(p, moved(run, landing(run, true, w))),
+        entry::NEVER => silent(p, machine::flagged(run, false)),
+        entry::ALWAYS => silent(p, machine::flagged(run, true)),
+        entry::JUMP => silent(p, moved(run, machine::landing(run, false, w))),
+        entry::JUMP_TRUE => silent(p, moved(run, machine::landing(run, true, w))),
         entry::SKIP => silent(p, moved(run, run.pc + 1 + w)),
         entry::AGAIN => {
             if p.steps == floor {

@@ -21,7 +21,7 @@ use Rattle.semantics.specs.Promise.{Promised}
 use Rattle.semantics.proofs.Theorems.{Job32, plan-list, plan-list-unique, promise, promise-unique, inUse-sound}
 use Rattle.simulation.specs.Code.{codeOf}
 use Rattle.simulation.proofs.Placed.{placed}
-use Rattle.simulation.proofs.Drive.{most-turns}
+use Rattle.simulation.specs.Measure.{mostTurns}
 use Rattle.simulation.proofs.Listing.{placed-lists}
 use Rattle.simulation.proofs.First.{taken-back}
 use Rattle.list.specs.List.{program, jobOf, places, Answer, refused, listed, Left, ground, refuses, lists, answering, list}
@@ -90,7 +90,7 @@ module _ (text : List ℕ) (low high : ℤ) (steps skip budget : ℕ) (rows : Li
           code = codeOf (program text);
           coded = placed (program text) (pairs-upward text v);
           searches = λ c p. record {
-            enough = most-turns c steps;
+            enough = mostTurns c steps;
             gives = λ k n l m. placed-lists inUse j c p (never-stuck text v known work steps) skip (places rows) budget k n l m;
             back = λ earlier p q w. taken-back inUse (to low high) c steps w;
           };

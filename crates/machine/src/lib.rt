@@ -458,7 +458,7 @@ fn moved(run: Run, pc: usize) -> Run
 }
 
 // The same at the next entry, with another flag.
-fn flagged(run: Run, flag: bool) -> Run
+pub fn flagged(run: Run, flag: bool) -> Run
     requires { ⌜ run .pc < 65536 ⌝ }
     ensures { λ r. ⌜ r ≡ movedS (flaggedS run flag) (run .pc + 1) ⌝ }
 {
@@ -473,7 +473,7 @@ fn flagged(run: Run, flag: bool) -> Run
 }
 
 // Where a jump over w entries goes that is made if the flag is as said.
-fn landing(run: Run, flag: bool, w: usize) -> usize
+pub fn landing(run: Run, flag: bool, w: usize) -> usize
     requires { ⌜ (run .pc < 65536) × (w < 4294967296) ⌝ }
     ensures { λ r. ⌜ r ≡ landingS flag (run .flag) w (suc (run .pc)) ⌝ }
 {

@@ -13,7 +13,8 @@ use Rattle.simulation.specs.Path.{State, state, Turn, returned, failed, cut, on
 use Rattle.simulation.specs.Nodes.{Cell, testOf, meaning, ranges}
 use Rattle.simulation.proofs.Bounds.{Framed, Sound}
 use Rattle.simulation.proofs.Drive as drive
-use Rattle.simulation.proofs.Drive.{turns-left, Nears, Nearer, turn-nears}
+use Rattle.simulation.specs.Measure.{turnsLeft}
+use Rattle.simulation.proofs.Drive.{Nears, Nearer, turn-nears}
 use Rattle.machine.specs.Layout.{frameCells, framePlace}
 use Rattle.machine.specs.Memory.{nodesIn, cells, callers, machineAt, windowsIn, startsIn, testsIn, outcomesIn, testAt}
 use Rattle.ints.specs.Numbers.{comparison}
@@ -156,9 +157,9 @@ kept-of c m p h = record { made = p .run .top + p .run .depth; limit = refl; sou
 -- after a turn the end is nearer
 pub nearer-of : (job : Window) (c : Code) (m m′ : List ℕ) (p q : Point) (o : Bool) → Ready m (p .run) → turn inUse job c (machineAt m (p .run)) (stateAt m p)
     ≡ record { move = o; went = on (machineAt m′ (q .run)) (stateAt m′ q) }
-    → Nearer c (p .run .top + p .run .depth + p .steps) (turns-left c (machineAt m (p .run)) (stateAt m p)) (machineAt m′ (q .run)) (stateAt m′ q)
+    → Nearer c (p .run .top + p .run .depth + p .steps) (turnsLeft c (machineAt m (p .run)) (stateAt m p)) (machineAt m′ (q .run)) (stateAt m′ q)
 nearer-of job c m m′ p q o h e =
-    subst (Nears c (p .run .top + p .run .depth + p .steps) (turns-left c (machineAt m (p .run)) (stateAt m p))) (ap (λ (t : Turn). t .went) e)
+    subst (Nears c (p .run .top + p .run .depth + p .steps) (turnsLeft c (machineAt m (p .run)) (stateAt m p))) (ap (λ (t : Turn). t .went) e)
     (turn-nears c inUse job (p .run .top + p .run .depth + p .steps) (machineAt m (p .run)) (stateAt m p) (kept-of c m p h))
 
 pub onwards : (job : Window) (c : Code) (m m′ : List ℕ) (p : Point) (r : Turned) → Going m p → length m′ ≡ length m

@@ -21,7 +21,7 @@ use Rattle.settings.specs.Tries.{tallyOf, tallyIn, nextOf, tests, Counts, Count
 use Rattle.settings.proofs.Counting.{rowed-none}
 use Rattle.settings.proofs.Going.{counts-more}
 use Rattle.paths.specs.declared.Point.{Point}
-use Rattle.search.specs.Loop.{NewestBack, Flips, FlipsBy, forcedIn, closeOf, closes, thenOf, writtenIn, Adds, Onward, Leaves, Backed, TurnsBy, Finished}
+use Rattle.search.specs.Loop.{NewestBack, Flips, FlipsBy, forcedIn, closeOf, closes, thenOf, writtenIn, Adds, Onward, Leaves, Backed, BacktracksBy, Finished}
 use Rattle.search.specs.declared.Next.{Next}
 use Rattle.search.specs.declared.Next.the-variants.{Ended, Forced}
 use Rattle.search.specs.declared.Ending.{Ending}
@@ -123,9 +123,9 @@ outcomes-steady m m′ s n = kept m m′ 0 n (λ j l u. s .other (at j) (λ a b.
 steady-none : (m : List ℕ) → Steady m m
 steady-none m = record { other = λ i a b. refl }
 
-turns-so : (m m₁ m₂ : List ℕ) (n : ℕ) (r : Then) → Steady m m₁ → Leaves m₁ m₂ n r → TurnsBy m m₂ n r
-turns-so m m₁ m₂ n (On k t) s f = record { some = f .some; most = f .most; other = λ i a b c. f .other i c ∙ s .other i a b }
-turns-so m m₁ m₂ n (Over a) s f = tt
+backtracks-so : (m m₁ m₂ : List ℕ) (n : ℕ) (r : Then) → Steady m m₁ → Leaves m₁ m₂ n r → BacktracksBy m m₂ n r
+backtracks-so m m₁ m₂ n (On k t) s f = record { some = f .some; most = f .most; other = λ i a b c. f .other i c ∙ s .other i a b }
+backtracks-so m m₁ m₂ n (Over a) s f = tt
 
 module _ (m m₁ m₂ : List ℕ) (p : Point) (t : Tally) (x : Tried) (r : Then) (s : Steady m m₁) (b : Backed m₁ m₂ (p .choices) x r) where
   after-end : (rows : List ℤ) (y : lister.Next lister.Tally) → nextOf rows x ≡ y → thenOf m₂ rows r ≡ then y (back (outcomesIn m 0 (p .choices)))
@@ -139,7 +139,7 @@ module _ (m m₁ m₂ : List ℕ) (p : Point) (t : Tally) (x : Tried) (r : Then)
     is = after-end rows′ _ (h .is);
     onward = onward-more t (tallyIn x) r (h .counts) (b .onward);
     rowed = subst (λ (n : ℕ). Rowed rows rows′ (t .written) n) (sym (b .same)) (h .rowed);
-    turns = turns-so m m₁ m₂ (p .choices) r s (b .leaves);
+    backtracks = backtracks-so m m₁ m₂ (p .choices) r s (b .leaves);
   }
 
   pub finished-cut : Counted t (λ rows. probes (tests m (p .run .nodes) (p .choices)) (settings (windowsIn m (p .windows))) (tallyOf rows t)) x → (rows : List ℤ) → Finished m m₂ rows rows cut p t r
@@ -148,7 +148,7 @@ module _ (m m₁ m₂ : List ℕ) (p : Point) (t : Tally) (x : Tried) (r : Then)
     is = after-end rows _ (h .is rows);
     onward = onward-more t (tallyIn x) r (h .counts) (b .onward);
     rowed = subst (λ (n : ℕ). Rowed rows rows (t .written) n) (sym (b .same ∙ h .same)) (rowed-none rows (t .written));
-    turns = turns-so m m₁ m₂ (p .choices) r s (b .leaves);
+    backtracks = backtracks-so m m₁ m₂ (p .choices) r s (b .leaves);
   }
 
 pub finished-fail : (m m₂ : List ℕ) (p : Point) (t : Tally) (r : Then) → Backed m m₂ (p .choices) (tried.Go t) r → (rows : List ℤ) → Finished m m₂ rows rows failed p t r
@@ -157,5 +157,5 @@ finished-fail m m₂ p t r b rows = record {
   is = b .is rows;
   onward = b .onward;
   rowed = subst (λ (n : ℕ). Rowed rows rows (t .written) n) (sym (b .same)) (rowed-none rows (t .written));
-  turns = turns-so m m m₂ (p .choices) r (steady-none m) (b .leaves);
+  backtracks = backtracks-so m m m₂ (p .choices) r (steady-none m) (b .leaves);
 }

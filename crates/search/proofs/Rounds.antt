@@ -12,7 +12,8 @@ use Rattle.simulation.specs.Code.{Code}
 use Rattle.simulation.specs.Machine.{start}
 use Rattle.simulation.specs.Path.{begins, End}
 use Rattle.simulation.specs.Lister.{over, closed}
-use Rattle.simulation.proofs.Drive.{turns-left, kept-start, turns-le}
+use Rattle.simulation.specs.Measure.{turnsLeft, mostTurns}
+use Rattle.simulation.proofs.Drive.{kept-start, turns-le}
 use Rattle.simulation.specs.Cells.{Uses}
 use Rattle.machine.specs.Layout.{frameCells}
 use Rattle.machine.specs.Memory.{outcomesIn}
@@ -25,10 +26,10 @@ use Rattle.paths.specs.declared.Point.{Point}
 use Rattle.paths.proofs.Table.{starts-same}
 use Rattle.walks.specs.declared.Stack.{Stack}
 use Rattle.walks.specs.declared.Walked.{Walked}
-use Rattle.walks.specs.Checkpoints.{none, Stacked}
-use Rattle.walks.specs.Walk.{paid, turnsOf, Walks, Ends, FromMain, Begins}
+use Rattle.walks.specs.Checkpoints.{none, StackHolds}
+use Rattle.walks.specs.Walk.{paid, Walks, Ends, FromMain, Begins}
 use Rattle.walks.proofs.Checkpoints.{Alike, checkpoints-stay}
-use Rattle.search.specs.Loop.{closes, paying, Turns, TurnsBy, Finished, Round, Resumes}
+use Rattle.search.specs.Loop.{closes, paying, Backtracks, BacktracksBy, Finished, Round, Resumes}
 use Rattle.search.specs.declared.Ending.the-variants as ending
 use Rattle.search.specs.declared.Answered.{Answered}
 use Rattle.search.specs.declared.Then.{Then}
@@ -49,11 +50,11 @@ pub room-few : (m m′ : List ℕ) (n limit : ℕ) → n ≤ limit → length m�
 room-few m m′ n limit l e r = record { words = omega (arith, l, e, r .words); small = omega (arith, l, r .small) }
 
 -- a path from the start of main has fewer turns than this
-enough : (c : Code) (limit : ℕ) (fs : List Bool) → turns-left c (start known work c) (begins limit fs) < turnsOf c limit
+enough : (c : Code) (limit : ℕ) (fs : List Bool) → turnsLeft c (start known work c) (begins limit fs) < mostTurns c limit
 enough c limit fs = turns-le c limit (start known work c) (begins limit fs) (kept-start c limit fs)
 
 -- the checkpoints of a path that has ended are those before the next one
-resumes : (c : Code) (job : Window) (limit : ℕ) (m₁ m₂ : List ℕ) (n choices u : ℕ) (s : Stack) (r : Then) → Stacked c job m₁ choices n choices u s → s .limit ≡ limit → length m₂ ≡ length m₁ → TurnsBy m₁ m₂ choices r
+resumes : (c : Code) (job : Window) (limit : ℕ) (m₁ m₂ : List ℕ) (n choices u : ℕ) (s : Stack) (r : Then) → StackHolds c job m₁ choices n choices u s → s .limit ≡ limit → length m₂ ≡ length m₁ → BacktracksBy m₁ m₂ choices r
     → Resumes c job m₂ limit r s
 resumes c job limit m₁ m₂ n choices w s (Over a) h e len f = tt
 resumes c job limit m₁ m₂ n choices w s (On k u) h e len f = (
@@ -84,11 +85,11 @@ resumes c job limit m₁ m₂ n choices w s (On k u) h e len f = (
 module _ (c : Code) (job : Window) (limit : ℕ) (m m₁ m₂ : List ℕ) (rows rows′ : List ℤ) (forced : ℕ) (t : Tally) where
   pub round-ended : (e : End) (p : Point) (s : Stack) (left : ℕ) → Ends c job limit (t .budget) (start known work c) (begins limit (outcomesIn m 0 forced)) m₁ e p s left → (u : Tally) → u ≡ paying t left → (r : Then)
       → length m₂ ≡ length m₁ → Finished m₁ m₂ rows rows′ e p u r → Round c job limit m m₂ rows rows′ forced t r × Resumes c job m₂ limit r s
-  round-ended e p s left h u q r len f = (by (subst (λ (u : Tally). Finished m₁ m₂ rows rows′ e p u r) q f), resumes c job limit m₁ m₂ (p .run .nodes) (p .choices) (p .windows) s r (h .stacked) (h .limited) len (f .turns))
+  round-ended e p s left h u q r len f = (by (subst (λ (u : Tally). Finished m₁ m₂ rows rows′ e p u r) q f), resumes c job limit m₁ m₂ (p .run .nodes) (p .choices) (p .windows) s r (h .stacked) (h .limited) len (f .backtracks))
     where
       by : Finished m₁ m₂ rows rows′ e p (paying t left) r → Round c job limit m m₂ rows rows′ forced t r
       by f = record {
-        is = f .is ∙ sym (h .walks .is (tallyOf rows t) refl (turnsOf c limit) (enough c limit (outcomesIn m 0 forced)));
+        is = f .is ∙ sym (h .walks .is (tallyOf rows t) refl (mostTurns c limit) (enough c limit (outcomesIn m 0 forced)));
         onward = onward-more t (paying t left) r (paying-counts t left (h .rest)) (f .onward);
         rowed = f .rowed;
       }
@@ -97,7 +98,7 @@ pub round-spent : (c : Code) (job : Window) (limit : ℕ) (m m₁ : List ℕ) (r
     → Walks c job limit (t .budget) (start known work c) (begins limit (outcomesIn m 0 forced)) (λ t. over (closed spent (paid 0 t))) → (u : Tally) → u ≡ paying t 0
     → (a : Answered) → a ≡ closes u ending.Spent → Round c job limit m m₁ rows rows forced t (Over a)
 round-spent c job limit m m₁ rows forced t h u q a d = subst (λ (a : Answered). Round c job limit m m₁ rows rows forced t (Over a)) (sym (d ∙ ap (λ (u : Tally). closes u ending.Spent) q)) (record {
-  is = sym (h .is (tallyOf rows t) refl (turnsOf c limit) (enough c limit (outcomesIn m 0 forced)));
+  is = sym (h .is (tallyOf rows t) refl (mostTurns c limit) (enough c limit (outcomesIn m 0 forced)));
   onward = record { more = omega arith; most = omega arith };
   rowed = rowed-none rows (t .written);
 })

@@ -14,7 +14,8 @@ use Rattle.simulation.specs.Code.{Code}
 use Rattle.simulation.specs.Machine.{start}
 use Rattle.simulation.specs.Path.{begins}
 use Rattle.simulation.specs.Lister.{opening}
-use Rattle.simulation.proofs.Drive.{most-turns, kept-start, turns-le}
+use Rattle.simulation.specs.Measure.{mostTurns}
+use Rattle.simulation.proofs.Drive.{kept-start, turns-le}
 use Rattle.simulation.proofs.Listing.{treeOf, Opens, OpensNext, leads-start, path-ok, opens-start}
 use Rattle.simulation.specs.Placed.{Placed}
 use Rattle.simulation.proofs.Spending.{Fewer, path-fewer}
@@ -73,12 +74,12 @@ module _ (c : Code) (window : Window) (limit skip room budget : ℕ) (m₀ : Lis
           let tree = treeOf inUse window limit (j .program) in
           let k = kept-start c limit (outcomesIn m 0 forced) in
           subst (OpensNext a tree) (sym (h .is))
-          (path-ok a tree inUse window c limit (most-turns c limit) (start known work c) (begins limit (outcomesIn m 0 forced)) (tallyOf rows t)
+          (path-ok a tree inUse window c limit (mostTurns c limit) (start known work c) (begins limit (outcomesIn m 0 forced)) (tallyOf rows t)
           (leads-start a inUse window c limit (j .program) placing (subst (λ (n : ℕ). Sure (does known work n (j .program))) q sure) (startOf m rows forced t) (b .opens j placing sure p q)) k
           (turns-le c limit (start known work c) (begins limit (outcomesIn m 0 forced)) k))
 
       fewer : Fewer (t .budget) (thenOf m′ rows′ r)
-      fewer = subst (Fewer (t .budget)) (sym (h .is)) (path-fewer inUse window c limit (most-turns c limit) (start known work c) (begins limit (outcomesIn m 0 forced)) (tallyOf rows t))
+      fewer = subst (Fewer (t .budget)) (sym (h .is)) (path-fewer inUse window c limit (mostTurns c limit) (start known work c) (begins limit (outcomesIn m 0 forced)) (tallyOf rows t))
 
     pub between-less : (m′ : List ℕ) (rows′ : List ℤ) (r : Then) → Round c window limit m m′ rows rows′ forced t r → (k : ℕ) (u : Tally) → r ≡ On k u → u .budget < t .budget
     between-less m′ rows′ r h k u e = subst (λ (r : Then). Fewer (t .budget) (thenOf m′ rows′ r)) e (fewer m′ rows′ r h)

@@ -25,7 +25,8 @@ use Rattle.settings.specs.Tries.{tallyOf, tallyIn, nextOf, Counts, Rowed}
 use Rattle.paths.specs.declared.Point.{Point}
 use Rattle.paths.specs.Point.{stateAt}
 use Rattle.walks.specs.declared.Stack.{Stack}
-use Rattle.walks.specs.Walk.{turnsOf, Begins}
+use Rattle.simulation.specs.Measure.{mostTurns}
+use Rattle.walks.specs.Walk.{Begins}
 use Rattle.search.specs.declared.Next.{Next}
 use Rattle.search.specs.declared.Next.the-variants.{Ended, Forced}
 use Rattle.search.specs.declared.Ending.{Ending}
@@ -113,25 +114,25 @@ pub record Backed (m m′ : List ℕ) (n : ℕ) (x : Tried) (r : Then) : Type 0 
   pub leaves : Leaves m m′ n r
 
 -- at a path's end settings were tried and the last of the first k choices, of n, was taken back: no word but the setting's, the nodes' numbers and that outcome changed
-pub record Turns (m m′ : List ℕ) (n k : ℕ) : Type 0 where
+pub record Backtracks (m m′ : List ℕ) (n k : ℕ) : Type 0 where
   pub some : 1 ≤ k
   pub most : k ≤ n
   pub other : (i : ℕ) → (settingPlace ≤ i → i < settingEnd → ⊥) → ((j : ℕ) → i ≡ numberPlace j → ⊥) → (i ≡ outcomePlace (k - 1) → ⊥) → getD m′ i 0 ≡ getD m i 0
 
-abbrev pub TurnsBy : List ℕ → List ℕ → ℕ → Then → Type 0
-TurnsBy m m′ n (On k t) = Turns m m′ n k
-TurnsBy m m′ n (Over a) = Unit {0}
+abbrev pub BacktracksBy : List ℕ → List ℕ → ℕ → Then → Type 0
+BacktracksBy m m′ n (On k t) = Backtracks m m′ n k
+BacktracksBy m m′ n (Over a) = Unit {0}
 
 -- what is done at a path's end e, at the point p
 pub record Finished (m m′ : List ℕ) (rows rows′ : List ℤ) (e : End) (p : Point) (t : Tally) (r : Then) : Type 0 where
   pub is : thenOf m′ rows′ r ≡ then (finish e (stateAt m p) (tallyOf rows t)) (back (outcomesIn m 0 (p .choices)))
   pub onward : Onward t r
   pub rowed : Rowed rows rows′ (t .written) (writtenIn r)
-  pub turns : TurnsBy m m′ (p .choices) r
+  pub backtracks : BacktracksBy m m′ (p .choices) r
 
 -- one path, and what is done at its end
 pub record Round (c : Code) (job : program.Window) (limit : ℕ) (m m′ : List ℕ) (rows rows′ : List ℤ) (forced : ℕ) (t : Tally) (r : Then) : Type 0 where
-  pub is : thenOf m′ rows′ r ≡ path inUse job c limit (turnsOf c limit) (start known work c) (begins limit (outcomesIn m 0 forced)) (tallyOf rows t)
+  pub is : thenOf m′ rows′ r ≡ path inUse job c limit (mostTurns c limit) (start known work c) (begins limit (outcomesIn m 0 forced)) (tallyOf rows t)
   pub onward : Onward t r
   pub rowed : Rowed rows rows′ (t .written) (writtenIn r)
 

@@ -14,6 +14,7 @@ use Rattle.semantics.specs.Does.{store}
 use Rattle.semantics.proofs.Frames.{length-frame}
 use Rattle.simulation.specs.Code.{Leaf, Act, Entry, leaf, argument, act, Code}
 use Rattle.simulation.specs.Machine.{Caller, Machine, Doing, Gathered, machine, before, landing, entryAt, popped, reading, taken, two, gather, entering, leaving, acting, working, advance, start}
+use Rattle.simulation.specs.Measure.{silents}
 
 module _ {X : Type 0} where
   -- the temporaries held by callers, and the callers
@@ -108,12 +109,9 @@ module _ {X : Type 0} (num : ℤ → X) (work : Op → X → X → X) (c : Code)
 
   -- ---- silent moves
 
-  -- it falls with each silent move: a jump goes forward, and a return leaves a caller less
-  abbrev pub silents : Machine X → ℕ
-  silents m = length (m .callers) * suc (length (c .entries)) + (length (c .entries) - m .pc)
-
+  -- the measure falls with a silent move
   abbrev pub Falls : ℕ → Doing X → Type 0
-  Falls n (Doing.silent m) = silents m < n
+  Falls n (Doing.silent m) = silents c m < n
   Falls n (Doing.step m) = Unit {0}
   Falls n (Doing.free x k) = Unit {0}
   Falls n (Doing.test o a b k) = Unit {0}
@@ -136,7 +134,7 @@ module _ {X : Type 0} (num : ℤ → X) (work : Op → X → X → X) (c : Code)
   landing-gt false false m i = omega arith
 
   module _ (i : ℕ) (b : Bool) (ts f : List X) (cs : List (Caller X)) (d : ℕ) (inside : i < length (c .entries)) where
-    falls-act : (a : Act) → Falls (silents (machine i b ts f cs d)) (acting num work c i b ts f cs d a)
+    falls-act : (a : Act) → Falls (silents c (machine i b ts f cs d)) (acting num work c i b ts f cs d a)
     falls-act (Act.operate o m) = tt
     falls-act (Act.compare o m) = tt
     falls-act (Act.call g m) = falls-entering _ d i g (gather num work c f ts m i []) b f cs
@@ -151,15 +149,15 @@ module _ {X : Type 0} (num : ℤ → X) (work : Op → X → X → X) (c : Code)
     falls-act Act.return = falls-leaving i d b cs (taken num work c f ts i .value)
     falls-act Act.fail = tt
 
-    falls-entry : (x : Entry) → Falls (silents (machine i b ts f cs d)) (working num work c i b ts f cs d x)
+    falls-entry : (x : Entry) → Falls (silents c (machine i b ts f cs d)) (working num work c i b ts f cs d x)
     falls-entry (leaf l) = omega arith
     falls-entry (argument m) = omega arith
     falls-entry (act a) = falls-act a
 
-  pub silent-falls : (m : Machine X) → Falls (silents m) (advance num work c m)
+  pub silent-falls : (m : Machine X) → Falls (silents c m) (advance num work c m)
   unfolding advance
   silent-falls m = go (decLt (m .pc) (length (c .entries)))
     where
-      go : Dec (m .pc < length (c .entries)) → Falls (silents m) (working num work c (m .pc) (m .flag) (m .temps) (m .frame) (m .callers) (m .left) (entryAt c (m .pc)))
+      go : Dec (m .pc < length (c .entries)) → Falls (silents c m) (working num work c (m .pc) (m .flag) (m .temps) (m .frame) (m .callers) (m .left) (entryAt c (m .pc)))
       go (yes h) = falls-entry (m .pc) (m .flag) (m .temps) (m .frame) (m .callers) (m .left) h (entryAt c (m .pc))
       go (no h) = rw (List·getD-eq-default (c .entries) (act Act.fail) {n = m .pc} (omega arith)) tt

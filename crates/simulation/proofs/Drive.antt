@@ -17,13 +17,14 @@ use Rattle.semantics.proofs.Own.{Pairs}
 use Rattle.simulation.specs.Code.{Code, codeOf}
 use Rattle.simulation.specs.Machine.{Machine, Doing, advance, start}
 use Rattle.simulation.specs.Path.{holding, outcome, later, State, state, begins, End, returned, failed, cut, Went, on, ended, Turn, fresh, counted, still, siding, choosing, stepped, reached, comparing, turning, turn}
+use Rattle.simulation.specs.Measure.{silents, mostSilents, turnsLeft, mostTurns}
 use Rattle.simulation.proofs.Replay.{Has}
 use Rattle.simulation.proofs.Route.{Route, stepping, taking, ending, sided, route, of, route-of}
 use Rattle.simulation.specs.Placed.{Placed}
 use Rattle.simulation.proofs.Placed.{Upward, placed}
 use Rattle.simulation.proofs.Simulate as simulate
 use Rattle.simulation.proofs.Simulate.{Runs, Makes, does-runs}
-use Rattle.simulation.proofs.Bounds.{Sound, Sounds, sound-start, sound-advance, silents, Falls, silent-falls}
+use Rattle.simulation.proofs.Bounds.{Sound, Sounds, sound-start, sound-advance, Falls, silent-falls}
 
 -- what is tried at a path's end
 unfoldable pub last : End → State → List Move
@@ -151,18 +152,6 @@ module _ (solver : Solver) (job : Window) (c : Code) where
 -- ---- the turns come to an end
 
 module _ (c : Code) where
-  -- no more silent moves than this follow one another
-  abbrev pub most-silents : ℕ
-  most-silents = 32 * suc (length (c .entries)) + length (c .entries)
-
-  -- it falls with each turn
-  abbrev pub turns-left : Machine Value → State → ℕ
-  turns-left m s = s .steps * suc most-silents + silents known work c m
-
-  -- more turns than a path can have
-  abbrev pub most-turns : ℕ → ℕ
-  most-turns most = suc most * suc most-silents
-
   -- the steps made and the steps left are `most`
   pub record Kept (most : ℕ) (m : Machine Value) (s : State) : Type 0 where
     pub made : ℕ
@@ -171,27 +160,27 @@ module _ (c : Code) where
 
   pub record Nearer (most n : ℕ) (m : Machine Value) (s : State) : Type 0 where
     pub kept : Kept most m s
-    pub nearer : turns-left m s < n
+    pub nearer : turnsLeft c m s < n
 
   abbrev pub Nears : ℕ → ℕ → Went → Type 0
   Nears most n (on m s) = Nearer most n m s
   Nears most n (ended e s) = Unit {0}
 
-  silents-le : {k : ℕ} {m : Machine Value} → Sound k m → silents known work c m ≤ most-silents
+  silents-le : {k : ℕ} {m : Machine Value} → Sound k m → silents c m ≤ mostSilents c
   silents-le {k} {m} s = omega (arith, mul-le-mul-right {m = length (m .callers)} {n = 32} (suc (length (c .entries))) (omega arith))
 
   module _ (solver : Solver) (job : Window) (most q : ℕ) where
     -- after a step
-    near : {k : ℕ} (l : ℕ) (m : Machine Value) (s : State) → k + suc l ≡ most → s .steps ≡ l → Sound (suc k) m → Nearer most (suc l * suc most-silents + q) m s
-    near {k} l m s e f h = record { kept = record { made = suc k; limit = omega arith; sound = h }; nearer = rw f (omega (arith, silents-le h, suc-mul l (suc most-silents))) }
+    near : {k : ℕ} (l : ℕ) (m : Machine Value) (s : State) → k + suc l ≡ most → s .steps ≡ l → Sound (suc k) m → Nearer most (suc l * suc (mostSilents c) + q) m s
+    near {k} l m s e f h = record { kept = record { made = suc k; limit = omega arith; sound = h }; nearer = rw f (omega (arith, silents-le h, suc-mul l (suc (mostSilents c)))) }
 
     near-step : (k l : ℕ) (s : State) (m : Machine Value) → k + l ≡ most → Sound (suc k) m
-        → Nears most (l * suc most-silents + q) ((elim l as (λ l. Turn) [ zero ↦ still (ended cut s) | suc l ↦ counted s (on m (stepped l s)) ]) .went)
+        → Nears most (l * suc (mostSilents c) + q) ((elim l as (λ l. Turn) [ zero ↦ still (ended cut s) | suc l ↦ counted s (on m (stepped l s)) ]) .went)
     near-step k zero s m e h = tt
     near-step k (suc l) s m e h = near l m _ e refl h
 
     near-free : (k l f : ℕ) (s : State) (x : Option Window) (j : Value → Machine Value) → k + l ≡ most → ((v : Value) → Sound (suc k) (j v))
-        → Nears most (l * suc most-silents + q) ((elim l as (λ l. Turn) [
+        → Nears most (l * suc (mostSilents c) + q) ((elim l as (λ l. Turn) [
           | zero ↦ still (ended cut s)
           | suc l ↦ elim f as (λ f. Turn) [ zero ↦ still (ended cut s) | suc f ↦ counted s (on (j (unknown (length (s .windows)))) (reached (pairOf job x) l f s)) ]
         ]) .went)
@@ -200,23 +189,23 @@ module _ (c : Code) where
     near-free k (suc l) (suc f) s x j e h = near l _ _ e refl (h _)
 
     near-side : (k l : ℕ) (x : Option (List Window)) (o : Cmp) (a b : Value) (s : State) (r : Bool) (m : Machine Value) → k + suc l ≡ most → s .steps ≡ l → Sound (suc k) m
-        → Nears most (suc l * suc most-silents + q) (siding o a b m s r x)
+        → Nears most (suc l * suc (mostSilents c) + q) (siding o a b m s r x)
     near-side k l none o a b s r m e f h = tt
     near-side k l (some us) o a b s r m e f h = near l m _ e f h
 
     near-choice : (k l : ℕ) (x : Option Bool) (o : Cmp) (a b : Value) (s : State) (j : Bool → Machine Value) → k + suc l ≡ most → s .steps ≡ l → ((q : Bool) → Sound (suc k) (j q))
-        → Nears most (suc l * suc most-silents + q) (elim x as (λ x. Went) [ some r ↦ on (j r) s | none ↦ choosing solver job o a b j s (outcome (s .forced)) ])
+        → Nears most (suc l * suc (mostSilents c) + q) (elim x as (λ x. Went) [ some r ↦ on (j r) s | none ↦ choosing solver job o a b j s (outcome (s .forced)) ])
     unfolding choosing
     near-choice k l (some r) o a b s j e f h = near l (j r) s e f (h r)
     near-choice k l none o a b s j e f h = near-side k l (solver .narrow (holding (outcome (s .forced)) o) a b (s .windows)) o a b s (outcome (s .forced)) (j (outcome (s .forced))) e f (h _)
 
     near-test : (k l : ℕ) (s : State) (o : Cmp) (a b : Value) (j : Bool → Machine Value) → k + l ≡ most → ((r : Bool) → Sound (suc k) (j r))
-        → Nears most (l * suc most-silents + q) ((elim l as (λ l. Turn) [ zero ↦ still (ended cut s) | suc l ↦ counted s (comparing solver job o a b j (stepped l s)) ]) .went)
+        → Nears most (l * suc (mostSilents c) + q) ((elim l as (λ l. Turn) [ zero ↦ still (ended cut s) | suc l ↦ counted s (comparing solver job o a b j (stepped l s)) ]) .went)
     unfolding comparing
     near-test k zero s o a b j e h = tt
     near-test k (suc l) s o a b j e h = near-choice k l (solver .decide o a b (s .windows)) o a b (stepped l s) j e refl h
 
-    near-turn : (d : Doing Value) (s : State) (k : ℕ) → k + s .steps ≡ most → Sounds k d → Falls known work c q d → Nears most (s .steps * suc most-silents + q) (turning solver job d s .went)
+    near-turn : (d : Doing Value) (s : State) (k : ℕ) → k + s .steps ≡ most → Sounds k d → Falls known work c q d → Nears most (s .steps * suc (mostSilents c) + q) (turning solver job d s .went)
     unfolding turning
     near-turn (Doing.silent m) s k e h f = record { kept = record { made = k; limit = e; sound = h }; nearer = omega arith }
     near-turn (Doing.step m) s k e h f = near-step k (s .steps) s m e h
@@ -227,15 +216,15 @@ module _ (c : Code) where
     near-turn Doing.cut s k e h f = tt
 
   -- a turn keeps the bounds, and the end is nearer
-  pub turn-nears : (solver : Solver) (job : Window) (most : ℕ) (m : Machine Value) (s : State) → Kept most m s → Nears most (turns-left m s) (turn solver job c m s .went)
+  pub turn-nears : (solver : Solver) (job : Window) (most : ℕ) (m : Machine Value) (s : State) → Kept most m s → Nears most (turnsLeft c m s) (turn solver job c m s .went)
   unfolding turn
-  turn-nears solver job most m s h = near-turn solver job most (silents known work c m) (advance known work c m) s (h .made) (h .limit) (sound-advance known work c (h .made) m (h .sound)) (silent-falls known work c m)
+  turn-nears solver job most m s h = near-turn solver job most (silents c m) (advance known work c m) s (h .made) (h .limit) (sound-advance known work c (h .made) m (h .sound)) (silent-falls known work c m)
 
   pub kept-start : (most : ℕ) (forced : List Bool) → Kept most (start known work c) (begins most forced)
   kept-start most forced = record { made = 0; limit = omega arith; sound = sound-start known work c }
 
-  pub turns-le : (most : ℕ) (m : Machine Value) (s : State) → Kept most m s → turns-left m s < most-turns most
-  turns-le most m s h = omega (arith, silents-le (h .sound), mul-le-mul-right {m = s .steps} {n = most} (suc most-silents) (omega arith), suc-mul most (suc most-silents), h .limit)
+  pub turns-le : (most : ℕ) (m : Machine Value) (s : State) → Kept most m s → turnsLeft c m s < mostTurns c most
+  turns-le most m s h = omega (arith, silents-le (h .sound), mul-le-mul-right {m = s .steps} {n = most} (suc (mostSilents c)) (omega arith), suc-mul most (suc (mostSilents c)), h .limit)
 
 -- ---- the whole path
 
@@ -245,24 +234,24 @@ module _ (solver : Solver) (job : Window) (c : Code) where
   drive zero m s = ending []
   drive (suc n) m s = moving (turn solver job c m s .move) (elim (turn solver job c m s .went) [ on m₂ s₂ ↦ drive n m₂ s₂ | ended e s₂ ↦ record { moves = last e s₂; choices = s₂ .chosen } ])
 
-  drive-ok : (most n : ℕ) (r : Route) (m : Machine Value) (s : State) → Goes solver job c r m s → Kept c most m s → turns-left c m s < n → drive n m s ≡ r
+  drive-ok : (most n : ℕ) (r : Route) (m : Machine Value) (s : State) → Goes solver job c r m s → Kept c most m s → turnsLeft c m s < n → drive n m s ≡ r
   unfolding drive
   drive-ok most zero r m s h k l = absurd (omega arith)
   drive-ok most (suc n) r m s h k l =
       let x = turn-keeps solver job c r m s h in
       ap (moving (turn solver job c m s .move)) (by (drive-ok most n) (x .rest) (turn solver job c m s .went) (x .goes) (turn-nears c solver job most m s k)) ∙ x .first
     where
-      by : ((r : Route) (m : Machine Value) (s : State) → Goes solver job c r m s → Kept c most m s → turns-left c m s < n → drive n m s ≡ r) → (r : Route) (w : Went) → GoesOn solver job c r w → Nears c most (turns-left c m s) w
+      by : ((r : Route) (m : Machine Value) (s : State) → Goes solver job c r m s → Kept c most m s → turnsLeft c m s < n → drive n m s ≡ r) → (r : Route) (w : Went) → GoesOn solver job c r w → Nears c most (turnsLeft c m s) w
           → elim w as (λ w. Route) [ on m₂ s₂ ↦ drive n m₂ s₂ | ended e s₂ ↦ record { moves = last e s₂; choices = s₂ .chosen } ] ≡ r
       by g r (on m₂ s₂) a b = g r m₂ s₂ a (b .kept) (lt-of-lt-of-le (b .nearer) (le-of-suc-le-suc l))
       by g r (ended e s₂) a b = a
 
-  driven-ok : (most : ℕ) (p : Program) → Placed c p → Sure (does known work most p) → (forced : List Bool) (n : ℕ) → most-turns c most ≤ n
+  driven-ok : (most : ℕ) (p : Program) → Placed c p → Sure (does known work most p) → (forced : List Bool) (n : ℕ) → mostTurns c most ≤ n
       → drive n (start known work c) (begins most forced) ≡ route solver job (does known work most p) most 8 [] [] forced
   driven-ok most p h u forced n l = drive-ok most n _ _ _ (goes-start solver job c most p h u forced) (kept-start c most forced) (lt-of-lt-of-le (turns-le c most _ _ (kept-start c most forced)) l)
 
 -- the path that the machine goes from the start of main with forced outcomes is that path of the search
 pub replay-ok : (solver : Solver) (job : Window) (most : ℕ) (p : Program) → Pairs Upward p → Sure (does known work most p) → (forced : List Bool)
-    → Has (paths solver job (within most 8 (does known work most p)) [] []) forced → (n : ℕ) → most-turns (codeOf p) most ≤ n
+    → Has (paths solver job (within most 8 (does known work most p)) [] []) forced → (n : ℕ) → mostTurns (codeOf p) most ≤ n
     → drive solver job (codeOf p) n (start known work (codeOf p)) (begins most forced) ≡ of (paths solver job (within most 8 (does known work most p)) [] []) forced
 replay-ok solver job most p o u forced h n l = driven-ok solver job (codeOf p) most p (placed p o) u forced n l ∙ route-of solver job (does known work most p) most 8 [] [] forced h

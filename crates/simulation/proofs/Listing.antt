@@ -20,7 +20,8 @@ use Rattle.simulation.proofs.Replay.{Has, ahead, replayed, one-path, ta
 use Rattle.simulation.proofs.Route.{Route, of, route-of}
 use Rattle.simulation.specs.Placed.{Placed}
 use Rattle.simulation.proofs.Spending.{Fewer, path-fewer}
-use Rattle.simulation.proofs.Drive.{last, moving, Goes, GoesOn, turn-keeps, goes-start, turns-left, Kept, Nears, turn-nears, kept-start, most-turns, turns-le}
+use Rattle.simulation.specs.Measure.{turnsLeft, mostTurns}
+use Rattle.simulation.proofs.Drive.{last, moving, Goes, GoesOn, turn-keeps, goes-start, Kept, Nears, turn-nears, kept-start, turns-le}
 
 -- what is answered where a search has counted t and the answer to what is ahead of it is a
 abbrev pub onto : Tally → Answer → Answer
@@ -208,18 +209,18 @@ module _ (a : Answer) where
 
       -- ---- one path
 
-      pub path-ok : (most n : ℕ) (m : Machine Value) (s : State) (t : Tally) → Leads m s t → Kept c most m s → turns-left c m s < n → OpensNext (path solver job c most n m s t)
+      pub path-ok : (most n : ℕ) (m : Machine Value) (s : State) (t : Tally) → Leads m s t → Kept c most m s → turnsLeft c m s < n → OpensNext (path solver job c most n m s t)
       unfolding path
       path-ok most zero m s t h k l = absurd (omega arith)
       path-ok most (suc n) m s t h k l = paid (path-ok most n) (charged (turn solver job c m s .move) t) (turn-leads m s t h)
         where
-          by : ((m : Machine Value) (s : State) (t : Tally) → Leads m s t → Kept c most m s → turns-left c m s < n → OpensNext (path solver job c most n m s t))
-              → (w : Went) (u : Tally) → LeadsOn w u → Nears c most (turns-left c m s) w
+          by : ((m : Machine Value) (s : State) (t : Tally) → Leads m s t → Kept c most m s → turnsLeft c m s < n → OpensNext (path solver job c most n m s t))
+              → (w : Went) (u : Tally) → LeadsOn w u → Nears c most (turnsLeft c m s) w
               → OpensNext (elim w as (λ w. Next Start) [ on m₂ s₂ ↦ path solver job c most n m₂ s₂ u | ended e s₂ ↦ then (finish e s₂ u) (back (s₂ .chosen)) ])
           by g (on m₂ s₂) u x y = g m₂ s₂ u x (y .kept) (lt-of-lt-of-le (y .nearer) (le-of-suc-le-suc l))
           by g (ended e s₂) u x y = ends-ok e s₂ u x
 
-          paid : ((m : Machine Value) (s : State) (t : Tally) → Leads m s t → Kept c most m s → turns-left c m s < n → OpensNext (path solver job c most n m s t)) → (z : Next Tally) → LeadsNext (turn solver job c m s .went) z
+          paid : ((m : Machine Value) (s : State) (t : Tally) → Leads m s t → Kept c most m s → turnsLeft c m s < n → OpensNext (path solver job c most n m s t)) → (z : Next Tally) → LeadsNext (turn solver job c m s .went) z
               → OpensNext (then z λ u. elim (turn solver job c m s .went) as (λ w. Next Start) [ on m₂ s₂ ↦ path solver job c most n m₂ s₂ u | ended e s₂ ↦ then (finish e s₂ u) (back (s₂ .chosen)) ])
           paid g (go u) x = by g (turn solver job c m s .went) u x (turn-nears c solver job most m s k)
           paid g (over r) x = x
@@ -238,7 +239,7 @@ module _ (a : Answer) where
           gives = ap (outlook (b .tally)) (sym (one-path t (b .forced) (o .has) ∙ ap (λ l. replayed t (b .forced) ++ l) (take-back t (chosen t (b .forced)) (has-chosen t (b .forced) (o .has))))) ∙ o .gives;
         }
 
-    searching-ok : (k n : ℕ) → most-turns c most ≤ n → (b : Start) → Opens (treeOf solver job most p) b → b .tally .budget < k → searching solver job c most k n b ≡ a
+    searching-ok : (k n : ℕ) → mostTurns c most ≤ n → (b : Start) → Opens (treeOf solver job most p) b → b .tally .budget < k → searching solver job c most k n b ≡ a
     unfolding searching
     searching-ok zero n l b o g = absurd (omega arith)
     searching-ok (suc k) n l b o g =
@@ -259,7 +260,7 @@ opens-start solver j skip room budget = record { has = tt; gives = answer-eq ref
 -- The search that the machine makes on a program's code answers what the definitions say, for every solver, job, skip, room and budget:
 -- where k allows more paths than the budget has moves, and n as many turns as a path can have.
 pub placed-lists : (solver : Solver) (j : Job) (c : Code) → Placed c (j .program) → Sure (does known work (j .steps) (j .program)) → (skip room budget : ℕ) (k n : ℕ) → budget < k
-    → most-turns c (j .steps) ≤ n
+    → mostTurns c (j .steps) ≤ n
     → searching solver (j .window) c (j .steps) k n (opening skip room budget) ≡ listed solver j skip room budget
 placed-lists solver j c h u skip room budget k n g l =
     searching-ok (listed solver j skip room budget) solver (j .window) c (j .steps) (j .program) h u k n l (opening skip room budget) (opens-start solver j skip room budget) g

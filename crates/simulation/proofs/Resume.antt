@@ -13,7 +13,8 @@ use Rattle.simulation.specs.Lister.{Tally, Next, go, over, then, charged
 use Rattle.simulation.specs.Back.{Passes, here, turned}
 use Rattle.simulation.specs.Resume.{forcing, Comes}
 use Rattle.simulation.proofs.Back.{Either, one, two, Some, Plain, Chosen, Shape, shape}
-use Rattle.simulation.proofs.Drive.{turns-left, Kept, Nears, Nearer, turn-nears, kept-start}
+use Rattle.simulation.specs.Measure.{turnsLeft}
+use Rattle.simulation.proofs.Drive.{Kept, Nears, Nearer, turn-nears, kept-start}
 
 -- ---- a turn of a path, and what follows it
 
@@ -108,15 +109,15 @@ module _ (solver : Solver) (job : Window) (c : Code) where
     -- what `path` says is x is what it says from here on
     pub record Onto (x : Next Start) (m : Machine Value) (s : State) (t : Tally) : Type 0 where
       pub turns : ℕ
-      pub enough : turns-left c m s < turns
+      pub enough : turnsLeft c m s < turns
       pub is : x ≡ path solver job c most turns m s t
 
-    pub path-still : {m m₂ : Machine Value} {s s₂ : State} → Passes solver job c m s m₂ s₂ → Some (s₂ .forced) → (b : ℕ) → Kept c b m s → (t : Tally) (n : ℕ) → turns-left c m s < n
+    pub path-still : {m m₂ : Machine Value} {s s₂ : State} → Passes solver job c m s m₂ s₂ → Some (s₂ .forced) → (b : ℕ) → Kept c b m s → (t : Tally) (n : ℕ) → turnsLeft c m s < n
         → Onto (path solver job c most n m s t) m₂ s₂ t
     path-still here g b k t n l = record { turns = n; enough = l; is = refl }
     path-still (turned e p) g b k t zero l = absurd (omega arith)
     path-still (turned {m} {m₂} {m₃} {s} {s₂} {s₃} e p) g b k t (suc n) l =
-        let near : Nearer c b (turns-left c m s) m₂ s₂ = subst (Nears c b (turns-left c m s)) e (turn-nears c solver job b m s k) in
+        let near : Nearer c b (turnsLeft c m s) m₂ s₂ = subst (Nears c b (turnsLeft c m s)) e (turn-nears c solver job b m s k) in
         let u = path-still p g b (near .kept) t n (omega (arith, near .nearer)) in
         record {
           turns = u .turns;
@@ -126,6 +127,6 @@ module _ (solver : Solver) (job : Window) (c : Code) where
         }
 
     -- So what a path with these outcomes forced gives from the start of main, it gives from this point on.
-    pub resumed : (m : Machine Value) (s : State) (q : List Bool) → Comes solver job c most m s → Some q → (t : Tally) (n : ℕ) → turns-left c (start known work c) (begins most (s .chosen ++ q)) < n
+    pub resumed : (m : Machine Value) (s : State) (q : List Bool) → Comes solver job c most m s → Some q → (t : Tally) (n : ℕ) → turnsLeft c (start known work c) (begins most (s .chosen ++ q)) < n
         → Onto (path solver job c most n (start known work c) (begins most (s .chosen ++ q)) t) m (forcing q s) t
     resumed m s q k g t n l = path-still (k .again q) g most (kept-start c most (s .chosen ++ q)) t n l

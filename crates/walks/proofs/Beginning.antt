@@ -18,7 +18,7 @@ use Rattle.simulation.specs.Resume.{forcing, Comes}
 use Rattle.simulation.specs.Cells.{Uses}
 use Rattle.simulation.proofs.Back.{Some}
 use Rattle.simulation.proofs.Bounds.{sound-start}
-use Rattle.simulation.proofs.Drive.{turns-left}
+use Rattle.simulation.specs.Measure.{turnsLeft}
 use Rattle.simulation.proofs.Resume.{comes-start, Onto, resumed}
 use Rattle.intervals.specs.Meaning.{Filled}
 use Rattle.ranges.proofs.Ranges.{filled}
@@ -34,11 +34,11 @@ use Rattle.paths.specs.Choice.{Tables}
 use Rattle.paths.specs.Point.{stateAt, Going}
 use Rattle.paths.proofs.Choice.{outcomes-same}
 use Rattle.checkpoints.specs.Live.{sizeOf, numberCount}
-use Rattle.checkpoints.specs.Words.{Agrees, forced, Restored, Ends}
+use Rattle.checkpoints.specs.Words.{Agrees, forced, Restored, EndsBefore}
 use Rattle.walks.specs.declared.Stack.{Stack}
 use Rattle.walks.specs.declared.Walked.{Walked}
 use Rattle.walks.specs.declared.Walked.the-variants.{Spent, Returned, Failed, Cut}
-use Rattle.walks.specs.Checkpoints.{ComesTo, Checkpoints, none, more, Stacked, Dropped}
+use Rattle.walks.specs.Checkpoints.{ComesTo, Checkpoints, none, more, StackHolds, Dropped}
 use Rattle.walks.specs.Walk.{atStart, Stands, Walks, Walking, FromMain, Begins}
 use Rattle.walks.specs.Walk as walk
 use Rattle.walks.proofs.Checkpoints.{alike-stays, checkpoints-fit, checkpoints-stay}
@@ -47,7 +47,7 @@ use Rattle.walks.proofs.Dropping.{Newest, newest, empty}
 -- ---- the same path from another point
 
 module _ (c : Code) (job : Window) (limit budget : ℕ) (x x₂ : Machine Value) (y y₂ : State)
-    (to : (t : Tally) (n : ℕ) → turns-left c x y < n → Onto inUse job c limit (path inUse job c limit n x y t) x₂ y₂ t) where
+    (to : (t : Tally) (n : ℕ) → turnsLeft c x y < n → Onto inUse job c limit (path inUse job c limit n x y t) x₂ y₂ t) where
   walks-from : {z : Tally → Next Start} → Walks c job limit budget x₂ y₂ z → Walks c job limit budget x y z
   walks-from h = record { is = λ t e n l. to t n l .is ∙ h .is t e (to t n l .turns) (to t n l .enough) }
 
@@ -157,7 +157,7 @@ module _ (c : Code) (job : Window) (m : List ℕ) (s : Stack) (k : ℕ) (n u : �
   agrees : Agrees m (o .is .before) p
   agrees = o .is .agrees (o .choices)
 
-  pub ends-here : Ends (s .cells) m (s .height)
+  pub ends-here : EndsBefore (s .cells) m (s .height)
   ends-here = record { before = o .is .before; point = p; start = o .start; size = o .size; saved = o .is .saved; agrees = agrees }
 
   pub space-here : Room m (s .height)

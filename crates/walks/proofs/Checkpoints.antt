@@ -18,17 +18,17 @@ use Rattle.paths.specs.Point.{stateAt, Going, Stays}
 use Rattle.paths.proofs.Machinery.{machine-stays}
 use Rattle.paths.proofs.Table.{starts-same}
 use Rattle.checkpoints.specs.Live.{sizeOf, Small, Marking}
-use Rattle.checkpoints.specs.Words.{Sized, Saved, Agrees}
+use Rattle.checkpoints.specs.Words.{WordSized, Saved, Agrees}
 use Rattle.checkpoints.proofs.Beside.{off, machinery-is, state-is, going-is, saved-stays}
 use Rattle.walks.specs.declared.Stack.{Stack}
-use Rattle.walks.specs.Checkpoints.{ComesTo, Checkpoint, Checkpoints, none, more, Stacked, Due, added, Keeping, passed, kept}
+use Rattle.walks.specs.Checkpoints.{ComesTo, Checkpoint, Checkpoints, none, more, StackHolds, Due, added, Keeping, passed, kept}
 use Rattle.walks.specs.Walk.{Stands}
 
 -- the numbers of a point fit into words
 pub small-so : {m : List ℕ} {p : Point} → Going m p → Small p
 small-so g = record { depth = omega (arith, g .ready .deep); top = g .ready .tops .small; windows = omega (arith, g .standing .tables .count) }
 
-pub sized-so : {m : List ℕ} {p : Point} → Going m p → p .run .pc < 65536 → Sized p
+pub sized-so : {m : List ℕ} {p : Point} → Going m p → p .run .pc < 65536 → WordSized p
 sized-so g l = record {
   pc = omega arith;
   base = omega (arith, g .ready .low, g .ready .tops .small);
@@ -80,22 +80,22 @@ module _ (c : Code) (job : Window) (limit cells : ℕ) where
 
 -- ---- one more, if it is due
 
-module _ (size : ℕ) (m m′ : List ℕ) (p : Point) (deep : p .run .depth ≤ 32) where
-  pub kept-machine : (s r : Stack) → Keeping size m m′ p s r → machineAt m′ (p .run) ≡ machineAt m (p .run)
-  kept-machine s r (passed e f) = ap (λ (l : List ℕ). machineAt l (p .run)) e
+module _ (words : List ℕ) (size : ℕ) (m m′ : List ℕ) (p : Point) (deep : p .run .depth ≤ 32) where
+  pub kept-machine : (s r : Stack) → Keeping words size m m′ p s r → machineAt m′ (p .run) ≡ machineAt m (p .run)
+  kept-machine s r (passed n e f) = ap (λ (l : List ℕ). machineAt l (p .run)) e
   kept-machine s r (kept due saved k f) = machine-stays (machinery-is m m′ (s .height) (sizeOf (s .cells) p) k) (p .run) deep
 
-  pub kept-state : (s r : Stack) → Keeping size m m′ p s r → stateAt m′ p ≡ stateAt m p
-  kept-state s r (passed e f) = ap (λ (l : List ℕ). stateAt l p) e
+  pub kept-state : (s r : Stack) → Keeping words size m m′ p s r → stateAt m′ p ≡ stateAt m p
+  kept-state s r (passed n e f) = ap (λ (l : List ℕ). stateAt l p) e
   kept-state s r (kept due saved k f) = state-is m m′ (s .height) (sizeOf (s .cells) p) k p
 
-  pub kept-limit : (s r : Stack) → Keeping size m m′ p s r → r .limit ≡ s .limit
-  kept-limit s r (passed e f) = ap (λ (s : Stack). s .limit) f
+  pub kept-limit : (s r : Stack) → Keeping words size m m′ p s r → r .limit ≡ s .limit
+  kept-limit s r (passed n e f) = ap (λ (s : Stack). s .limit) f
   kept-limit s r (kept due saved k f) = ap (λ (s : Stack). s .limit) f
 
-pub kept-stands : (c : Code) (job : Window) (size : ℕ) (m m′ : List ℕ) (p : Point) (s r : Stack) → length m′ ≡ length m → Stands c job m p s → Keeping size m m′ p s r → Stands c job m′ p r
-kept-stands c job size m m′ p s r len h (passed e f) = subst (λ (l : List ℕ). Stands c job l p r) (sym e) (subst (Stands c job m p) (sym f) h)
-kept-stands c job size m m′ p s r len h (kept due saved k f) = subst (Stands c job m′ p) (sym f) (record {
+pub kept-stands : (c : Code) (job : Window) (words : List ℕ) (size : ℕ) (m m′ : List ℕ) (p : Point) (s r : Stack) → length m′ ≡ length m → Stands c job m p s → Keeping words size m m′ p s r → Stands c job m′ p r
+kept-stands c job words size m m′ p s r len h (passed n e f) = subst (λ (l : List ℕ). Stands c job l p r) (sym e) (subst (Stands c job m p) (sym f) h)
+kept-stands c job words size m m′ p s r len h (kept due saved k f) = subst (Stands c job m′ p) (sym f) (record {
   going = going-is m m′ (s .height) (sizeOf (s .cells) p) k p len (h .going);
   few = h .few;
   comes = comes-same;
@@ -133,5 +133,5 @@ kept-stands c job size m m′ p s r len h (kept due saved k f) = subst (Stands c
     }
 
     comes-same : ComesTo c job (s .limit) m′ p
-    comes-same = subst (λ (x : Machine Value). Comes inUse job c (s .limit) x (stateAt m′ p)) (sym (kept-machine size m m′ p (h .going .ready .deep) s (added s p) (kept due saved k refl)))
-        (subst (Comes inUse job c (s .limit) (machineAt m (p .run))) (sym (kept-state size m m′ p (h .going .ready .deep) s (added s p) (kept due saved k refl))) (h .comes))
+    comes-same = subst (λ (x : Machine Value). Comes inUse job c (s .limit) x (stateAt m′ p)) (sym (kept-machine words size m m′ p (h .going .ready .deep) s (added s p) (kept due saved k refl)))
+        (subst (Comes inUse job c (s .limit) (machineAt m (p .run))) (sym (kept-state words size m m′ p (h .going .ready .deep) s (added s p) (kept due saved k refl))) (h .comes))

@@ -12,6 +12,7 @@ use Rattle.simulation.specs.Cells.{Fills, Uses, CallsMain}
 use Rattle.simulation.proofs.Words.{entry-in, length-entries}
 use Rattle.simulation.proofs.Cells.{fills-more}
 use Rattle.machine.proofs.Stays.{three}
+use Rattle.walks.specs.Checkpoints.{MainFirst}
 
 -- ---- kinds
 
@@ -52,12 +53,12 @@ pub one-more : (ws : List ℕ) (e n r k : ℕ) → ((i : ℕ) → i < e → Fill
 one-more ws e n r k h x a b i l = ⊎-elim (λ q. subst (λ (i : ℕ). Fills k (entryOf (getD ws (2 * i) 0) (getD ws (2 * i + 1) 0))) (sym q) (fills-more r k b (entryOf (getD ws (2 * e) 0) (getD ws (2 * e + 1) 0)) x))
     (λ q. ⊎-elim (λ q. fills-more n k a (entryOf (getD ws (2 * i) 0) (getD ws (2 * i + 1) 0)) (h i q)) (λ q. absurd (omega arith)) q) (three i e)
 
--- the kinds of the first two entries, a call and a return
-pub calls-main-so : (ws : List ℕ) (size : ℕ) → 2 ≤ size → getD ws 0 0 ≡ 13 → getD ws 2 0 ≡ 23 → CallsMain (codeIn ws size)
+-- the first two entries are a call and a return
+pub calls-main-so : (ws : List ℕ) (size : ℕ) → MainFirst ws size → CallsMain (codeIn ws size)
 unfolding entryOf
-calls-main-so ws size l a b = record {
+calls-main-so ws size f = record {
   main = getD ws 1 0 % 16;
   arguments = getD ws 1 0 / 16;
-  calls = entry-in ws 0 size 0 (omega arith) ∙ ap (λ k. entryOf k (getD ws 1 0)) a;
-  returns = entry-in ws 0 size 1 (omega arith) ∙ ap (λ k. entryOf k (getD ws 3 0)) b;
+  calls = entry-in ws 0 size 0 (omega (arith, f .two)) ∙ ap (λ k. entryOf k (getD ws 1 0)) (f .calls);
+  returns = entry-in ws 0 size 1 (omega (arith, f .two)) ∙ ap (λ k. entryOf k (getD ws 3 0)) (f .returns);
 }

@@ -14,7 +14,7 @@ use Rattle.simulation.specs.Machine.{Machine}
 use Rattle.simulation.specs.Path.{State, Turn, End, on, ended, still, turn}
 use Rattle.simulation.specs.Cells.{CallsMain}
 use Rattle.simulation.specs.Lister.{Tally, tally, Next, go, over, then, closed, charge, charged, finish, Start, back, path}
-use Rattle.simulation.proofs.Drive.{turns-left}
+use Rattle.simulation.specs.Measure.{turnsLeft}
 use Rattle.simulation.proofs.Resume.{after, path-turn, comes-on}
 use Rattle.simulation.proofs.Cells.{Extends, starts-on, starts-end}
 use Rattle.machine.specs.Layout.{frameCells}
@@ -91,24 +91,24 @@ module _ (c : Code) (job : Window) (limit : ℕ) where
   -- x is what `path` says from here on
   pub record From (x : Next Start) (m : List ℕ) (p : Point) (u : Tally) : Type 0 where
     pub turns : ℕ
-    pub enough : turns-left c (machineAt m (p .run)) (stateAt m p) < turns
+    pub enough : turnsLeft c (machineAt m (p .run)) (stateAt m p) < turns
     pub is : x ≡ path inUse job c limit turns (machineAt m (p .run)) (stateAt m p) u
 
-  pub record Reaches (budget : ℕ) (x : Machine Value) (y : State) (m : List ℕ) (p : Point) (s : Stack) (left : ℕ) : Type 0 where
+  pub record WalkedTo (budget : ℕ) (x : Machine Value) (y : State) (m : List ℕ) (p : Point) (s : Stack) (left : ℕ) : Type 0 where
     pub stands : Stands c job m p s
     pub limited : s .limit ≡ limit
     pub rest : left ≤ budget
-    pub so : (t : Tally) → t .budget ≡ budget → (n : ℕ) → turns-left c x y < n → From (path inUse job c limit n x y t) m p (paid left t)
+    pub so : (t : Tally) → t .budget ≡ budget → (n : ℕ) → turnsLeft c x y < n → From (path inUse job c limit n x y t) m p (paid left t)
 
   module _ (budget : ℕ) (x : Machine Value) (y : State) where
-    pub begins-so : (m : List ℕ) (p : Point) (s : Stack) → Stands c job m p s → s .limit ≡ limit → x ≡ machineAt m (p .run) → y ≡ stateAt m p → Reaches budget x y m p s budget
+    pub begins-so : (m : List ℕ) (p : Point) (s : Stack) → Stands c job m p s → s .limit ≡ limit → x ≡ machineAt m (p .run) → y ≡ stateAt m p → WalkedTo budget x y m p s budget
     begins-so m p s h l e f = record {
       stands = h;
       limited = l;
       rest = omega arith;
       so = λ t g n b. record {
         turns = n;
-        enough = subst (λ (k : ℕ). k < n) (ap₂ (turns-left c) e f) b;
+        enough = subst (λ (k : ℕ). k < n) (ap₂ (turnsLeft c) e f) b;
         is = (λ i. path inUse job c limit n (e i) (f i) t) ∙ ap (path inUse job c limit n (machineAt m (p .run)) (stateAt m p)) (same t g);
       };
     }
@@ -119,35 +119,35 @@ module _ (c : Code) (job : Window) (limit : ℕ) where
             ap₂ (λ (b n : ℕ). tally b (t .skip) (t .room) (t .rows) n (t .cut)) e n
 
     -- a checkpoint is saved, or not
-    pub reaches-kept : (size : ℕ) (m m′ : List ℕ) (p : Point) (s r : Stack) (left : ℕ) → length m′ ≡ length m → Reaches budget x y m p s left → Keeping size m m′ p s r → Reaches budget x y m′ p r left
-    reaches-kept size m m′ p s r left len h k =
+    pub reaches-kept : (words : List ℕ) (size : ℕ) (m m′ : List ℕ) (p : Point) (s r : Stack) (left : ℕ) → length m′ ≡ length m → WalkedTo budget x y m p s left → Keeping words size m m′ p s r → WalkedTo budget x y m′ p r left
+    reaches-kept words size m m′ p s r left len h k =
         let deep = h .stands .going .ready .deep in
-        let e = kept-machine size m m′ p deep s r k in
-        let f = kept-state size m m′ p deep s r k in
+        let e = kept-machine words size m m′ p deep s r k in
+        let f = kept-state words size m m′ p deep s r k in
         record {
-          stands = kept-stands c job size m m′ p s r len (h .stands) k;
-          limited = kept-limit size m m′ p deep s r k ∙ h .limited;
+          stands = kept-stands c job words size m m′ p s r len (h .stands) k;
+          limited = kept-limit words size m m′ p deep s r k ∙ h .limited;
           rest = h .rest;
           so = λ t g n b.
               let u = h .so t g n b in
               record {
                 turns = u .turns;
-                enough = subst (λ (j : ℕ). j < u .turns) (ap₂ (turns-left c) (sym e) (sym f)) (u .enough);
+                enough = subst (λ (j : ℕ). j < u .turns) (ap₂ (turnsLeft c) (sym e) (sym f)) (u .enough);
                 is = u .is ∙ (λ i. path inUse job c limit (u .turns) (sym e i) (sym f i) (paid left t));
               };
         }
 
     -- one turn
     from-turn : (z : Next Start) (m : List ℕ) (p : Point) (u : Tally) → From z m p u → (w : Turn) → turn inUse job c (machineAt m (p .run)) (stateAt m p) ≡ w
-        → (k : ℕ) × ((turns-left c (machineAt m (p .run)) (stateAt m p) < suc k) × (z ≡ then (charged (w .move) u) (after inUse job c limit k (w .went))))
+        → (k : ℕ) × ((turnsLeft c (machineAt m (p .run)) (stateAt m p) < suc k) × (z ≡ then (charged (w .move) u) (after inUse job c limit k (w .went))))
     from-turn z m p u f w e = by (f .turns) (f .enough) (f .is)
       where
-        by : (n : ℕ) → turns-left c (machineAt m (p .run)) (stateAt m p) < n → z ≡ path inUse job c limit n (machineAt m (p .run)) (stateAt m p) u
-            → (k : ℕ) × ((turns-left c (machineAt m (p .run)) (stateAt m p) < suc k) × (z ≡ then (charged (w .move) u) (after inUse job c limit k (w .went))))
+        by : (n : ℕ) → turnsLeft c (machineAt m (p .run)) (stateAt m p) < n → z ≡ path inUse job c limit n (machineAt m (p .run)) (stateAt m p) u
+            → (k : ℕ) × ((turnsLeft c (machineAt m (p .run)) (stateAt m p) < suc k) × (z ≡ then (charged (w .move) u) (after inUse job c limit k (w .went))))
         by zero l q = absurd (omega arith)
         by (suc k) l q = (k, (l, q ∙ path-turn inUse job c limit k (machineAt m (p .run)) (stateAt m p) u w e))
 
-    module _ (m m′ : List ℕ) (p : Point) (s : Stack) (left : ℕ) (r : Reaches budget x y m p s left) where
+    module _ (m m′ : List ℕ) (p : Point) (s : Stack) (left : ℕ) (r : WalkedTo budget x y m p s left) where
       abbrev here : Turn
       here = turn inUse job c (machineAt m (p .run)) (stateAt m p)
 
@@ -156,7 +156,7 @@ module _ (c : Code) (job : Window) (limit : ℕ) where
 
       -- the path goes on
       pub reaches-on : (q : Point) (o : Bool) (left′ : ℕ) → Onward here m′ p o q → Going m′ q → Stays m m′ (p .run .nodes) (p .choices) → length m′ ≡ length m → left′ ≤ budget
-          → ((t : Tally) → t .budget ≡ budget → charged o (paid left t) ≡ go (paid left′ t)) → Reaches budget x y m′ q s left′
+          → ((t : Tally) → t .budget ≡ budget → charged o (paid left t) ≡ go (paid left′ t)) → WalkedTo budget x y m′ q s left′
       reaches-on q o left′ h g stays len l pay = record {
         stands = record {
           going = g;
@@ -180,7 +180,7 @@ module _ (c : Code) (job : Window) (limit : ℕ) where
           starts : ((k : ℕ) → k ≤ p .windows → startsIn m′ k ≡ startsIn m k) × (p .windows ≤ q .windows)
           starts = starts-kept (q .windows) (g .standing .tables .count) (starts-on inUse job c (machineAt m (p .run)) (stateAt m p) (machineAt m′ (q .run)) (stateAt m′ q) (ap (λ (t : Turn). t .went) (h .is)))
 
-      pub nearer : (q : Point) (o : Bool) → Onward here m′ p o q → turns-left c (machineAt m′ (q .run)) (stateAt m′ q) < turns-left c (machineAt m (p .run)) (stateAt m p)
+      pub nearer : (q : Point) (o : Bool) → Onward here m′ p o q → turnsLeft c (machineAt m′ (q .run)) (stateAt m′ q) < turnsLeft c (machineAt m (p .run)) (stateAt m p)
       nearer q o h = nearer-of job c m m′ p q o (r .stands .going .ready) (h .is) .nearer
 
       -- the budget is spent
@@ -209,16 +209,16 @@ module _ (c : Code) (job : Window) (limit : ℕ) where
       }
 
     -- turns on known values, for which the budget pays
-    pub reaches-turns : (m m′ : List ℕ) (p q : Point) (s : Stack) (left : ℕ) → Reaches budget x y m p s left → Turns c m p m′ q → moves (p .forced) (p .steps - q .steps) ≤ left
-        → Reaches budget x y m′ q s (left - moves (p .forced) (p .steps - q .steps))
+    pub reaches-turns : (m m′ : List ℕ) (p q : Point) (s : Stack) (left : ℕ) → WalkedTo budget x y m p s left → Turns c m p m′ q → moves (p .forced) (p .steps - q .steps) ≤ left
+        → WalkedTo budget x y m′ q s (left - moves (p .forced) (p .steps - q .steps))
     reaches-turns m m′ p q s left r (none e f) l =
         let z : left ≡ left - moves (p .forced) (p .steps - q .steps) = omega (arith, moves-none (p .forced) (p .steps) (q .steps) (ap (λ (q : Point). q .steps) f)) in
-        subst (Reaches budget x y m′ q s) z (subst (λ (q : Point). Reaches budget x y m′ q s left) (sym f) (subst (λ (m : List ℕ). Reaches budget x y m p s left) (sym e) r))
+        subst (WalkedTo budget x y m′ q s) z (subst (λ (q : Point). WalkedTo budget x y m′ q s left) (sym f) (subst (λ (m : List ℕ). WalkedTo budget x y m p s left) (sym e) r))
     reaches-turns m m′ p q s left r (more m₁ p₁ ts h) l =
         let g = r .stands .going in
         let k : moves (p .forced) (p .steps - p₁ .steps) ≤ left = omega (arith, l, moves-less (p .forced) (p .steps) (q .steps) (p₁ .steps) (paced p₁ q (h .move) (h .paces))) in
         reaches-on m₁ m′ p₁ s (left - moves (p .forced) (p .steps - p₁ .steps)) (reaches-turns m m₁ p p₁ s left r ts k) q (h .move) (left - moves (p .forced) (p .steps - q .steps)) (h .is job) (h .going) (h .stays) (h .len)
         (omega (arith, r .rest)) (pays-turn budget left (p .forced) (p .steps) p₁ q (h .move) (turns-forced c m p g m₁ p₁ ts) (turns-fewer c m p g m₁ p₁ ts) (h .paces) l (r .rest))
 
-    pub reaches-passed : (m m′ : List ℕ) (p q : Point) (s : Stack) (left left′ : ℕ) → Reaches budget x y m p s left → Passes c m m′ p left q left′ → Reaches budget x y m′ q s left′
-    reaches-passed m m′ p q s left left′ r h = subst (Reaches budget x y m′ q s) (sym (h .rest)) (reaches-turns m m′ p q s left r (h .turns) (h .covers))
+    pub reaches-passed : (m m′ : List ℕ) (p q : Point) (s : Stack) (left left′ : ℕ) → WalkedTo budget x y m p s left → Passes c m m′ p left q left′ → WalkedTo budget x y m′ q s left′
+    reaches-passed m m′ p q s left left′ r h = subst (WalkedTo budget x y m′ q s) (sym (h .rest)) (reaches-turns m m′ p q s left r (h .turns) (h .covers))

@@ -2,9 +2,11 @@
 use Prim.Native.Nat.{ℕ, _+_, _*_, _≤_, _<_}
 use mathlib.Core.Path.{_≡_}
 use mathlib.Core.List.{List}
+use lib.ListN.{getD}
 use Rattle.semantics.specs.Program.{Window}
 use Rattle.semantics.specs.Search.{inUse}
 use Rattle.simulation.specs.Code.{Code}
+use Rattle.simulation.specs.Words.{cCompare, cCall, cReturn}
 use Rattle.simulation.specs.Resume.{Comes}
 use Rattle.simulation.specs.Cells.{Uses}
 use Rattle.machine.specs.Layout.{frameCells}
@@ -35,7 +37,7 @@ pub data Checkpoints (c : Code) (job : Window) (limit cells : ℕ) (m : List ℕ
       → w ≤ limit → w ≡ v + sizeOf cells p → Checkpoints c job limit cells m upto n t u w
 
 -- those of a stack, a memory that has room for them and for the tables of a path, and cells that are all that the code uses
-pub record Stacked (c : Code) (job : Window) (m : List ℕ) (upto n t u : ℕ) (s : Stack) : Type 0 where
+pub record StackHolds (c : Code) (job : Window) (m : List ℕ) (upto n t u : ℕ) (s : Stack) : Type 0 where
   pub checkpoints : Checkpoints c job (s .limit) (s .cells) m upto n t u (s .height)
   pub room : Room m (s .limit + 1)
   pub uses : Uses c (s .cells)
@@ -43,19 +45,32 @@ pub record Stacked (c : Code) (job : Window) (m : List ℕ) (upto n t u : ℕ) (
 
 -- ---- a checkpoint is added, if it is due
 
--- no outcome is forced at the point p, which is at an entry of the code, and there are marks for it beside the checkpoints that there are, and beside two for each three steps that are left, which later ones may need
-pub record Due (size : ℕ) (p : Point) (s : Stack) : Type 0 where
+-- entry i of the code, in words, is a comparison
+pub record Compares (words : List ℕ) (size i : ℕ) : Type 0 where
+  pub inside : i < size
+  pub from : cCompare ≤ getD words (2 * i) 0
+  pub upto : getD words (2 * i) 0 < cCall
+
+-- the code begins with the call of main, whose value is returned
+pub record MainFirst (words : List ℕ) (size : ℕ) : Type 0 where
+  pub two : 2 ≤ size
+  pub calls : getD words 0 0 ≡ cCall
+  pub returns : getD words 2 0 ≡ cReturn
+
+-- At the point p some window is reached, no outcome is forced and a comparison comes next, whose outcome may be a choice that no path has made yet; and there are marks for a checkpoint beside those that there are, and beside two for each three steps that are left, which later ones may need.
+pub record Due (words : List ℕ) (size : ℕ) (p : Point) (s : Stack) : Type 0 where
   pub unforced : p .forced ≡ 0
-  pub entry : p .run .pc < size
+  pub reached : 1 ≤ p .windows
+  pub compares : Compares words size (p .run .pc)
   pub fits : 3 * (s .height + sizeOf (s .cells) p) + 2 * p .steps ≤ 3 * s .limit
 
 abbrev pub added : Stack → Point → Stack
 added s p = record { height = s .height + sizeOf (s .cells) p; limit = s .limit; cells = s .cells }
 
--- nothing was done, or the point was saved
-pub data Keeping (size : ℕ) (m m′ : List ℕ) (p : Point) (s r : Stack) : Type 0 where
-  passed : m′ ≡ m → r ≡ s → Keeping size m m′ p s r
-  kept : Due size p s → Saved (s .cells) m′ m p (s .height) → Marking m m′ (s .height) (sizeOf (s .cells) p) → r ≡ added s p → Keeping size m m′ p s r
+-- a checkpoint was due and the point was saved, or none was due and nothing was done
+pub data Keeping (words : List ℕ) (size : ℕ) (m m′ : List ℕ) (p : Point) (s r : Stack) : Type 0 where
+  passed : (MainFirst words size → Due words size p s → ⊥) → m′ ≡ m → r ≡ s → Keeping words size m m′ p s r
+  kept : Due words size p s → Saved (s .cells) m′ m p (s .height) → Marking m m′ (s .height) (sizeOf (s .cells) p) → r ≡ added s p → Keeping words size m m′ p s r
 
 -- ---- checkpoints are dropped
 

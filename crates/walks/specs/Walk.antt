@@ -10,7 +10,7 @@ use Rattle.simulation.specs.Code.{Code}
 use Rattle.simulation.specs.Machine.{Machine, start}
 use Rattle.simulation.specs.Path.{State, begins, End, returned, failed, cut}
 use Rattle.simulation.specs.Lister.{Tally, tally, Next, over, then, closed, finish, Start, back, path}
-use Rattle.simulation.proofs.Drive.{turns-left}
+use Rattle.simulation.specs.Measure.{turnsLeft}
 use Rattle.machine.specs.Memory.{machineAt, outcomesIn}
 use Rattle.machine.specs.Contracts.{meant, Room}
 use Rattle.machine.specs.declared.Run.{Run}
@@ -19,15 +19,11 @@ use Rattle.paths.specs.Point.{stateAt, Standing, Usable, Going}
 use Rattle.walks.specs.declared.Stack.{Stack}
 use Rattle.walks.specs.declared.Walked.{Walked}
 use Rattle.walks.specs.declared.Walked.the-variants.{Spent, Returned, Failed, Cut}
-use Rattle.walks.specs.Checkpoints.{ComesTo, Stacked}
+use Rattle.walks.specs.Checkpoints.{ComesTo, StackHolds}
 
 -- what has been counted, where so much of the budget is left
 abbrev pub paid : ℕ → Tally → Tally
 paid left t = tally left (t .skip) (t .room) (t .rows) (t .moves + (t .budget - left)) (t .cut)
-
--- more turns than a path of at most `limit` steps can have
-abbrev pub turnsOf : Code → ℕ → ℕ
-turnsOf c limit = suc limit * suc (32 * suc (length (c .entries)) + length (c .entries))
 
 -- the point at the start of main
 abbrev pub atStart : Run → ℕ → ℕ → Point
@@ -38,11 +34,11 @@ pub record Stands (c : Code) (job : Window) (m : List ℕ) (p : Point) (s : Stac
   pub going : Going m p
   pub few : p .choices + p .steps ≤ s .limit
   pub comes : ComesTo c job (s .limit) m p
-  pub stacked : Stacked c job m (p .choices) (p .run .nodes) (p .choices) (p .windows) s
+  pub stacked : StackHolds c job m (p .choices) (p .run .nodes) (p .choices) (p .windows) s
 
 -- the path from the machine x and the state s on, and what is done after it, is y of what was counted before
 pub record Walks (c : Code) (job : Window) (limit budget : ℕ) (x : Machine Value) (s : State) (y : Tally → Next Start) : Type 0 where
-  pub is : (t : Tally) → t .budget ≡ budget → (n : ℕ) → turns-left c x s < n → path inUse job c limit n x s t ≡ y t
+  pub is : (t : Tally) → t .budget ≡ budget → (n : ℕ) → turnsLeft c x s < n → path inUse job c limit n x s t ≡ y t
 
 -- the path has ended so at the point q, with so much of the budget left
 pub record Ends (c : Code) (job : Window) (limit budget : ℕ) (x : Machine Value) (s : State) (m′ : List ℕ) (e : End) (q : Point) (r : Stack) (left : ℕ) : Type 0 where
@@ -50,7 +46,7 @@ pub record Ends (c : Code) (job : Window) (limit budget : ℕ) (x : Machine Valu
   pub standing : Standing m′ q
   pub few : q .choices ≤ limit
   pub rest : left ≤ budget
-  pub stacked : Stacked c job m′ (q .choices) (q .run .nodes) (q .choices) (q .windows) r
+  pub stacked : StackHolds c job m′ (q .choices) (q .run .nodes) (q .choices) (q .windows) r
   pub limited : r .limit ≡ limit
 
 -- how the path went: a value that it returned is one of its nodes
@@ -67,7 +63,7 @@ pub record Begins (c : Code) (job : Window) (m : List ℕ) (forced : ℕ) (s : S
   pub nodes : ℕ
   pub choices : ℕ
   pub windows : ℕ
-  pub stacked : Stacked c job m (forced - 1) nodes choices windows s
+  pub stacked : StackHolds c job m (forced - 1) nodes choices windows s
   pub first : forced ≡ 0 → s .height ≡ 0
 
 -- the path with these outcomes forced, from the start of main on

@@ -1,6 +1,6 @@
 // One path of the search, from the start of main or from a checkpoint up to its end.
 ghost use mathlib.Core.Path.{_≡_};
-ghost use mathlib.Core.Bool.{true};
+ghost use mathlib.Core.Bool.{true, false};
 ghost use Prim.Native.Nat.{_+_, _*_, _<_, _≤_};
 ghost use lib.ListN.{length};
 ghost use Rattle.simulation.specs.Words.{codeIn};
@@ -11,7 +11,7 @@ ghost use Rattle.machine.specs.Memory.{machineAt, outcomesIn};
 ghost use Rattle.machine.specs.Contracts.{Room, Started};
 ghost use Rattle.paths.specs.Point.{stateAt, Going};
 ghost use Rattle.checkpoints.specs.Live.{Small, Unused};
-ghost use Rattle.walks.specs.Checkpoints.{Due, Keeping, Dropped};
+ghost use Rattle.walks.specs.Checkpoints.{Compares, MainFirst, Due, Keeping, Dropped};
 ghost use Rattle.walks.specs.Walk.{atStart, Stands, Walking, Begins, FromMain};
 use code::entry;
 use intervals::Window;
@@ -39,7 +39,7 @@ pub enum Walked {
 // Whether the entry at pc is a comparison.
 fn compares(code: &[u32], size: usize, pc: usize) -> bool
     requires { ⌜ 2 * size ≤ length (now code) ⌝ }
-    ensures { λ r. ⌜ (r ≡ true → pc < size) ⌝ }
+    ensures { λ r. ⌜ (r ≡ true → Compares (now (code .entry)) size pc) × (r ≡ false → Compares (now (code .entry)) size pc → ⊥) ⌝ }
 {
     if pc < size {
         let kind = code[entry::WORDS * pc];
@@ -59,7 +59,7 @@ const KEPT_BACK: usize = 2;
 // Whether a checkpoint is due: a choice may follow that no path has made yet, and there are marks for one more. Known steps have passed the comparisons of known values: at one that is left an operand is open, or the path ends there.
 fn is_due(code: &[u32], size: usize, p: Point, s: Stack) -> bool
     requires { ⌜ (2 * size ≤ length (now code)) × Small p × (p .steps < 4294967296) × (s .limit < 4294967296) × (s .height ≤ s .limit) × (s .cells ≤ frameCells) ⌝ }
-    ensures { λ r. ⌜ (r ≡ true → Due size p s) ⌝ }
+    ensures { λ r. ⌜ (r ≡ true → Due (now (code .entry)) size p s) × (r ≡ false → Due (now (code .entry)) size p s → ⊥) ⌝ }
 {
     if p.forced != 0 {
         return false;
@@ -78,7 +78,7 @@ fn is_due(code: &[u32], size: usize, p: Point, s: Stack) -> bool
 // Whether the code begins with the call of main, whose value is returned: then nothing is ever stored in the first frame, that of the start.
 fn calls_main(code: &[u32], size: usize) -> bool
     requires { ⌜ 2 * size ≤ length (now code) ⌝ }
-    ensures { λ r. ⌜ (r ≡ true → CallsMain (codeIn (now (code .entry)) size)) ⌝ }
+    ensures { λ r. ⌜ (r ≡ true → MainFirst (now (code .entry)) size) × (r ≡ false → MainFirst (now (code .entry)) size → ⊥) ⌝ }
 {
     if size < 2 {
         return false;
@@ -92,7 +92,7 @@ fn calls_main(code: &[u32], size: usize) -> bool
 // Saves a checkpoint, if one is due.
 fn keep(code: &[u32], size: usize, mem: &mut [u32], p: Point, s: Stack) -> Stack
     requires { ⌜ (2 * size ≤ length (now code)) × (size < 65536) × Going (now mem) p × Room (now mem) (s .limit) × (s .height ≤ s .limit) × (s .cells ≤ frameCells) × (CallsMain (codeIn (now code) size) → Unused (s .cells) (now mem) (p .run .depth)) ⌝ }
-    ensures { λ r. ⌜ Keeping size (now (mem .entry)) (now (mem .exit)) p s r ⌝ }
+    ensures { λ r. ⌜ Keeping (now (code .entry)) size (now (mem .entry)) (now (mem .exit)) p s r ⌝ }
 {
     if is_due(code, size, p, s) {
         if calls_main(code, size) {

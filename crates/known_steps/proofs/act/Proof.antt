@@ -16,8 +16,8 @@ use Rattle.known_steps.proofs.act.Tie as tie
 use Rattle.known_steps.proofs.act.Reads as reads
 use Rattle.known_steps.proofs.act.Lts as lts
 use Rattle.ints.proofs.monus.Reads as monus-reads
-use Rattle.known_steps.proofs.flagged.Reads as flagged-reads
-use Rattle.known_steps.proofs.landing.Reads as landing-reads
+use Rattle.machine.proofs.flagged.Reads as flagged-reads
+use Rattle.machine.proofs.landing.Reads as landing-reads
 use Rattle.known_steps.proofs.moved.Reads as moved-reads
 use Rattle.known_steps.proofs.silent.Reads as silent-reads
 use Rattle.known_steps.proofs.step.Reads as step-reads

@@ -3,7 +3,7 @@ use mathlib.Core.List.{List}
 use Prim.Native.Nat.{ℕ, _≤_}
 use lib.ListN.{length}
 use Rattle.simulation.specs.Words.{codeIn}
-use Rattle.simulation.proofs.Drive.{turns-left}
+use Rattle.simulation.specs.Measure.{turnsLeft}
 use Rattle.machine.specs.Memory.{machineAt}
 use Rattle.paths.specs.Point.{stateAt, Going}
 use Rattle.known_steps.specs.Turns.{Turns, none}
@@ -18,7 +18,7 @@ abbrev Inv-loop : tie.InvT-loop
 Inv-loop code size mem₀ floor p₀ mem p = Turns (codeIn code size) mem₀ p₀ mem p × Going mem p × (floor ≤ p .steps) × (length mem ≡ length mem₀)
 
 abbrev μ-loop : tie.MeasureT-loop
-μ-loop code size mem₀ floor p₀ mem p = turns-left (codeIn code size) (machineAt mem (p .run)) (stateAt mem p)
+μ-loop code size mem₀ floor p₀ mem p = turnsLeft (codeIn code size) (machineAt mem (p .run)) (stateAt mem p)
 
 -- src/lib.rt:372:5
 loop-holds : tie.Need-loop-holds Inv-loop μ-loop

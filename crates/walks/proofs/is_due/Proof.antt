@@ -1,6 +1,6 @@
 use native.Mathlib.Omega.{arith}
 use Prim.Native.Nat.{_+_, _*_}
-use borrow.Author.Tests.{leb-true}
+use borrow.Author.Tests.{leb-true, leb-false}
 use Rattle.checkpoints.proofs.Places.{times-few}
 use Rattle.checkpoints.proofs.Copying.{never}
 use borrow.Author.Needs.{needs}
@@ -12,10 +12,10 @@ use Rattle.checkpoints.proofs.size_of.Reads as size-of-reads
 use Rattle.walks.proofs.compares.Reads as compares-reads
 
 returns : tie.Need-returns
-returns c = λ e. never e
+returns c = (λ e. never e, λ e h. omega (arith, h .unforced, c .if1 .taken))
 
 returns-2 : tie.Need-returns-2
-returns-2 c = λ e. never e
+returns-2 c = (λ e. never e, λ e h. omega (arith, h .reached, c .if2 .taken))
 
 compares-requires : tie.Need-compares-requires
 compares-requires c κs = search needs
@@ -40,14 +40,19 @@ mul-result-3 c = let q = c .before .before .before .before .before .before .befo
 
 returns-3 : tie.Need-returns-3
 returns-3 c =
-    λ e. record {
-      unforced = omega (arith, c .before .before .before .before .before .before .before .before .before .if1 .left);
-      entry = c .before .before .before .before .before .compares .ensures (c .before .before .before .before .if3 .taken);
-      fits = omega (arith, leb-true (3 * (c .before .before .before .before .before .before .before .before .before .before .before .before .args .s .height + c .before .before .before .size-of .result) + 2 * c .before .before .before .before .before .before .before .before .before .before .before .before .args .p .steps) (3 * c .before .before .before .before .before .before .before .before .before .before .before .before .args .s .limit) e, c .before .before .before .size-of .ensures);
-    }
+    let a = c .before .before .before .before .before .before .before .before .before .before .before .before .args in
+    let need = 3 * (a .s .height + c .before .before .before .size-of .result) + 2 * a .p .steps in (
+      λ e. record {
+        unforced = omega (arith, c .before .before .before .before .before .before .before .before .before .if1 .left);
+        reached = omega (arith, c .before .before .before .before .before .before .before .if2 .left);
+        compares = c .before .before .before .before .before .compares .ensures .0 (c .before .before .before .before .if3 .taken);
+        fits = omega (arith, leb-true need (3 * a .s .limit) e, c .before .before .before .size-of .ensures);
+      },
+      λ e h. omega (arith, leb-false need (3 * a .s .limit) e, c .before .before .before .size-of .ensures, h .fits),
+    )
 
 returns-4 : tie.Need-returns-4
-returns-4 c = λ e. never e
+returns-4 c = (λ e. never e, λ e h. c .before .compares .ensures .1 (c .if3 .left) (h .compares))
 
 pub is-due-spec : {M : Type 1} → statement M
 is-due-spec =

@@ -6,7 +6,7 @@ use lib.ListN.{length}
 use Rattle.semantics.specs.Search.{inUse}
 use Rattle.simulation.specs.Path.{returned, failed, cut, turn}
 use Rattle.simulation.specs.Words.{codeIn}
-use Rattle.simulation.proofs.Drive.{turns-left}
+use Rattle.simulation.specs.Measure.{turnsLeft}
 use Rattle.intervals.specs.Meaning.{ofWindow}
 use Rattle.machine.specs.Memory.{machineAt}
 use Rattle.machine.specs.Contracts.{meant}
@@ -14,7 +14,7 @@ use Rattle.paths.specs.declared.Turned.the-variants as Turned
 use Rattle.paths.specs.Point.{stateAt}
 use Rattle.known_steps.proofs.Passing.{turns-nearer}
 use Rattle.walks.proofs.Checkpoints.{kept-machine, kept-state}
-use Rattle.walks.proofs.Walking.{turned-as, spare, Reaches, begins-so, reaches-passed, reaches-kept, reaches-on, pays-none, pays-one, nearer, reaches-spent, reaches-end}
+use Rattle.walks.proofs.Walking.{turned-as, spare, WalkedTo, begins-so, reaches-passed, reaches-kept, reaches-on, pays-none, pays-one, nearer, reaches-spent, reaches-end}
 use Rattle.walks.proofs.walk.Statement.{statement}
 use Rattle.walks.proofs.walk.Tie as tie
 use Rattle.walks.proofs.walk.Reads as reads
@@ -24,10 +24,10 @@ use Rattle.paths.proofs.turn.Reads as turn-reads
 use Rattle.walks.proofs.keep.Reads as keep-reads
 
 abbrev Inv-loop : tie.InvT-loop
-Inv-loop code size mem₀ job budget p₀ s₀ left₀ mem p s left = Reaches (codeIn code size) (ofWindow job) (s₀ .limit) budget (machineAt mem₀ (p₀ .run)) (stateAt mem₀ p₀) mem p s left × (length mem ≡ length mem₀)
+Inv-loop code size mem₀ job budget p₀ s₀ left₀ mem p s left = WalkedTo (codeIn code size) (ofWindow job) (s₀ .limit) budget (machineAt mem₀ (p₀ .run)) (stateAt mem₀ p₀) mem p s left × (length mem ≡ length mem₀)
 
 abbrev μ-loop : tie.MeasureT-loop
-μ-loop code size mem₀ job budget p₀ s₀ left₀ mem p s left = turns-left (codeIn code size) (machineAt mem (p .run)) (stateAt mem p)
+μ-loop code size mem₀ job budget p₀ s₀ left₀ mem p s left = turnsLeft (codeIn code size) (machineAt mem (p .run)) (stateAt mem p)
 
 -- src/lib.rt:143:5
 loop-holds : tie.Need-loop-holds Inv-loop μ-loop
@@ -71,7 +71,7 @@ turn-requires c κs =
     let r = reaches-passed x job (a .stack .limit) (a .budget) y z (l .mem) m (l .p) p (l .s) (l .left) left (l .inv .0) (c .before .before .before .before .before .before .before .before .pass .ensures) in
     let m₁ = c .before .before .before .keep .last .1 .1 .0 in
     let k = c .before .before .before .keep .ensures in
-    let r₁ = reaches-kept x job (a .stack .limit) (a .budget) y z (a .size) m m₁ p (l .s) (c .before .before .before .keep .result) left (c .before .before .before .keep .kept .1 .1 .0) r k in
+    let r₁ = reaches-kept x job (a .stack .limit) (a .budget) y z (a .code .now) (a .size) m m₁ p (l .s) (c .before .before .before .keep .result) left (c .before .before .before .keep .kept .1 .1 .0) r k in
     (c .before .before .before .before .before .before .before .before .before .before .before .before .before .pre .0, c .before .before .before .before .before .before .before .before .before .before .before .before .before .pre .1, r₁ .stands .going, c .before .before .before .before .before .before .before .before .before .before .before .before .before .pre .3)
 
 -- src/lib.rt:149:24
@@ -97,7 +97,7 @@ returns c =
     let r = reaches-passed x job (a .stack .limit) (a .budget) y z (l .mem) m (l .p) p (l .s) (l .left) left (l .inv .0) (c .before .before .before .before .before .before .before .before .before .before .before .before .before .before .before .before .pass .ensures) in
     let m₁ = c .before .before .before .before .before .before .before .before .before .before .before .keep .last .1 .1 .0 in
     let k = c .before .before .before .before .before .before .before .before .before .before .before .keep .ensures in
-    let r₁ = reaches-kept x job (a .stack .limit) (a .budget) y z (a .size) m m₁ p (l .s) (c .before .before .before .before .before .before .before .before .before .before .before .keep .result) left (c .before .before .before .before .before .before .before .before .before .before .before .keep .kept .1 .1 .0) r k in
+    let r₁ = reaches-kept x job (a .stack .limit) (a .budget) y z (a .code .now) (a .size) m m₁ p (l .s) (c .before .before .before .before .before .before .before .before .before .before .before .keep .result) left (c .before .before .before .before .before .before .before .before .before .before .before .keep .kept .1 .1 .0) r k in
     let m′ = c .before .before .before .before .before .before .before .turn .last .1 .1 .0 in
     let here = turn inUse job x (machineAt m₁ (p .run)) (stateAt m₁ p) in
     let len = c .before .before .before .before .before .before .before .turn .kept .1 .1 .0 in
@@ -125,7 +125,7 @@ loop-less c =
     let r = reaches-passed x job (a .stack .limit) (a .budget) y z (l .mem) m (l .p) p (l .s) (l .left) left (l .inv .0) (c .before .before .before .before .before .before .before .before .before .before .before .before .before .before .before .before .pass .ensures) in
     let m₁ = c .before .before .before .before .before .before .before .before .before .before .before .keep .last .1 .1 .0 in
     let k = c .before .before .before .before .before .before .before .before .before .before .before .keep .ensures in
-    let r₁ = reaches-kept x job (a .stack .limit) (a .budget) y z (a .size) m m₁ p (l .s) (c .before .before .before .before .before .before .before .before .before .before .before .keep .result) left (c .before .before .before .before .before .before .before .before .before .before .before .keep .kept .1 .1 .0) r k in
+    let r₁ = reaches-kept x job (a .stack .limit) (a .budget) y z (a .code .now) (a .size) m m₁ p (l .s) (c .before .before .before .before .before .before .before .before .before .before .before .keep .result) left (c .before .before .before .before .before .before .before .before .before .before .before .keep .kept .1 .1 .0) r k in
     let m′ = c .before .before .before .before .before .before .before .turn .last .1 .1 .0 in
     let here = turn inUse job x (machineAt m₁ (p .run)) (stateAt m₁ p) in
     let len = c .before .before .before .before .before .before .before .turn .kept .1 .1 .0 in
@@ -133,7 +133,7 @@ loop-less c =
     let q = c .before .before .before .o .given .0 .1 .0 in
     let g = turned-as here m′ p (c .before .before .before .before .before .before .before .turn .result) (Turned.On o q) (c .before .before .before .o .given .1) (c .before .before .before .before .before .before .before .turn .ensures .0) in
     let deep = r .stands .going .ready .deep in
-    let e : turns-left x (machineAt m₁ (p .run)) (stateAt m₁ p) ≡ turns-left x (machineAt m (p .run)) (stateAt m p) = ap₂ (turns-left x) (kept-machine (a .size) m m₁ p deep (l .s) (c .before .before .before .before .before .before .before .before .before .before .before .keep .result) k) (kept-state (a .size) m m₁ p deep (l .s) (c .before .before .before .before .before .before .before .before .before .before .before .keep .result) k) in
+    let e : turnsLeft x (machineAt m₁ (p .run)) (stateAt m₁ p) ≡ turnsLeft x (machineAt m (p .run)) (stateAt m p) = ap₂ (turnsLeft x) (kept-machine (a .code .now) (a .size) m m₁ p deep (l .s) (c .before .before .before .before .before .before .before .before .before .before .before .keep .result) k) (kept-state (a .code .now) (a .size) m m₁ p deep (l .s) (c .before .before .before .before .before .before .before .before .before .before .before .keep .result) k) in
     omega (arith, e, nearer x job (a .stack .limit) (a .budget) y z m₁ m′ p (c .before .before .before .before .before .before .before .before .before .before .before .keep .result) left r₁ q o (g .0), turns-nearer x (l .mem) (l .p) (l .inv .0 .stands .going) m p (c .before .before .before .before .before .before .before .before .before .before .before .before .before .before .before .before .pass .ensures .turns))
 
 -- src/lib.rt:143:5
@@ -151,7 +151,7 @@ loop-again c =
     let r = reaches-passed x job (a .stack .limit) (a .budget) y z (l .mem) m (l .p) p (l .s) (l .left) left (l .inv .0) (c .before .before .before .before .before .before .before .before .before .before .before .before .before .before .before .before .pass .ensures) in
     let m₁ = c .before .before .before .before .before .before .before .before .before .before .before .keep .last .1 .1 .0 in
     let k = c .before .before .before .before .before .before .before .before .before .before .before .keep .ensures in
-    let r₁ = reaches-kept x job (a .stack .limit) (a .budget) y z (a .size) m m₁ p (l .s) (c .before .before .before .before .before .before .before .before .before .before .before .keep .result) left (c .before .before .before .before .before .before .before .before .before .before .before .keep .kept .1 .1 .0) r k in
+    let r₁ = reaches-kept x job (a .stack .limit) (a .budget) y z (a .code .now) (a .size) m m₁ p (l .s) (c .before .before .before .before .before .before .before .before .before .before .before .keep .result) left (c .before .before .before .before .before .before .before .before .before .before .before .keep .kept .1 .1 .0) r k in
     let m′ = c .before .before .before .before .before .before .before .turn .last .1 .1 .0 in
     let here = turn inUse job x (machineAt m₁ (p .run)) (stateAt m₁ p) in
     let len = c .before .before .before .before .before .before .before .turn .kept .1 .1 .0 in
@@ -175,7 +175,7 @@ loop-less-2 c =
     let r = reaches-passed x job (a .stack .limit) (a .budget) y z (l .mem) m (l .p) p (l .s) (l .left) left (l .inv .0) (c .before .before .before .before .before .before .before .before .before .before .before .before .before .before .before .pass .ensures) in
     let m₁ = c .before .before .before .before .before .before .before .before .before .before .keep .last .1 .1 .0 in
     let k = c .before .before .before .before .before .before .before .before .before .before .keep .ensures in
-    let r₁ = reaches-kept x job (a .stack .limit) (a .budget) y z (a .size) m m₁ p (l .s) (c .before .before .before .before .before .before .before .before .before .before .keep .result) left (c .before .before .before .before .before .before .before .before .before .before .keep .kept .1 .1 .0) r k in
+    let r₁ = reaches-kept x job (a .stack .limit) (a .budget) y z (a .code .now) (a .size) m m₁ p (l .s) (c .before .before .before .before .before .before .before .before .before .before .keep .result) left (c .before .before .before .before .before .before .before .before .before .before .keep .kept .1 .1 .0) r k in
     let m′ = c .before .before .before .before .before .before .turn .last .1 .1 .0 in
     let here = turn inUse job x (machineAt m₁ (p .run)) (stateAt m₁ p) in
     let len = c .before .before .before .before .before .before .turn .kept .1 .1 .0 in
@@ -183,7 +183,7 @@ loop-less-2 c =
     let q = c .before .before .o .given .0 .1 .0 in
     let g = turned-as here m′ p (c .before .before .before .before .before .before .turn .result) (Turned.On o q) (c .before .before .o .given .1) (c .before .before .before .before .before .before .turn .ensures .0) in
     let deep = r .stands .going .ready .deep in
-    let e : turns-left x (machineAt m₁ (p .run)) (stateAt m₁ p) ≡ turns-left x (machineAt m (p .run)) (stateAt m p) = ap₂ (turns-left x) (kept-machine (a .size) m m₁ p deep (l .s) (c .before .before .before .before .before .before .before .before .before .before .keep .result) k) (kept-state (a .size) m m₁ p deep (l .s) (c .before .before .before .before .before .before .before .before .before .before .keep .result) k) in
+    let e : turnsLeft x (machineAt m₁ (p .run)) (stateAt m₁ p) ≡ turnsLeft x (machineAt m (p .run)) (stateAt m p) = ap₂ (turnsLeft x) (kept-machine (a .code .now) (a .size) m m₁ p deep (l .s) (c .before .before .before .before .before .before .before .before .before .before .keep .result) k) (kept-state (a .code .now) (a .size) m m₁ p deep (l .s) (c .before .before .before .before .before .before .before .before .before .before .keep .result) k) in
     omega (arith, e, nearer x job (a .stack .limit) (a .budget) y z m₁ m′ p (c .before .before .before .before .before .before .before .before .before .before .keep .result) left r₁ q o (g .0), turns-nearer x (l .mem) (l .p) (l .inv .0 .stands .going) m p (c .before .before .before .before .before .before .before .before .before .before .before .before .before .before .before .pass .ensures .turns))
 
 -- src/lib.rt:143:5
@@ -201,7 +201,7 @@ loop-again-2 c =
     let r = reaches-passed x job (a .stack .limit) (a .budget) y z (l .mem) m (l .p) p (l .s) (l .left) left (l .inv .0) (c .before .before .before .before .before .before .before .before .before .before .before .before .before .before .before .pass .ensures) in
     let m₁ = c .before .before .before .before .before .before .before .before .before .before .keep .last .1 .1 .0 in
     let k = c .before .before .before .before .before .before .before .before .before .before .keep .ensures in
-    let r₁ = reaches-kept x job (a .stack .limit) (a .budget) y z (a .size) m m₁ p (l .s) (c .before .before .before .before .before .before .before .before .before .before .keep .result) left (c .before .before .before .before .before .before .before .before .before .before .keep .kept .1 .1 .0) r k in
+    let r₁ = reaches-kept x job (a .stack .limit) (a .budget) y z (a .code .now) (a .size) m m₁ p (l .s) (c .before .before .before .before .before .before .before .before .before .before .keep .result) left (c .before .before .before .before .before .before .before .before .before .before .keep .kept .1 .1 .0) r k in
     let m′ = c .before .before .before .before .before .before .turn .last .1 .1 .0 in
     let here = turn inUse job x (machineAt m₁ (p .run)) (stateAt m₁ p) in
     let len = c .before .before .before .before .before .before .turn .kept .1 .1 .0 in
@@ -233,7 +233,7 @@ returns-2 c =
     let r = reaches-passed x job (a .stack .limit) (a .budget) y z (l .mem) m (l .p) p (l .s) (l .left) left (l .inv .0) (c .before .before .before .before .before .before .before .before .before .before .before .before .before .before .pass .ensures) in
     let m₁ = c .before .before .before .before .before .before .before .before .before .keep .last .1 .1 .0 in
     let k = c .before .before .before .before .before .before .before .before .before .keep .ensures in
-    let r₁ = reaches-kept x job (a .stack .limit) (a .budget) y z (a .size) m m₁ p (l .s) (c .before .before .before .before .before .before .before .before .before .keep .result) left (c .before .before .before .before .before .before .before .before .before .keep .kept .1 .1 .0) r k in
+    let r₁ = reaches-kept x job (a .stack .limit) (a .budget) y z (a .code .now) (a .size) m m₁ p (l .s) (c .before .before .before .before .before .before .before .before .before .keep .result) left (c .before .before .before .before .before .before .before .before .before .keep .kept .1 .1 .0) r k in
     let m′ = c .before .before .before .before .before .turn .last .1 .1 .0 in
     let here = turn inUse job x (machineAt m₁ (p .run)) (stateAt m₁ p) in
     let len = c .before .before .before .before .before .turn .kept .1 .1 .0 in
@@ -264,7 +264,7 @@ returns-3 c =
     let r = reaches-passed x job (a .stack .limit) (a .budget) y z (l .mem) m (l .p) p (l .s) (l .left) left (l .inv .0) (c .before .before .before .before .before .before .before .before .before .before .before .before .before .pass .ensures) in
     let m₁ = c .before .before .before .before .before .before .before .before .keep .last .1 .1 .0 in
     let k = c .before .before .before .before .before .before .before .before .keep .ensures in
-    let r₁ = reaches-kept x job (a .stack .limit) (a .budget) y z (a .size) m m₁ p (l .s) (c .before .before .before .before .before .before .before .before .keep .result) left (c .before .before .before .before .before .before .before .before .keep .kept .1 .1 .0) r k in
+    let r₁ = reaches-kept x job (a .stack .limit) (a .budget) y z (a .code .now) (a .size) m m₁ p (l .s) (c .before .before .before .before .before .before .before .before .keep .result) left (c .before .before .before .before .before .before .before .before .keep .kept .1 .1 .0) r k in
     let m′ = c .before .before .before .before .turn .last .1 .1 .0 in
     let here = turn inUse job x (machineAt m₁ (p .run)) (stateAt m₁ p) in
     let len = c .before .before .before .before .turn .kept .1 .1 .0 in
@@ -294,7 +294,7 @@ returns-4 c =
     let r = reaches-passed x job (a .stack .limit) (a .budget) y z (l .mem) m (l .p) p (l .s) (l .left) left (l .inv .0) (c .before .before .before .before .before .before .before .before .before .before .before .before .before .pass .ensures) in
     let m₁ = c .before .before .before .before .before .before .before .before .keep .last .1 .1 .0 in
     let k = c .before .before .before .before .before .before .before .before .keep .ensures in
-    let r₁ = reaches-kept x job (a .stack .limit) (a .budget) y z (a .size) m m₁ p (l .s) (c .before .before .before .before .before .before .before .before .keep .result) left (c .before .before .before .before .before .before .before .before .keep .kept .1 .1 .0) r k in
+    let r₁ = reaches-kept x job (a .stack .limit) (a .budget) y z (a .code .now) (a .size) m m₁ p (l .s) (c .before .before .before .before .before .before .before .before .keep .result) left (c .before .before .before .before .before .before .before .before .keep .kept .1 .1 .0) r k in
     let m′ = c .before .before .before .before .turn .last .1 .1 .0 in
     let here = turn inUse job x (machineAt m₁ (p .run)) (stateAt m₁ p) in
     let len = c .before .before .before .before .turn .kept .1 .1 .0 in
