@@ -52,7 +52,7 @@ alike-stays u w e h s = record { marks = λ i x l a b. s .marks x i a b; nodes =
 module _ (c : Code) (job : Window) (limit cells : ℕ) where
   pub checkpoints-fit : {m : List ℕ} {upto n t u w : ℕ} → Checkpoints c job limit cells m upto n t u w → w ≤ limit
   checkpoints-fit (none a) = omega arith
-  checkpoints-fit (more p v ms k a b g fit e) = fit
+  checkpoints-fit (more p v ms k a b g fit e) = omega (arith, fit)
 
   -- of the checkpoints with at most upto′ choices, what stood there stood still, and d tests and outcomes have stayed
   pub checkpoints-stay : (m m′ : List ℕ) (upto upto′ d : ℕ) {n t u w : ℕ} (n′ t′ u′ : ℕ) → ((x : ℕ) → x ≤ t → x ≤ upto′ → (x ≤ upto) × (x ≤ d)) → Alike m m′ n d u w → n ≤ n′ → t ≤ t′ → u ≤ u′
@@ -113,7 +113,7 @@ kept-stands c job words size m m′ p s r len h (kept due saved k f) = subst (St
             starts = starts-are (p .windows);
           };
         })
-        (omega arith) (omega arith) (omega arith) (omega (arith, due .fits)) refl;
+        (omega arith) (omega arith) (omega arith) (due .fits) refl;
     room = room-same len (h .stacked .room);
     uses = h .stacked .uses;
     cells = h .stacked .cells;

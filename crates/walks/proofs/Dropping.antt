@@ -22,7 +22,7 @@ module _ (c : Code) (job : Window) (limit cells : ℕ) (m : List ℕ) (upto : �
     pub nodes : point .run .nodes ≤ n
     pub choices : point .choices ≤ t
     pub windows : point .windows ≤ u
-    pub fits : w ≤ limit
+    pub fits : 3 * w + 2 * point .steps ≤ 3 * limit
     pub size : w ≡ start + sizeOf cells point
     pub reads : pointAt m (w - numberCount) ≡ point
 

@@ -5,3 +5,4 @@ pub mod InUse
 pub mod Walking
 pub mod Dropping
 pub mod Beginning
+pub mod Near

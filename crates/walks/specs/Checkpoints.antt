@@ -30,11 +30,16 @@ pub record Checkpoint (c : Code) (job : Window) (limit cells : ℕ) (m : List �
   pub few : p .choices + p .steps ≤ limit
   pub agrees : p .choices ≤ upto → Agrees m before p
 
--- The checkpoints up to mark w; they have no more marks than steps may be made. Each has at most n nodes, t choices and u windows, and no fewer than the one before it.
+-- The checkpoints up to mark w; beside their marks two are left for each three of the steps that may still be made at the newest. Each has at most n nodes, t choices and u windows, and no fewer than the one before it.
 pub data Checkpoints (c : Code) (job : Window) (limit cells : ℕ) (m : List ℕ) (upto : ℕ) : (n t u w : ℕ) → Type 0 where
   none : {n t u w : ℕ} → w ≡ 0 → Checkpoints c job limit cells m upto n t u w
   more : {n t u w : ℕ} (p : Point) (v : ℕ) → Checkpoints c job limit cells m upto (p .run .nodes) (p .choices) (p .windows) v → Checkpoint c job limit cells m upto p v → p .run .nodes ≤ n → p .choices ≤ t → p .windows ≤ u
-      → w ≤ limit → w ≡ v + sizeOf cells p → Checkpoints c job limit cells m upto n t u w
+      → 3 * w + 2 * p .steps ≤ 3 * limit → w ≡ v + sizeOf cells p → Checkpoints c job limit cells m upto n t u w
+
+-- the steps that may still be made at the newest checkpoint; at the start of main, where there is none
+abbrev pub stepsThere : {c : Code} {job : Window} {limit cells : ℕ} {m : List ℕ} {upto n t u w : ℕ} → Checkpoints c job limit cells m upto n t u w → ℕ
+stepsThere {limit = limit} (none e) = limit
+stepsThere (more p v ms k a b g fit e) = p .steps
 
 -- those of a stack, a memory that has room for them and for the tables of a path, and cells that are all that the code uses
 pub record StackHolds (c : Code) (job : Window) (m : List ℕ) (upto n t u : ℕ) (s : Stack) : Type 0 where
