@@ -209,12 +209,7 @@ impl Path {
         Ok(())
     }
 
-    fn declare(
-        &mut self,
-        point: &mut Point,
-        to: Register,
-        own: Option<Window>,
-    ) -> Result<(), End> {
+    fn declare(&mut self, point: &mut Point, to: Register, own: Option<Window>) -> Result<(), End> {
         Path::step(point, self.terms.free < MOST_FREE)?;
         let value = self.terms.declare(own.unwrap_or(self.window));
         self.set(*point, to, value);
