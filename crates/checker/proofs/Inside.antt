@@ -21,7 +21,9 @@ use Rattle.events.proofs.Tokens as W
 use Rattle.semantics.specs.Demand.{_∈_}
 use Rattle.text_rules.specs.Scan.{scan, on, when}
 use Rattle.text_rules.specs.Rules.{Head, heads, deep, wrong, arityOf, miscounted, mains, withParameters, badMain, unended, Tally, tally, counted, over, functionOf}
-use Rattle.text_rules.specs.Names.{Scope, nowhere as outside, entered, sought, misnamed, unlessFound, ifFound, uncalled, repeated, badNames}
+use Rattle.text_rules.specs.Names.{sought, unlessFound, ifFound, uncalled, repeated, badNames}
+use Rattle.text_rules.specs.Scopes.{Scope, nowhere as outside, entered, misnamedAt, badNamesIn}
+use Rattle.text_rules.proofs.Seen.{bad-names}
 use Rattle.text_rules.specs.Assigned.{unset}
 use Rattle.text_rules.specs.Own.{Own, own, owns, pairAt, breaching, isReversed, isWide}
 use Rattle.semantics.specs.Program.{Window}
@@ -106,17 +108,17 @@ module _ (m : ℕ) where
     low-unless none h = more h nil
     low-unless (some n) h = nil
 
-    low-misnamed : (s : Scope) (e : Event) → Within m e → Low m (misnamed same s e)
-    unfolding misnamed Within
-    low-misnamed s (function i) h = nil
-    low-misnamed s (parameter i) h = low-found (sought same (s .blocks) i) h
-    low-misnamed s (thing d i) h = nil
-    low-misnamed s opens h = nil
-    low-misnamed s closes h = nil
-    low-misnamed s (declares i) h = low-found (sought same (s .blocks) i) h
-    low-misnamed s (uses i) h = low-unless (sought same (s .blocks) i) h
-    low-misnamed s (calls i n) h = nil
-    low-misnamed s (ends i b) h = nil
+    low-misnamedAt : (s : Scope) (e : Event) → Within m e → Low m (misnamedAt same s e)
+    unfolding misnamedAt Within
+    low-misnamedAt s (function i) h = nil
+    low-misnamedAt s (parameter i) h = low-found (sought same (s .blocks) i) h
+    low-misnamedAt s (thing d i) h = nil
+    low-misnamedAt s opens h = nil
+    low-misnamedAt s closes h = nil
+    low-misnamedAt s (declares i) h = low-found (sought same (s .blocks) i) h
+    low-misnamedAt s (uses i) h = low-unless (sought same (s .blocks) i) h
+    low-misnamedAt s (calls i n) h = nil
+    low-misnamedAt s (ends i b) h = nil
 
     low-uncalled : (hs : List Head) (e : Event) → Within m e → Low m (uncalled same hs e)
     unfolding uncalled Within
@@ -152,9 +154,9 @@ module _ (m : ℕ) where
     low-miscounted hs (calls i n) h = low-wrong (arityOf same hs i) n h
     low-miscounted hs (ends i b) h = nil
 
-    low-names : {es : List Event} → Each m es → Low m (badNames same es)
+    low-names : {es : List Event} → Each m es → Low m (badNamesIn same es)
     low-names {es} l =
-        low-append (low-scan entered (misnamed same) low-misnamed outside l)
+        low-append (low-scan entered (misnamedAt same) low-misnamedAt outside l)
         (low-append (low-on (uncalled same (heads es)) (low-uncalled (heads es)) l) (low-repeated [] (low-heads l)))
 
   -- ---- rule 8
@@ -313,7 +315,7 @@ rules-low : (m : ℕ) (s : Source) (p : Ast A.prog) → endOf s < m → Below m 
 unfolding rulesOf
 rules-low m s p e b l =
     also (low-on m deep (low-deep m) l)
-    (also (low-names m (sameIn s) l)
+    (also (subst (λ (is : List ℕ). Low m is) (bad-names (sameIn s) p) (low-names m (sameIn s) l))
     (also (low-on m (miscounted (sameIn s) (heads (events p))) (low-miscounted m (sameIn s) (heads (events p))) l)
     (also (low-main m (mainIn s) e (low-mains m (mainIn s) (low-heads m l)))
     (also (low-on m unended (low-unended m) l)

@@ -11,5 +11,6 @@ pub mod Exactly
 pub mod Inside
 pub mod Refusals
 pub mod Texts
+pub mod Lookups
 pub mod Resolving
 pub mod Sure

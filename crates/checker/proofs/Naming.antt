@@ -1,7 +1,7 @@
--- What names mean, written where nothing was written before.
+-- Rule 6 by the events of a text, and what names mean, written where nothing was written before.
 use Prim.Native.Nat.{ℕ, _<_}
 use native.Mathlib.Omega.{arith}
-use mathlib.Core.Path.{_≡_, ap, _∙_}
+use mathlib.Core.Path.{_≡_, sym, ap, _∙_}
 use mathlib.Core.List.{List}
 use mathlib.Core.Option.{Option}
 use lib.ListN.{length, getD, replicate, getD-replicate, length-replicate, List·getD-eq-default}
@@ -9,7 +9,10 @@ use native.Mathlib.Decide.{decLt}
 use Rattle.syntax.specs.Ast as A
 use Rattle.syntax.specs.Ast.{Ast}
 use Rattle.events.specs.Event.{Event, events}
-use Rattle.text_rules.specs.Names.{meanings, meant}
+use Rattle.text_rules.specs.Scan.{least}
+use Rattle.text_rules.specs.Names.{Meaning, meant, badNames}
+use Rattle.text_rules.specs.Scopes.{badNamesIn, meaningsIn}
+use Rattle.text_rules.proofs.Seen.{bad-names, meanings-are}
 use Rattle.names.specs.Steps.{Named}
 use Rattle.names.proofs.Meanings.{meant-at}
 use Rattle.checker.specs.Check.{Source, sameIn}
@@ -27,5 +30,9 @@ pub meant-so : (s : Source) (p : Ast A.prog) {es : List Event} {slots slots′ :
     → Meant s p slots′
 meant-so s p {es} {slots} k l e i h =
     k .means i (omega (arith, h, ap length e, length-replicate {A = ℕ} TOKENS 0))
-    ∙ meant-at (λ j. getD slots j 0) (λ j. 0) (meanings (sameIn s) es) i (ap (λ (z : List ℕ). getD z i 0) e ∙ no-meaning i)
-    ∙ ap (λ (z : List Event). meant (λ j. 0) (meanings (sameIn s) z) i) l
+    ∙ meant-at (λ j. getD slots j 0) (λ j. 0) (meaningsIn (sameIn s) es) i (ap (λ (z : List ℕ). getD z i 0) e ∙ no-meaning i)
+    ∙ ap (λ (ms : List Meaning). meant (λ j. 0) ms i) (ap (meaningsIn (sameIn s)) l ∙ meanings-are (sameIn s) p)
+
+-- rule 6 over the events of a tree is rule 6 of the tree
+pub bad-so : (s : Source) (p : Ast A.prog) {es : List Event} {o : Option ℕ} → es ≡ events p → least (badNamesIn (sameIn s) es) ≡ o → least (badNames (sameIn s) p) ≡ o
+bad-so s p e h = ap least (sym (ap (badNamesIn (sameIn s)) e ∙ bad-names (sameIn s) p)) ∙ h

@@ -9,7 +9,7 @@ use Rattle.events.specs.Event.{events, eventsAt, stops, count, first}
 use Rattle.text_rules.specs.Scan as R
 use Rattle.text_rules.specs.Scan.{on, least, lesser}
 use Rattle.text_rules.specs.Rules.{deep, parameters, heads, functionOf, arityOf, wrong, miscounted, mains, withParameters, badMain, unended, counted, over}
-use Rattle.text_rules.specs.Names.{declared, outer, entered, inBlock, sought, misnamed, uncalled, repeated, named, meant}
+use Rattle.text_rules.specs.Names.{tallied, many, declaredBy, earlier, parametersOf, names, forNames, inBlock, sought, misnamed, uncalled, repeated, named, meant}
 use Rattle.text_rules.specs.Assigned.{parameterCount, atEnd, after, unset}
 use Rattle.text_rules.specs.Own.{owns, breaching}
 use Rattle.semantics.specs.Run.{numbers, counting, clamp}
@@ -44,5 +44,5 @@ unfoldable pub given : Case → Verdict
 given c = checked (bytes (c .text))
 
 pub right : map given table ≡ map (λ c. c .answer) table
-unfolding given checked lexed noneLarge scan front valueOf decimal digitsOf longestWithin kindOf grouped kindIn same all ast readText moreProg readFun readParams moreParams readStmt readOwn readDecl readBlock readEnded readFail readGuard readNamed readIf readWhile moreBody readCond moreCond readConj moreConj readAtom readCmp readSum moreSum readTerm moreTerm readOperand readBracket readCall readArgs moreArgs events eventsAt stops count first on R.scan least lesser deep parameters heads functionOf arityOf wrong miscounted mains withParameters badMain unended counted over declared outer entered inBlock sought misnamed uncalled repeated named meant parameterCount atEnd after unset owns breaching numbers counting clamp rulesOf firstBroken checkedTokens
+unfolding given checked lexed noneLarge scan front valueOf decimal digitsOf longestWithin kindOf grouped kindIn same all ast readText moreProg readFun readParams moreParams readStmt readOwn readDecl readBlock readEnded readFail readGuard readNamed readIf readWhile moreBody readCond moreCond readConj moreConj readAtom readCmp readSum moreSum readTerm moreTerm readOperand readBracket readCall readArgs moreArgs events eventsAt stops count first on R.scan least lesser deep parameters heads functionOf arityOf wrong miscounted mains withParameters badMain unended counted over tallied many declaredBy earlier parametersOf names forNames inBlock sought misnamed uncalled repeated named meant parameterCount atEnd after unset owns breaching numbers counting clamp rulesOf firstBroken checkedTokens
 right = refl

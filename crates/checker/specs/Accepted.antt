@@ -25,7 +25,7 @@ pub record KeepsRules (text : List ℕ) : Type 0 where
   -- it keeps the grammar: its tokens are those of the tree, and then the end
   pub grammar : G.KeepsGrammar (kinds tokens) tree
   pub depth : tooDeep (events (ast tree)) ≡ []
-  pub names : badNames (sameName text (places tokens) (values tokens)) (events (ast tree)) ≡ []
+  pub names : badNames (sameName text (places tokens) (values tokens)) (ast tree) ≡ []
   pub calls : miscalls (sameName text (places tokens) (values tokens)) (events (ast tree)) ≡ []
   pub main : mainless (isMain text (places tokens) (values tokens)) (length (kinds tokens) - 1) (events (ast tree)) ≡ []
   pub ends : openEnds (events (ast tree)) ≡ []

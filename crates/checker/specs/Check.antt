@@ -65,7 +65,7 @@ valueIn s i = getD (s .values) i 0
 
 -- what the name at a token means, in a text with the tree p: the slot of a variable, or the number of a function
 abbrev pub meansIn : Source → Ast A.prog → ℕ → ℕ
-meansIn s p = meant (λ i. 0) (meanings (sameIn s) (events p))
+meansIn s p = meant (λ i. 0) (meanings (sameIn s) p)
 
 -- a rule's number, and the tokens that break it
 pub record Rule : Type 0 where
@@ -80,7 +80,7 @@ unfoldable pub rulesOf : Source → Ast A.prog → List Rule
 rulesOf s p =
     let es = events p in
     rule 5 (tooDeep es)
-    ∷ rule 6 (badNames (sameIn s) es)
+    ∷ rule 6 (badNames (sameIn s) p)
     ∷ rule 7 (miscalls (sameIn s) es)
     ∷ rule 8 (mainless (mainIn s) (endOf s) es)
     ∷ rule 9 (openEnds es)

@@ -132,11 +132,11 @@ module _ (same : ℕ → ℕ → Bool) (t : Tree T.prog) (f : ℕ → ℕ) where
   tree = ast t
 
   abbrev pub meaningOf : ℕ → ℕ
-  meaningOf i = meant f (meanings same (events tree)) i
+  meaningOf i = meant f (meanings same tree) i
 
   -- it keeps the rules 6, 7, 10 and 18
   pub record Keeps (value : ℕ → ℕ) : Type 0 where
-    pub six : badNames same (events tree) ≡ []
+    pub six : badNames same tree ≡ []
     pub seven : miscalls same (events tree) ≡ []
     pub ten : tooMany (events tree) ≡ []
     pub eighteen : Each Upward value (owns tree)
@@ -146,7 +146,7 @@ module _ (same : ℕ → ℕ → Bool) (t : Tree T.prog) (f : ℕ → ℕ) where
 
   accepted-sound : (m : ℕ) → t ≡ numbered 0 t → Below m tree → (value : ℕ → ℕ) → ((i : ℕ) → i < m → value i < 2147483648) → Keeps value → Sound m value meaningOf tree
   unfolding events
-  accepted-sound m e h value small k = sound meaningOf m value small 1 tree h (good same f (text-rises t e) (k .six) (k .seven) (k .ten)) (k .eighteen)
+  accepted-sound m e h value small k = sound meaningOf m value small 1 tree h (good same f tree (text-rises t e) (k .six) (k .seven) (k .ten)) (k .eighteen)
 
   -- the tree stands at node i, the slices hold the values and the meanings of the text's m tokens, and there is room for two words a token
   pub record Given (l : List ℕ) (i : ℕ) (values slots : List ℕ) (g : ℕ) (code : List ℕ) (m : ℕ) : Type 0 where

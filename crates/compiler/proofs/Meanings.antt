@@ -5,13 +5,16 @@ use mathlib.Core.Bool.{Bool}
 use mathlib.Core.List.{List, [], _∷_}
 use native.Mathlib.Omega.{arith}
 use lib.ListN.{length, length-map, getD}
-use Rattle.events.specs.Event.{Event, function, parameter, thing, opens, closes, declares, uses, calls, ends}
+use Rattle.syntax.specs.Ast.{Ast, prog}
+use Rattle.events.specs.Event.{Event, function, parameter, thing, opens, closes, declares, uses, calls, ends, events}
 use Rattle.events.proofs.Rising.{Rising}
 use Rattle.text_rules.specs.Rules.{Head, heads, miscalls, tally, tooMany}
-use Rattle.text_rules.specs.Names.{Scope, entered, nowhere, meant, badNames, meanings}
+use Rattle.text_rules.specs.Names.{meant, badNames, meanings}
+use Rattle.text_rules.specs.Scopes.{Scope, entered, nowhere}
 use Rattle.text_rules.proofs.Counts.{arities, few-functions, Modest, heads-modest}
 use Rattle.text_rules.proofs.OneMeaning.{Each, done, also}
-use Rattle.text_rules.proofs.Resolving.{Fits, next-few, names-fit}
+use Rattle.text_rules.proofs.Resolving.{Fits, next-few}
+use Rattle.text_rules.proofs.Programs.{text-fits}
 
 module _ (means : ℕ → ℕ) where
   -- a variable's slot and a function's number are below 16, and a call has at most 4 arguments
@@ -53,6 +56,9 @@ module _ (means : ℕ → ℕ) (hs : List Head) (few : length hs ≤ 16) (modest
   good-events s h (also {e = e} f w) = (good-event s e h f, good-events (entered s e) (next-few (arities hs) means s e h f) w)
 
 -- of a text that keeps the rules 6, 7 and 10, whatever its tokens meant before
-pub good : (same : ℕ → ℕ → Bool) (f : ℕ → ℕ) {lo hi : ℕ} {es : List Event} → Rising lo es hi → badNames same es ≡ [] → miscalls same es ≡ [] → tooMany es ≡ [] → AllGood (meant f (meanings same es)) es
-good same f {es = es} r six seven ten =
-    good-events (meant f (meanings same es)) (heads es) (few-functions es ten) (heads-modest (tally 0 0 0) es ten) nowhere (omega arith) (names-fit same f r six seven ten)
+pub good : (same : ℕ → ℕ → Bool) (f : ℕ → ℕ) (p : Ast prog) {lo hi : ℕ} → Rising lo (events p) hi
+    → badNames same p ≡ [] → miscalls same (events p) ≡ [] → tooMany (events p) ≡ []
+    → AllGood (meant f (meanings same p)) (events p)
+good same f p r six seven ten =
+    let es = events p in
+    good-events (meant f (meanings same p)) (heads es) (few-functions es ten) (heads-modest (tally 0 0 0) es ten) nowhere (omega arith) (text-fits same f p r six seven ten)

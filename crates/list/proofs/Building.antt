@@ -76,7 +76,7 @@ module _ {text ps vs nodes : List ℕ} {root : ℕ} {heads : List ℕ} {h : ℕ}
   unfolding rulesOf
   main-kept = rules 8
 
-  means-so : (j : ℕ) → j < length vs → getD slots j 0 ≡ meant (λ i. 0) (meanings same (E.events (ast tree))) j
+  means-so : (j : ℕ) → j < length vs → getD slots j 0 ≡ meant (λ i. 0) (meanings same (ast tree)) j
   means-so j l = u .known .kept .means j (omega (arith, l, most))
 
   small-so : (j : ℕ) → getD vs j 0 < 2147483648
@@ -107,7 +107,7 @@ module _ {text ps vs nodes : List ℕ} {root : ℕ} {heads : List ℕ} {h : ℕ}
     pub ready-so : Ready nodes root vs slots g code
     ready-so = accepted-ready same tree (λ i. 0) given-so keeps-so
 
-    program-is : program text ≡ resolved (λ i. getD vs i 0) (λ i. meant (λ j. 0) (meanings same (E.events (ast tree))) i) (isMain text ps vs) (R.heads (E.events (ast tree))) (ast tree)
+    program-is : program text ≡ resolved (λ i. getD vs i 0) (λ i. meant (λ j. 0) (meanings same (ast tree)) i) (isMain text ps vs) (R.heads (E.events (ast tree))) (ast tree)
     unfolding program programOf
     program-is = rw (u .lexes, program) (rw (u .known .parses, program) (rw (u .placed, u .valued)))
 

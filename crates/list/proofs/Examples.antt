@@ -12,7 +12,7 @@ use Rattle.events.specs.Event.{events, eventsAt, stops, count, first}
 use Rattle.text_rules.specs.Scan as R
 use Rattle.text_rules.specs.Scan.{on, least, lesser}
 use Rattle.text_rules.specs.Rules.{deep, parameters, heads, functionOf, arityOf, wrong, miscounted, mains, withParameters, badMain, unended, counted, over}
-use Rattle.text_rules.specs.Names.{declared, outer, entered, inBlock, sought, misnamed, uncalled, repeated, named, meant}
+use Rattle.text_rules.specs.Names.{tallied, many, declaredBy, earlier, parametersOf, names, forNames, inBlock, sought, misnamed, uncalled, repeated, named, meant}
 use Rattle.text_rules.specs.Assigned.{parameterCount, atEnd, after, unset}
 use Rattle.text_rules.specs.Own.{owns, breaching}
 use Rattle.text_rules.specs.Resolve.{part, mainOf}
@@ -111,5 +111,5 @@ unfoldable pub expected : Case → Exit
 expected c = (c .answer, sheet (held (c .words)) (c .rows))
 
 pub examples-hold : (map given starred ≡ map expected starred) × (map given added ≡ map expected added)
-unfolding given expected list ground program checked lexed noneLarge scan front valueOf decimal digitsOf longestWithin kindOf grouped kindIn same all ast readText moreProg readFun readParams moreParams readStmt readOwn readDecl readBlock readEnded readFail readGuard readNamed readIf readWhile moreBody readCond moreCond readConj moreConj readAtom readCmp readSum moreSum readTerm moreTerm readOperand readBracket readCall readArgs moreArgs events eventsAt stops count first on R.scan least lesser deep parameters heads functionOf arityOf wrong miscounted mains withParameters badMain unended counted over declared outer entered inBlock sought misnamed uncalled repeated named meant parameterCount atEnd after unset owns breaching part mainOf rulesOf firstBroken checkedTokens programOf S.listed answer search openly probedOnce moves paths probed tried settings meets narrowed clipped clip decided always range fitted span maxZ minZ all32 under work each numbers clamp counting within does enter stmt loop cond expr frame holds eqZ arith exact wrap low32
+unfolding given expected list ground program checked lexed noneLarge scan front valueOf decimal digitsOf longestWithin kindOf grouped kindIn same all ast readText moreProg readFun readParams moreParams readStmt readOwn readDecl readBlock readEnded readFail readGuard readNamed readIf readWhile moreBody readCond moreCond readConj moreConj readAtom readCmp readSum moreSum readTerm moreTerm readOperand readBracket readCall readArgs moreArgs events eventsAt stops count first on R.scan least lesser deep parameters heads functionOf arityOf wrong miscounted mains withParameters badMain unended counted over tallied many declaredBy earlier parametersOf names forNames inBlock sought misnamed uncalled repeated named meant parameterCount atEnd after unset owns breaching part mainOf rulesOf firstBroken checkedTokens programOf S.listed answer search openly probedOnce moves paths probed tried settings meets narrowed clipped clip decided always range fitted span maxZ minZ all32 under work each numbers clamp counting within does enter stmt loop cond expr frame holds eqZ arith exact wrap low32
 examples-hold = (refl, refl)

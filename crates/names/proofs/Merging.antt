@@ -8,7 +8,8 @@ use lib.ListN.{length, getD}
 use Rattle.events.specs.Event.{Event}
 use Rattle.text_rules.specs.Scan.{scan, on, lesser, least}
 use Rattle.text_rules.specs.Rules.{Head, heads}
-use Rattle.text_rules.specs.Names.{entered, nowhere, misnamed, uncalled, repeated, named, meanings}
+use Rattle.text_rules.specs.Names.{uncalled, repeated}
+use Rattle.text_rules.specs.Scopes.{entered, nowhere, misnamedAt, namedAt, meaningsIn}
 use Rattle.text_rules.specs.Answers.{leastWith}
 use Rattle.text_rules.proofs.Scans.{lesser-with, with-append, with-none}
 use Rattle.names.specs.Steps.{wrong, Seen, Named}
@@ -50,20 +51,20 @@ module _ {S : Type 0} (step : S → Event → S) (f : S → Event → List ℕ) 
 pub judged :
     (same : ℕ → ℕ → Bool) (hs : List Head) (es : List Event) (slots : List ℕ) {best best′ : Option ℕ} {slots′ : List ℕ}
     → hs ≡ heads es
-    → Seen (scan entered (wrong same hs) nowhere es) (scan entered (named same hs) nowhere es) none slots best slots′
+    → Seen (scan entered (wrong same hs) nowhere es) (scan entered (namedAt same hs) nowhere es) none slots best slots′
     → best′ ≡ leastWith (repeated same [] hs) best
     → Named same es slots best′ slots′
-judged same hs es slots {best} {best′} {slots′} e s r = subst (λ (fs : List Head). Seen (scan entered (wrong same fs) nowhere es) (scan entered (named same fs) nowhere es) none slots best slots′ → best′ ≡ leastWith (repeated same [] fs) best → Named same es slots best′ slots′) (sym e) whole s r
+judged same hs es slots {best} {best′} {slots′} e s r = subst (λ (fs : List Head). Seen (scan entered (wrong same fs) nowhere es) (scan entered (namedAt same fs) nowhere es) none slots best slots′ → best′ ≡ leastWith (repeated same [] fs) best → Named same es slots best′ slots′) (sym e) whole s r
   where
     whole :
-        Seen (scan entered (wrong same (heads es)) nowhere es) (scan entered (named same (heads es)) nowhere es) none slots best slots′
+        Seen (scan entered (wrong same (heads es)) nowhere es) (scan entered (namedAt same (heads es)) nowhere es) none slots best slots′
         → best′ ≡ leastWith (repeated same [] (heads es)) best
         → Named same es slots best′ slots′
     whole s r = record {
       least =
           r
           ∙ ap (leastWith (repeated same [] (heads es))) (s .least)
-          ∙ least-of-three entered (misnamed same) (uncalled same (heads es)) nowhere es (repeated same [] (heads es));
-      means = λ i h. ap (λ (l : List ℕ). getD l i 0) (s .written) ∙ noted-meant slots (meanings same es) i h;
-      kept = ap length (s .written) ∙ length-noted slots (meanings same es);
+          ∙ least-of-three entered (misnamedAt same) (uncalled same (heads es)) nowhere es (repeated same [] (heads es));
+      means = λ i h. ap (λ (l : List ℕ). getD l i 0) (s .written) ∙ noted-meant slots (meaningsIn same es) i h;
+      kept = ap length (s .written) ∙ length-noted slots (meaningsIn same es);
     }

@@ -13,8 +13,9 @@ use Rattle.events.specs.Stored.{eventMore, eventToken, eventWords, eventAt, sto
 use Rattle.text_rules.specs.Scan as C
 use Rattle.text_rules.specs.Scan.{scan}
 use Rattle.text_rules.specs.Rules.{Head, functionOf, heads}
-use Rattle.text_rules.specs.Names as N
-use Rattle.text_rules.specs.Names.{entered, nowhere, named, ifFound, repeated}
+use Rattle.text_rules.specs.Scopes as N
+use Rattle.text_rules.specs.Names.{ifFound, repeated}
+use Rattle.text_rules.specs.Scopes.{entered, nowhere, namedAt}
 use Rattle.text_rules.specs.Answers.{headWords, headAt, leastWith, headsFrom, storedHeads}
 use Rattle.text_rules.proofs.Scans.{ahead, ahead-start, ahead-turn, ahead-end, rest, rest-more, rest-none, rest-all, with-append, with-none}
 use Rattle.text_rules.proofs.Functions.{left, left-more, left-none, left-all, length-heads}
@@ -29,7 +30,7 @@ use Rattle.names.proofs.Meanings.{noted-append, length-noted, token-sto
 module _ (same : ℕ → ℕ → Bool) (hs : List Head) (events : List ℕ) (n : ℕ) where
   -- all that the walk will write
   abbrev all : List ℕ → List ℕ
-  all slots = noted slots (scan entered (named same hs) nowhere (stored events n))
+  all slots = noted slots (scan entered (namedAt same hs) nowhere (stored events n))
 
   -- the walk stands before event k
   pub record Walk (words : ℕ) (slots₀ scope slots : List ℕ) (best : Option ℕ) (s : Scope) (k : ℕ) : Type 0 where
@@ -40,7 +41,7 @@ module _ (same : ℕ → ℕ → Bool) (hs : List Head) (events : List ℕ) (n :
     pub next : s .next ≤ k
     pub room : length scope ≡ words
     pub least : ahead entered (wrong same hs) events n k (scopeOf scope s) best ≡ C.least (scan entered (wrong same hs) nowhere (stored events n))
-    pub written : noted slots (scan entered (named same hs) (scopeOf scope s) (rest events n k)) ≡ all slots₀
+    pub written : noted slots (scan entered (namedAt same hs) (scopeOf scope s) (rest events n k)) ≡ all slots₀
     pub kept : length slots ≡ length slots₀
 
   pub walk-starts : (scope slots : List ℕ) → Walk (length scope) slots scope slots none (record { blocks = 0; seen = 0; next = 0 }) 0
@@ -53,26 +54,26 @@ module _ (same : ℕ → ℕ → Bool) (hs : List Head) (events : List ℕ) (n :
     next = omega arith;
     room = refl;
     least = ahead-start entered (wrong same hs) events n nowhere;
-    written = ap (λ es. noted slots (scan entered (named same hs) nowhere es)) (rest-all events n);
+    written = ap (λ es. noted slots (scan entered (namedAt same hs) nowhere es)) (rest-all events n);
     kept = refl;
   }
 
   written-turn :
-      (k : ℕ) (slots : List ℕ) (t : N.Scope) {slots′ : List ℕ} {e : Event} {t′ : N.Scope} → k < n → e ≡ eventAt events k → t′ ≡ entered t e → slots′ ≡ noted slots (named same hs t e)
-      → noted slots′ (scan entered (named same hs) t′ (rest events n (k + 1))) ≡ noted slots (scan entered (named same hs) t (rest events n k))
+      (k : ℕ) (slots : List ℕ) (t : N.Scope) {slots′ : List ℕ} {e : Event} {t′ : N.Scope} → k < n → e ≡ eventAt events k → t′ ≡ entered t e → slots′ ≡ noted slots (namedAt same hs t e)
+      → noted slots′ (scan entered (namedAt same hs) t′ (rest events n (k + 1))) ≡ noted slots (scan entered (namedAt same hs) t (rest events n k))
   unfolding scan
   written-turn k slots t h x y z =
       rw (z, y, x)
       (sym
-      (ap (λ (es : List Event). noted slots (scan entered (named same hs) t es)) (rest-more events n k h)
-      ∙ noted-append slots (named same hs t (eventAt events k)) (scan entered (named same hs) (entered t (eventAt events k)) (rest events n (k + 1)))))
+      (ap (λ (es : List Event). noted slots (scan entered (namedAt same hs) t es)) (rest-more events n k h)
+      ∙ noted-append slots (namedAt same hs t (eventAt events k)) (scan entered (namedAt same hs) (entered t (eventAt events k)) (rest events n (k + 1)))))
 
   pub walk-turn :
       {words : ℕ} {slots₀ scope slots : List ℕ} {best : Option ℕ} {s : Scope} {k : ℕ} {e : Event} {scope′ slots′ : List ℕ} {best′ : Option ℕ} {s′ : Scope}
       → Walk words slots₀ scope slots best s k
       → k < n
       → e ≡ eventAt events k
-      → Seen (wrong same hs (scopeOf scope s) e) (named same hs (scopeOf scope s) e) best slots best′ slots′
+      → Seen (wrong same hs (scopeOf scope s) e) (namedAt same hs (scopeOf scope s) e) best slots best′ slots′
       → Moved scope s e scope′ s′
       → length scope′ ≡ length scope
       → Walk words slots₀ scope′ slots′ best′ s′ (k + 1)
@@ -85,19 +86,19 @@ module _ (same : ℕ → ℕ → Bool) (hs : List Head) (events : List ℕ) (n :
     room = l ∙ w .room;
     least = ahead-turn entered (wrong same hs) events n k (scopeOf scope s) best h x (moved .means) (seen .least) ∙ w .least;
     written = written-turn k slots (scopeOf scope s) h x (moved .means) (seen .written) ∙ w .written;
-    kept = ap length (seen .written) ∙ length-noted slots (named same hs (scopeOf scope s) e) ∙ w .kept;
+    kept = ap length (seen .written) ∙ length-noted slots (namedAt same hs (scopeOf scope s) e) ∙ w .kept;
   }
 
   pub walk-ends :
       {words : ℕ} {slots₀ scope slots : List ℕ} {best : Option ℕ} {s : Scope} {k : ℕ} → Walk words slots₀ scope slots best s k → n ≤ k
-      → Seen (scan entered (wrong same hs) nowhere (stored events n)) (scan entered (named same hs) nowhere (stored events n)) none slots₀ best slots
+      → Seen (scan entered (wrong same hs) nowhere (stored events n)) (scan entered (namedAt same hs) nowhere (stored events n)) none slots₀ best slots
   unfolding scan noted
   walk-ends {slots₀ = slots₀} {scope = scope} {slots = slots} {best = best} {s = s} {k = k} w h = record {
     least =
         sym (ahead-end entered (wrong same hs) events n k (scopeOf scope s) best h)
         ∙ w .least
         ∙ sym (with-none (scan entered (wrong same hs) nowhere (stored events n)));
-    written = sym (ap (λ (es : List Event). noted slots (scan entered (named same hs) (scopeOf scope s) es)) (rest-none events n k h)) ∙ w .written;
+    written = sym (ap (λ (es : List Event). noted slots (scan entered (namedAt same hs) (scopeOf scope s) es)) (rest-none events n k h)) ∙ w .written;
   }
 
   -- there is room for the next event

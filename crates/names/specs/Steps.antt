@@ -9,28 +9,12 @@ use Rattle.events.specs.Event.{Event}
 use Rattle.text_rules.specs.Scan as S
 use Rattle.text_rules.specs.Answers.{leastWith}
 use Rattle.text_rules.specs.Rules.{Head, functionOf}
-use Rattle.text_rules.specs.Names.{
-  Declared,
-  Scope,
-  entered,
-  nowhere,
-  sought,
-  ifFound,
-  unlessFound,
-  misnamed,
-  uncalled,
-  badNames,
-  Meaning,
-  meaning,
-  asFound,
-  named,
-  meanings,
-  meant,
-}
+use Rattle.text_rules.specs.Names.{Declared, sought, ifFound, unlessFound, uncalled, Meaning, meaning, asFound, meant}
+use Rattle.text_rules.specs.Scopes.{Scope, entered, nowhere, misnamedAt, badNamesIn, namedAt, meaningsIn}
 
 -- the tokens at which an event breaks rule 6, but for the repeated names of functions
 abbrev pub wrong : (ℕ → ℕ → Bool) → List Head → Scope → Event → List ℕ
-wrong same hs s e = misnamed same s e ++ uncalled same hs e
+wrong same hs s e = misnamedAt same s e ++ uncalled same hs e
 
 -- meanings, written at their tokens; a token past the end is passed over
 unfoldable pub noted : List ℕ → List Meaning → List ℕ
@@ -54,13 +38,13 @@ SeenCall same hs i p l p′ l′ = Seen (unlessFound (functionOf same hs i) i) (
 
 -- an event in a scope; all events
 abbrev pub SeenEvent : (ℕ → ℕ → Bool) → List Head → Scope → Event → Option ℕ → List ℕ → Option ℕ → List ℕ → Type 0
-SeenEvent same hs s e p l p′ l′ = Seen (wrong same hs s e) (named same hs s e) p l p′ l′
+SeenEvent same hs s e p l p′ l′ = Seen (wrong same hs s e) (namedAt same hs s e) p l p′ l′
 
 abbrev pub SeenEvents : (ℕ → ℕ → Bool) → List Head → List Event → List ℕ → Option ℕ → List ℕ → Type 0
-SeenEvents same hs es l p′ l′ = Seen (S.scan entered (wrong same hs) nowhere es) (S.scan entered (named same hs) nowhere es) none l p′ l′
+SeenEvents same hs es l p′ l′ = Seen (S.scan entered (wrong same hs) nowhere es) (S.scan entered (namedAt same hs) nowhere es) none l p′ l′
 
 -- rule 6 is judged over the events es, and what each name means is written at its token
 pub record Named (same : ℕ → ℕ → Bool) (es : List Event) (slots : List ℕ) (best : Option ℕ) (slots′ : List ℕ) : Type 0 where
-  pub least : best ≡ S.least (badNames same es)
-  pub means : (i : ℕ) → i < length slots → getD slots′ i 0 ≡ meant (λ j. getD slots j 0) (meanings same es) i
+  pub least : best ≡ S.least (badNamesIn same es)
+  pub means : (i : ℕ) → i < length slots → getD slots′ i 0 ≡ meant (λ j. getD slots j 0) (meaningsIn same es) i
   pub kept : length slots′ ≡ length slots

@@ -63,8 +63,8 @@ fn see_declaration(
 {
     write_address(slots, i, address);
     match seek(text, places, values, scope, blocks, seen, i) {
-        Sought::Nothing => best,
-        Sought::At(_) => lesser(i, best),
+        Sought::Nothing(_) => best,
+        Sought::At(_, _) => lesser(i, best),
     }
 }
 
@@ -85,8 +85,8 @@ fn see_variable(
         (blocksOf (now (scope .entry)) blocks seen) i (place best) (now (slots .entry)) (place r) (now (slots .exit)) ⌝ }
 {
     match seek(text, places, values, scope, blocks, seen, i) {
-        Sought::Nothing => lesser(i, best),
-        Sought::At(address) => {
+        Sought::Nothing(_) => lesser(i, best),
+        Sought::At(address, _) => {
             write_address(slots, i, address);
             best
         }

@@ -6,7 +6,8 @@ use native.Mathlib.Omega.{arith}
 use lib.ListN.{length, getD, set, length-set}
 use lib.Seq.{getD-set-same, getD-set-other}
 use Rattle.events.specs.Event.{Event, function, parameter, opens, closes, declares}
-use Rattle.text_rules.specs.Names.{Declared, declared, outer, entered, scope}
+use Rattle.text_rules.specs.Names.{Declared}
+use Rattle.text_rules.specs.Scopes.{added, outer, entered, scope}
 use Rattle.scopes.specs.Memory.{scopeSlot, scopeStart, scopeWords, declaration, start, from, blocksOf, Ordered, none, more, Room, Moved, scopeOf}
 use Rattle.scopes.specs.declared.scope.Scope.{Scope}
 
@@ -23,16 +24,7 @@ start-other l i v j p = getD-set-other l i (scopeWords * j + scopeStart) v 0 p
 from-agree : (l l′ : List ℕ) (end k n : ℕ) → ((j : ℕ) → j < end → declaration l′ j ≡ declaration l j) → k + n ≤ end → from l′ k n ≡ from l k n
 unfolding from
 from-agree l l′ end k zero h le = refl
-from-agree l l′ end k (suc n) h le = rw (h k (omega arith), from-agree l l′ end (suc k) n h (omega arith))
-
-from-snoc : (l : List ℕ) (k n : ℕ) → from l k (suc n) ≡ from l k n ++ declaration l (k + n) ∷ []
-unfolding from
-from-snoc l k zero =
-    let e : k + 0 ≡ k = omega arith in
-    rw e
-from-snoc l k (suc n) =
-    let e : k + suc n ≡ suc k + n = omega arith in
-    rw e (ap (λ ds. declaration l k ∷ ds) (from-snoc l (suc k) n))
+from-agree l l′ end k (suc n) h le = rw (h (k + n) (omega arith), from-agree l l′ end k n h (omega arith))
 
 module _ (l l′ : List ℕ) where
   blocks-agree :
@@ -139,17 +131,17 @@ grown :
     → declaration l′ end ≡ record { name = i; slot = n }
     → ¬ (b ≡ 0)
     → Ordered l b end
-    → blocksOf l′ b (end + 1) ≡ declared i n (blocksOf l b end)
-unfolding blocksOf declared
+    → blocksOf l′ b (end + 1) ≡ added i n (blocksOf l b end)
+unfolding blocksOf from added
 grown l l′ i n d s e z none = absurd (z refl)
 grown l l′ i n d s e z (more {b = b} {end = end} h o) =
     let p : end + 1 - start l b ≡ suc (end - start l b) = omega arith in
     let q : start l b + (end - start l b) ≡ end = omega arith in
-    rw (s b, p, from-snoc l′ (start l b) (end - start l b), q, e)
+    rw (s b, p) (rw (q, e)
     (rw (
       from-agree l l′ end (start l b) (end - start l b) d (omega arith),
       blocks-agree l l′ (λ j t. d j (omega arith)) (λ j t. s j) o,
-    ))
+    )))
 
 pub pushed :
     (l : List ℕ) (s : Scope) (i : ℕ) → Room l s → 0 < s .blocks
@@ -200,7 +192,7 @@ pub declared-first :
     → (Moved l s opens l₁ s₁) × (s₁ .blocks ≡ s .blocks + 1) × (s₁ .seen ≡ s .seen) × (s₁ .next ≡ s .next)
     → (Moved l₁ s₁ (declares i) l₂ s₂) × (s₂ .blocks ≡ s₁ .blocks)
     → Moved l s (declares i) l₂ s₂
-unfolding blocksOf entered declared
+unfolding blocksOf entered added
 declared-first {l} {l₁} {l₂} {s} {s₁} {s₂} {i} room z a b =
     let m = a .0 in
     let p = b .0 in

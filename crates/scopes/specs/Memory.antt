@@ -4,8 +4,9 @@ use mathlib.Core.Path.{_≡_}
 use mathlib.Core.List.{List, [], _∷_}
 use lib.ListN.{length, getD}
 use Rattle.events.specs.Event.{Event, function, parameter, thing, opens, closes, declares, uses, calls, ends}
-use Rattle.text_rules.specs.Names as N
-use Rattle.text_rules.specs.Names.{Declared, entered}
+use Rattle.text_rules.specs.Names.{Declared}
+use Rattle.text_rules.specs.Scopes as N
+use Rattle.text_rules.specs.Scopes.{entered}
 use Rattle.scopes.specs.declared.scope.Scope.{Scope}
 
 abbrev pub scopeWords : ℕ
@@ -23,10 +24,10 @@ declaration l k = record { name = getD l (scopeWords * k) 0; slot = getD l (scop
 abbrev pub start : List ℕ → ℕ → ℕ
 start l b = getD l (scopeWords * b + scopeStart) 0
 
--- n declarations from k on
+-- n declarations from k on, the newest first
 unfoldable pub from : List ℕ → ℕ → ℕ → List Declared
 from l k zero = []
-from l k (suc n) = declaration l k ∷ from l (suc k) n
+from l k (suc n) = declaration l (k + n) ∷ from l k n
 
 -- b blocks, the innermost first; the declarations of the innermost end before `end`
 unfoldable pub blocksOf : List ℕ → ℕ → ℕ → List (List Declared)

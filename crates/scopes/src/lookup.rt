@@ -4,7 +4,7 @@ ghost use Prim.Native.Nat.{_^_, _<_};
 ghost use Rattle.text_rules.specs.Spelling.{sameName};
 ghost use Rattle.text_rules.specs.Names as N;
 ghost use Rattle.scopes.specs.Memory.{Held, blocksOf};
-ghost use Rattle.scopes.specs.Answers.{slotOf, orZero};
+ghost use Rattle.scopes.specs.Answers.{slotOf, comparedOf, orZero};
 use crate::scope::SCOPE_SLOT;
 use crate::scope::SCOPE_START;
 use crate::scope::SCOPE_WORDS;
@@ -12,13 +12,13 @@ use code::Address;
 use text_rules::spelling::same_name;
 use text_rules::spelling::word;
 
-// What a lookup finds.
+// What a lookup finds, and how many declarations it has compared.
 pub enum Sought {
-    Nothing,
-    At(Address),
+    Nothing(usize),
+    At(Address, usize),
 }
 
-// The name of token i is sought from the innermost block outwards, and within a block among its declarations so far.
+// The name of token i is sought from the innermost block outwards, and within a block from its newest declaration back. The first hit leaves both loops.
 pub fn seek(
     text: &[u8],
     places: &[u32],
@@ -29,23 +29,26 @@ pub fn seek(
     i: usize,
 ) -> Sought
     requires { ⌜ Held (now scope) blocks seen ⌝ }
-    ensures { λ r. ⌜ (slotOf r ≡ N.sought (sameName (now (text .entry)) (now (places .entry)) (now (values .entry))) (blocksOf (now (scope .entry)) blocks seen) i) × (orZero (slotOf r) < 2 ^ 32) ⌝ }
+    ensures { λ r. ⌜ (slotOf r ≡ N.sought (sameName (now (text .entry)) (now (places .entry)) (now (values .entry))) (blocksOf (now (scope .entry)) blocks seen) i)
+        × (comparedOf r ≡ N.compared (sameName (now (text .entry)) (now (places .entry)) (now (values .entry))) (N.seen (blocksOf (now (scope .entry)) blocks seen)) i)
+        × (orZero (slotOf r) < 2 ^ 32) ⌝ }
 {
-    let mut found = Sought::Nothing;
+    let mut compared = 0;
+    let mut found = Sought::Nothing(0);
     let mut block = blocks;
-    let mut end = seen;
+    let mut k = seen;
     'blocks: while 0 < block {
         block -= 1;
         let start = word(scope, SCOPE_WORDS * block + SCOPE_START);
-        let mut k = start;
-        while k < end {
+        while start < k {
+            k -= 1;
+            compared += 1;
             if same_name(text, places, values, word(scope, SCOPE_WORDS * k), i) {
-                found = Sought::At(Address(word(scope, SCOPE_WORDS * k + SCOPE_SLOT)));
+                found = Sought::At(Address(word(scope, SCOPE_WORDS * k + SCOPE_SLOT)), compared);
                 break 'blocks;
             }
-            k += 1;
+            found = Sought::Nothing(compared);
         }
-        end = start;
     }
     found
 }

@@ -9,26 +9,13 @@ use Rattle.syntax.specs.Ast as A
 use Rattle.events.specs.Event.{Event, function, parameter, thing, opens, closes, declares, ends, first, closing, stops, eventsAt}
 use Rattle.text_rules.specs.Assigned.{parameterCount}
 use Rattle.text_rules.specs.Rules.{mostDeclarations}
-use Rattle.text_rules.specs.Names.{Declared, Scope, scope, declared, outer, entered}
+use Rattle.text_rules.specs.Names.{Declared}
+use Rattle.text_rules.specs.Scopes.{Scope, scope, added, outer, entered}
 use Rattle.text_rules.proofs.OneMeaning.{Each, done, also}
-use Rattle.text_rules.proofs.Resolving.{shown, shown-declared, Fits, next-few}
+use Rattle.text_rules.proofs.Resolving.{shown, shown-added, Fits, next-few}
+use Rattle.text_rules.proofs.Seen.{after, after-to}
 use Rattle.text_rules.proofs.Slots.{Reads, Slots}
 use Rattle.text_rules.proofs.Slots as S
-
--- ---- the scope after some events
-
-unfoldable pub after : Scope → List Event → Scope
-after s [] = s
-after s (e ∷ es) = after (entered s e) es
-
-after-append : (s : Scope) (xs ys : List Event) → after s (xs ++ ys) ≡ after (after s xs) ys
-unfolding after
-after-append s [] ys = refl
-after-append s (x ∷ xs) ys = after-append (entered s x) xs ys
-
--- from where some events lead
-after-to : (s : Scope) (xs ys : List Event) {m : Scope} → after s xs ≡ m → after s (xs ++ ys) ≡ after m ys
-after-to s xs ys e = after-append s xs ys ∙ ap (λ (r : Scope). after r ys) e
 
 module _ {P : Scope → Event → Type 0} where
   pub front : (s : Scope) (xs ys : List Event) → Each P s (xs ++ ys) → Each P s xs
@@ -54,10 +41,10 @@ module _ {P : Scope → Event → Type 0} where
 abbrev opened : Scope → Scope
 opened s = scope ([] ∷ s .blocks) (s .next)
 
-outer-declared : (i n : ℕ) (bs : List (List Declared)) → outer (declared i n bs) ≡ outer bs
-unfolding outer declared
-outer-declared i n [] = refl
-outer-declared i n (b ∷ bs) = refl
+outer-added : (i n : ℕ) (bs : List (List Declared)) → outer (added i n bs) ≡ outer bs
+unfolding outer added
+outer-added i n [] = refl
+outer-added i n (b ∷ bs) = refl
 
 -- the innermost block of m is left, and what was open around it is open
 leave : (m : Scope) {bs : List (List Declared)} → outer (m .blocks) ≡ bs → entered m closes ≡ scope bs (m .next)
@@ -113,10 +100,10 @@ module _ (counts : List ℕ) (means : ℕ → ℕ) where
   declares-one : (d i j : ℕ) (s : Scope) {t : Ast stmt} → Slots counts means stmt (shown (s .blocks)) (s .next) t (s .next ∷ shown (s .blocks)) (suc (s .next)) → Step s (thing d i ∷ declares j ∷ []) t
   unfolding after entered
   declares-one d i j s {t} h = record {
-    end = scope (declared j (s .next) (s .blocks)) (suc (s .next));
+    end = scope (added j (s .next) (s .blocks)) (suc (s .next));
     leads = refl;
-    around = outer-declared j (s .next) (s .blocks);
-    slots = subst (λ (ns : List ℕ). Slots counts means stmt (shown (s .blocks)) (s .next) t ns (suc (s .next))) (sym (shown-declared j (s .next) (s .blocks))) h;
+    around = outer-added j (s .next) (s .blocks);
+    slots = subst (λ (ns : List ℕ). Slots counts means stmt (shown (s .blocks)) (s .next) t ns (suc (s .next))) (sym (shown-added j (s .next) (s .blocks))) h;
   }
 
   -- the mark of a statement or an argument before it
@@ -252,9 +239,9 @@ started d A.noParams = record { end = start; leads = refl; seen = refl; next = r
 started d (A.moreParams l i) =
     let r = started d l in
     record {
-      end = scope (declared i (r .end .next) (r .end .blocks)) (suc (r .end .next));
+      end = scope (added i (r .end .next) (r .end .blocks)) (suc (r .end .next));
       leads = after-to start (eventsAt d l) (parameter i ∷ []) (r .leads);
-      seen = shown-declared i (r .end .next) (r .end .blocks) ∙ rw (r .next, r .seen);
+      seen = shown-added i (r .end .next) (r .end .blocks) ∙ rw (r .next, r .seen);
       next = ap suc (r .next);
     }
 

@@ -6,6 +6,10 @@ pub mod Scans
 pub mod OneMeaning
 pub mod Slots
 pub mod Resolving
+pub mod Many
+pub mod Seen
+pub mod Innermost
+pub mod SeenOnce
 pub mod Bodies
 pub mod Programs
 pub mod Pairs

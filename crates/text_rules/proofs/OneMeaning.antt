@@ -12,7 +12,8 @@ use Rattle.events.proofs.Rising.{Between, Rising}
 use Rattle.events.proofs.Rising as R
 use Rattle.text_rules.specs.Scan.{scan}
 use Rattle.text_rules.specs.Rules.{Head, heads, functionOf}
-use Rattle.text_rules.specs.Names.{Scope, entered, nowhere, Meaning, asFound, meant, sought, named, meanings}
+use Rattle.text_rules.specs.Names.{Meaning, asFound, meant, sought}
+use Rattle.text_rules.specs.Scopes.{Scope, entered, nowhere, namedAt, meaningsIn}
 
 -- ---- meanings at tokens that rise
 
@@ -61,8 +62,8 @@ module _ (same : ℕ → ℕ → Bool) (hs : List Head) where
   found-ascends none h k a = ascending-from (omega arith) a
   found-ascends (some n) h k a = above h (ascending-from k a)
 
-  named-ascends : (lo mid : ℕ) (s : Scope) (e : Event) {ms : List Meaning} → Between lo e mid → Ascending mid ms → Ascending lo (named same hs s e ++ ms)
-  unfolding named Between
+  named-ascends : (lo mid : ℕ) (s : Scope) (e : Event) {ms : List Meaning} → Between lo e mid → Ascending mid ms → Ascending lo (namedAt same hs s e ++ ms)
+  unfolding namedAt Between
   named-ascends lo mid s (function i) h a = ascending-from h a
   named-ascends lo mid s (parameter i) h a = above (h .0) (ascending-from (h .1) a)
   named-ascends lo mid s (thing d i) h a = ascending-from h a
@@ -73,7 +74,7 @@ module _ (same : ℕ → ℕ → Bool) (hs : List Head) where
   named-ascends lo mid s (calls i n) h a = found-ascends (functionOf same hs i) (h .0) (h .1) a
   named-ascends lo mid s (ends i b) h a = ascending-from h a
 
-  ascends : (s : Scope) {lo hi : ℕ} {es : List Event} → Rising lo es hi → Ascending lo (scan entered (named same hs) s es)
+  ascends : (s : Scope) {lo hi : ℕ} {es : List Event} → Rising lo es hi → Ascending lo (scan entered (namedAt same hs) s es)
   unfolding scan
   ascends s (R.none lo hi h) = nothing
   ascends s (R.more lo mid e b p) = named-ascends lo mid s e b (ascends (entered s e) p)
@@ -102,8 +103,8 @@ module _ (same : ℕ → ℕ → Bool) (hs : List Head) where
         let z : k ≡ n = cc in
         first-held h ∙ z
 
-    says : (s : Scope) (e : Event) (ms : List Meaning) → Held means (named same hs s e ++ ms) → Says means s e
-    unfolding named Says
+    says : (s : Scope) (e : Event) (ms : List Meaning) → Held means (namedAt same hs s e ++ ms) → Says means s e
+    unfolding namedAt Says
     says s (function i) ms h = tt
     says s (parameter i) ms h = first-held h
     says s (thing d i) ms h = tt
@@ -118,13 +119,13 @@ module _ (same : ℕ → ℕ → Bool) (hs : List Head) where
     held-rest [] ys h = h
     held-rest (x ∷ xs) ys (holds e h) = held-rest xs ys h
 
-    all-say : (s : Scope) (es : List Event) → Held means (scan entered (named same hs) s es) → Each (Says means) s es
+    all-say : (s : Scope) (es : List Event) → Held means (scan entered (namedAt same hs) s es) → Each (Says means) s es
     unfolding scan
     all-say s [] h = done
     all-say s (e ∷ es) h =
-        let ms = scan entered (named same hs) (entered s e) es in
-        also (says s e ms h) (all-say (entered s e) es (held-rest (named same hs s e) ms h))
+        let ms = scan entered (namedAt same hs) (entered s e) es in
+        also (says s e ms h) (all-say (entered s e) es (held-rest (namedAt same hs s e) ms h))
 
 -- where the tokens of names rise, each token means what its own event says, whatever it meant before
-pub one-meaning : (same : ℕ → ℕ → Bool) (f : ℕ → ℕ) {lo hi : ℕ} {es : List Event} → Rising lo es hi → Each (Says same (heads es) (meant f (meanings same es))) nowhere es
-one-meaning same f {es = es} r = all-say same (heads es) (meant f (meanings same es)) nowhere es (held f (ascends same (heads es) nowhere r))
+pub one-meaning : (same : ℕ → ℕ → Bool) (f : ℕ → ℕ) {lo hi : ℕ} {es : List Event} → Rising lo es hi → Each (Says same (heads es) (meant f (meaningsIn same es))) nowhere es
+one-meaning same f {es = es} r = all-say same (heads es) (meant f (meaningsIn same es)) nowhere es (held f (ascends same (heads es) nowhere r))

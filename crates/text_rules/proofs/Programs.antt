@@ -15,14 +15,16 @@ use Rattle.semantics.specs.Demand.{_∈_}
 use Rattle.semantics.specs.Program.{Stmts, Program}
 use Rattle.semantics.specs.Program as P
 use Rattle.text_rules.specs.Rules.{Head, parameters, heads, miscalls, mainless, tooMany}
-use Rattle.text_rules.specs.Names.{Scope, nowhere, meant, meanings, badNames}
+use Rattle.text_rules.specs.Names.{Meaning, meant, meanings, badNames}
+use Rattle.text_rules.specs.Scopes.{Scope, nowhere}
 use Rattle.text_rules.specs.Assigned.{parameterCount}
 use Rattle.text_rules.specs.Resolve.{part, resolved}
 use Rattle.text_rules.specs.Answers.{head}
 use Rattle.text_rules.proofs.Counts.{arities, main-lt, main-bare}
 use Rattle.text_rules.proofs.OneMeaning.{Each}
 use Rattle.text_rules.proofs.Resolving.{Fits, names-fit}
-use Rattle.text_rules.proofs.Bodies.{after, front, back-to, ResolvedBody, body-resolved}
+use Rattle.text_rules.proofs.Seen.{after, bad-names, meanings-are}
+use Rattle.text_rules.proofs.Bodies.{front, back-to, ResolvedBody, body-resolved}
 
 -- ---- the functions of a tree, in the order of the text
 
@@ -198,10 +200,17 @@ pub record Function (value means : ℕ → ℕ) (p : Ast prog) (g : ℕ) : Type 
   pub body-is : getD (part value means p []) g P.end ≡ part value means body
   pub resolved : ResolvedBody (arities (heads (events p))) means parameters body
 
--- of a text that keeps the rules 6, 7 and 10, whatever its tokens meant before
+-- of a text that keeps the rules 6, 7 and 10, whatever its tokens meant before: its names are those of its events
+pub text-fits : (same : ℕ → ℕ → Bool) (f : ℕ → ℕ) (p : Ast prog) {lo hi : ℕ} → Rising lo (events p) hi
+    → badNames same p ≡ [] → miscalls same (events p) ≡ [] → tooMany (events p) ≡ []
+    → Each (Fits (arities (heads (events p))) (meant f (meanings same p))) nowhere (events p)
+text-fits same f p r six seven ten =
+    subst (λ (ms : List Meaning). Each (Fits (arities (heads (events p))) (meant f ms)) nowhere (events p)) (meanings-are same p)
+    (names-fit same f r (bad-names same p ∙ six) seven ten)
+
 pub functions-resolved : (value : ℕ → ℕ) (same : ℕ → ℕ → Bool) (f : ℕ → ℕ) (p : Ast prog) {lo hi : ℕ} → Rising lo (events p) hi
-    → badNames same (events p) ≡ [] → miscalls same (events p) ≡ [] → tooMany (events p) ≡ []
-    → (g : ℕ) → g < length (heads (events p)) → Function value (meant f (meanings same (events p))) p g
+    → badNames same p ≡ [] → miscalls same (events p) ≡ [] → tooMany (events p) ≡ []
+    → (g : ℕ) → g < length (heads (events p)) → Function value (meant f (meanings same p)) p g
 unfolding events part
 functions-resolved value same f p r six seven ten g h =
     go (item (functions p) g k) (item-in (functions p) g k)
@@ -209,7 +218,7 @@ functions-resolved value same f p r six seven ten g h =
     (ap (λ (bs : List Stmts). getD bs g P.end) (bodies-are value means p) ∙ item-map (part value means) P.end (functions p) g k)
   where
     means : ℕ → ℕ
-    means = meant f (meanings same (events p))
+    means = meant f (meanings same p)
 
     k : g < length (functions p)
     k = omega (arith, ap length (heads-are p), length-map (functions p) headOf)
@@ -223,7 +232,7 @@ functions-resolved value same f p r six seven ten g h =
       head-is = e;
       arity-is = List·getD-map (λ (x : Head). x .arity) (heads (events p)) g (head 0 0) ∙ ap (λ (x : Head). x .arity) e;
       body-is = u;
-      resolved = bodies-resolved (arities (heads (events p))) means 1 p nowhere (names-fit same f r six seven ten) i q b m;
+      resolved = bodies-resolved (arities (heads (events p))) means 1 p nowhere (text-fits same f p r six seven ten) i q b m;
     }
 
 -- ---- the program
@@ -237,8 +246,8 @@ pub record Resolves (value means : ℕ → ℕ) (p : Ast prog) (r : Program) : T
 
 -- where rule 8 is kept too
 pub program-resolves : (value : ℕ → ℕ) (same : ℕ → ℕ → Bool) (isMain : ℕ → Bool) (end : ℕ) (f : ℕ → ℕ) (p : Ast prog) {lo hi : ℕ} → Rising lo (events p) hi
-    → badNames same (events p) ≡ [] → miscalls same (events p) ≡ [] → mainless isMain end (events p) ≡ [] → tooMany (events p) ≡ []
-    → Resolves value (meant f (meanings same (events p))) p (resolved value (meant f (meanings same (events p))) isMain (heads (events p)) p)
+    → badNames same p ≡ [] → miscalls same (events p) ≡ [] → mainless isMain end (events p) ≡ [] → tooMany (events p) ≡ []
+    → Resolves value (meant f (meanings same p)) p (resolved value (meant f (meanings same p)) isMain (heads (events p)) p)
 program-resolves value same isMain end f p r six seven eight ten = record {
   bodies = refl;
   main = main-lt isMain end (heads (events p)) eight;

@@ -14,7 +14,8 @@ use Rattle.events.proofs.Rising.{Rising}
 use Rattle.semantics.specs.Demand.{_∈_}
 use Rattle.text_rules.specs.Scan.{scan, on, when}
 use Rattle.text_rules.specs.Rules.{Head, heads, functionOf, arityOf, wrong, miscounted, miscalls, Tally, tally, counted, over, tooMany, mostParameters, mostDeclarations}
-use Rattle.text_rules.specs.Names.{Declared, Scope, declared, outer, entered, nowhere, meant, inBlock, sought, unlessFound, misnamed, badVariables, uncalled, badNames, meanings}
+use Rattle.text_rules.specs.Names.{Declared, meant, inBlock, sought, unlessFound, uncalled}
+use Rattle.text_rules.specs.Scopes.{Scope, added, outer, entered, nowhere, misnamedAt, badVariablesIn, badNamesIn, meaningsIn}
 use Rattle.text_rules.proofs.Counts.{nil-left, nil-right, not-when, or-right, arities}
 use Rattle.text_rules.proofs.OneMeaning.{Each, done, also, Says, one-meaning}
 
@@ -22,25 +23,21 @@ use Rattle.text_rules.proofs.OneMeaning.{Each, done, also, Says, one-me
 
 abbrev pub before : List Declared → List ℕ → List ℕ
 before [] ns = ns
-before (d ∷ ds) ns = before ds (d .slot ∷ ns)
+before (d ∷ ds) ns = d .slot ∷ before ds ns
 
 unfoldable pub shown : List (List Declared) → List ℕ
 shown [] = []
 shown (b ∷ bs) = before b (shown bs)
 
-before-last : (b : List Declared) (d : Declared) (ns : List ℕ) → before (b ++ d ∷ []) ns ≡ d .slot ∷ before b ns
-before-last [] d ns = refl
-before-last (x ∷ b) d ns = before-last b d (x .slot ∷ ns)
-
-pub shown-declared : (i n : ℕ) (bs : List (List Declared)) → shown (declared i n bs) ≡ n ∷ shown bs
-unfolding shown declared
-shown-declared i n [] = refl
-shown-declared i n (b ∷ bs) = before-last b (record { name = i; slot = n }) (shown bs)
+pub shown-added : (i n : ℕ) (bs : List (List Declared)) → shown (added i n bs) ≡ n ∷ shown bs
+unfolding shown added
+shown-added i n [] = refl
+shown-added i n (b ∷ bs) = refl
 
 -- what an outer block has can still be seen
 under : (b : List Declared) {n : ℕ} {ns : List ℕ} → n ∈ ns → n ∈ before b ns
 under [] h = h
-under (d ∷ b) h = under b (there h)
+under (d ∷ b) h = there (under b h)
 
 under-outer : (bs : List (List Declared)) {n : ℕ} → n ∈ shown (outer bs) → n ∈ shown bs
 unfolding shown outer
@@ -54,13 +51,13 @@ module _ (same : ℕ → ℕ → Bool) where
   in-block [] i n ns e =
       let z : _≡_ {A = ℕ} 0 1 = cc in
       absurd (omega arith)
-  in-block (d ∷ b) i n ns e = go (same (d .name) i) (in-block b i n (d .slot ∷ ns)) e
+  in-block (d ∷ b) i n ns e = go (same (d .name) i) (in-block b i n ns) e
     where
-      go : (t : Bool) → (inBlock same b i ≡ some n → n ∈ before b (d .slot ∷ ns)) → cond t (some (d .slot)) (inBlock same b i) ≡ some n → n ∈ before b (d .slot ∷ ns)
+      go : (t : Bool) → (inBlock same b i ≡ some n → n ∈ before b ns) → cond t (some (d .slot)) (inBlock same b i) ≡ some n → n ∈ (d .slot ∷ before b ns)
       go true r f =
           let z : n ≡ d .slot = cc in
-          under b (here z)
-      go false r f = r f
+          here z
+      go false r f = there (r f)
 
   sought-shown : (bs : List (List Declared)) (i n : ℕ) → sought same bs i ≡ some n → n ∈ shown bs
   unfolding sought shown
@@ -144,8 +141,8 @@ record Kept (s : Scope) (c : Tally) : Type 0 where
   low : (n : ℕ) → n ∈ shown (s .blocks) → n < s .next
   next : s .next ≡ c .declarations
 
-one-more : (i n : ℕ) (bs : List (List Declared)) → ((k : ℕ) → k ∈ shown bs → k < n) → (k : ℕ) → k ∈ shown (declared i n bs) → k < suc n
-one-more i n bs f k h = go (subst (λ (ns : List ℕ). k ∈ ns) (shown-declared i n bs) h)
+one-more : (i n : ℕ) (bs : List (List Declared)) → ((k : ℕ) → k ∈ shown bs → k < n) → (k : ℕ) → k ∈ shown (added i n bs) → k < suc n
+one-more i n bs f k h = go (subst (λ (ns : List ℕ). k ∈ ns) (shown-added i n bs) h)
   where
     go : k ∈ (n ∷ shown bs) → k < suc n
     go (here e) = omega (arith, e)
@@ -174,8 +171,8 @@ module _ (same : ℕ → ℕ → Bool) (hs : List Head) (means : ℕ → ℕ) wh
   found (some n) i u f = ap some (sym (f n refl))
 
   fits-event : (s : Scope) (c : Tally) (e : Event) → Kept s c → Says same hs means s e
-      → misnamed same s e ≡ [] → uncalled same hs e ≡ [] → miscounted same hs e ≡ [] → over c e ≡ [] → Fits (arities hs) means s e
-  unfolding Says misnamed uncalled miscounted over Fits
+      → misnamedAt same s e ≡ [] → uncalled same hs e ≡ [] → miscounted same hs e ≡ [] → over c e ≡ [] → Fits (arities hs) means s e
+  unfolding Says misnamedAt uncalled miscounted over Fits
   fits-event s c (function i) k m u v w h = tt
   fits-event s c (parameter i) k m u v w h =
       let x = leb mostParameters (c .parameters) in
@@ -194,22 +191,22 @@ module _ (same : ℕ → ℕ → Bool) (hs : List Head) (means : ℕ → ℕ) wh
   fits-event s c (ends i b) k m u v w h = tt
 
   all-fit : (s : Scope) (c : Tally) {es : List Event} → Kept s c → Each (Says same hs means) s es
-      → scan entered (misnamed same) s es ≡ [] → on (uncalled same hs) es ≡ [] → on (miscounted same hs) es ≡ [] → scan counted over c es ≡ [] → Each (Fits (arities hs) means) s es
+      → scan entered (misnamedAt same) s es ≡ [] → on (uncalled same hs) es ≡ [] → on (miscounted same hs) es ≡ [] → scan counted over c es ≡ [] → Each (Fits (arities hs) means) s es
   unfolding scan on
   all-fit s c k done u v w h = done
   all-fit s c k (also {e = e} m r) u v w h =
       also
-      (fits-event s c e k m (nil-left (misnamed same s e) _ u) (nil-left (uncalled same hs e) _ v) (nil-left (miscounted same hs e) _ w) (nil-left (over c e) _ h))
+      (fits-event s c e k m (nil-left (misnamedAt same s e) _ u) (nil-left (uncalled same hs e) _ v) (nil-left (miscounted same hs e) _ w) (nil-left (over c e) _ h))
       (all-fit (entered s e) (counted c e) (kept-step s c e k) r
-      (nil-right (misnamed same s e) _ u) (nil-right (uncalled same hs e) _ v) (nil-right (miscounted same hs e) _ w) (nil-right (over c e) _ h))
+      (nil-right (misnamedAt same s e) _ u) (nil-right (uncalled same hs e) _ v) (nil-right (miscounted same hs e) _ w) (nil-right (over c e) _ h))
 
 -- so it is in a text that keeps the rules 6, 7 and 10, whatever its tokens meant before
 pub names-fit : (same : ℕ → ℕ → Bool) (f : ℕ → ℕ) {lo hi : ℕ} {es : List Event} → Rising lo es hi
-    → badNames same es ≡ [] → miscalls same es ≡ [] → tooMany es ≡ []
-    → Each (Fits (arities (heads es)) (meant f (meanings same es))) nowhere es
+    → badNamesIn same es ≡ [] → miscalls same es ≡ [] → tooMany es ≡ []
+    → Each (Fits (arities (heads es)) (meant f (meaningsIn same es))) nowhere es
 unfolding shown
 names-fit same f {es = es} r six seven ten =
-    let vs = badVariables same es in
+    let vs = badVariablesIn same es in
     let us = on (uncalled same (heads es)) es in
-    all-fit same (heads es) (meant f (meanings same es)) nowhere (tally 0 0 0) (record { low = λ n h. absurd (not-nil h); next = refl })
+    all-fit same (heads es) (meant f (meaningsIn same es)) nowhere (tally 0 0 0) (record { low = λ n h. absurd (not-nil h); next = refl })
     (one-meaning same f r) (nil-left vs _ six) (nil-left us _ (nil-right vs _ six)) seven ten

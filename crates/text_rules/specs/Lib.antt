@@ -2,8 +2,9 @@
 pub mod Scan
 pub mod Spelling
 pub mod Rules
-pub mod Names
 pub mod Assigned
+pub mod Names
+pub mod Scopes
 pub mod Own
 pub mod Resolve
 pub mod Answers

@@ -186,11 +186,11 @@ fn filled(before: &str, unit: &str, after: &str) -> Vec<u8> {
 }
 
 fn texts() -> Vec<(&'static str, Vec<u8>)> {
+    let sixteen: String = ('a'..='p').map(|letter| format!("int {letter};")).collect();
     let functions: String = (0..16)
         .map(|n| {
             let name = if n == 15 { "main".to_string() } else { format!("f{n}") };
-            let declared: String = ('a'..='p').map(|letter| format!("int {letter};")).collect();
-            format!("int {name}(){{{declared}p=1;return p;}}")
+            format!("int {name}(){{{sixteen}p=1;return p;}}")
         })
         .collect();
     let mut names = functions.into_bytes();
@@ -200,10 +200,12 @@ fn texts() -> Vec<(&'static str, Vec<u8>)> {
     // have: the most that fit, and the most of variables times statements.
     let most = format!("int main(){{{}", declarations(297));
     let half = format!("int main(){{{}", declarations(150));
+    let last = format!("int main(){{{sixteen}");
     vec![
         ("empty statements", filled("int main() { ", ";", " return 1; }")),
         ("assignments", filled("int main() { int a; a = 0; ", "a = a + 1; ", "return a; }")),
         ("sixteen functions of sixteen names", names),
+        ("sixteen names, the last again and again", filled(&last, "p=0;", "return p;}")),
         ("a sum", filled("int main() { int a; a = 1; return a", "+a", "; }")),
         ("297 declarations", filled(&most, " ", "fail;}")),
         ("297 declarations and a read", filled(&most, " ", "return a;}")),

@@ -2,7 +2,7 @@ use native.Mathlib.Omega.{arith}
 use Rattle.names.proofs.Walks.{as-many}
 use Rattle.checker.specs.Check.{source, rulesOf, firstBroken}
 use Rattle.checker.proofs.Faults.{at, nowhere, goes-on}
-use Rattle.checker.proofs.Naming.{meant-so}
+use Rattle.checker.proofs.Naming.{bad-so, meant-so}
 use borrow.Author.Needs.{needs}
 use Rattle.checker.proofs.judge_first.Statement.{statement}
 use Rattle.checker.proofs.judge_first.Tie as tie
@@ -50,7 +50,9 @@ returns-2 c =
     nowhere (c .before .before .before .before .before .before .before .before .before .before .before .before .before .before .before .before .before .too-deep .ensures)
     (c .before .before .before .before .before .before .before .before .before .before .before .before .before .before .before .enum-told .given .1) in
     let names = at (c .before .before .before .before .before .before .before .resolve .ensures .least) (c .before .i2 .given .1) in
-    record { fault = λ p e. rw (← e, depth, names); known = λ p e. tt }
+    let entry = c .before .before .before .before .before .before .before .before .before .before .before .before .before .before .before .before .before .before .before .before .before .before .before .before .before .before in
+    let s = source (entry .args .text .now) (entry .args .kinds .now) (entry .args .places .now) (entry .args .values .now) in
+    record { fault = λ p e. rw (bad-so s p e names) (rw (← e, depth)); known = λ p e. tt }
 
 enum-told-2 : tie.Need-enum-told-2
 enum-told-2 c = search needs
@@ -82,7 +84,7 @@ returns-3 c =
     let heads = c .before .before .before .before .before .before .before .before .before .before .before .before .before .before .collect-heads .ensures .written in
     let entry = c .before .before .before .before .before .before .before .before .before .before .before .before .before .before .before .before .before .before .before .before .before .before .before .before .before .before .before in
     let s = source (entry .args .text .now) (entry .args .kinds .now) (entry .args .places .now) (entry .args .values .now) in
-    goes-on (c .judge-functions .ensures) (λ p e. rw (← e, depth, names)) (λ p e. (rw (← e) heads, meant-so s p resolved e (entry .pre .blank)))
+    goes-on (c .judge-functions .ensures) (λ p e. rw (bad-so s p e names) (rw (← e, depth))) (λ p e. (rw (← e) heads, meant-so s p resolved e (entry .pre .blank)))
 
 pub judge-first-spec : {M : Type 1} → statement M
 judge-first-spec =

@@ -18,7 +18,7 @@ enum-known-address : tie.Need-enum-known-address
 enum-known-address c = search needs
 
 write-address-requires : tie.Need-write-address-requires
-write-address-requires c κs = rw (c .before .before .address .given .1) at (c .before .before .before .before .seek .ensures .1)
+write-address-requires c κs = rw (c .before .before .address .given .1) at (c .before .before .before .before .seek .ensures .2)
 
 returns : tie.Need-returns
 returns c = unknown (c .before .before .before .before .before .before .before .before .before .args .i) (ap slotOf (sym (c .before .enum-told .given .1)) ∙ c .before .before .before .seek .ensures .0) (c .lesser .ensures)

@@ -6,7 +6,7 @@ use Rattle.events.proofs.Variants.{number, not-one}
 use Rattle.events.specs.declared.event.Event.{Event}
 use Rattle.events.specs.declared.event.Event.the-variants.{Function, Parameter, Thing, Opens, Closes, Declares, Uses, Calls, Ends}
 use Rattle.events.specs.Read.{asEvent}
-use Rattle.text_rules.specs.Names.{Scope, entered}
+use Rattle.text_rules.specs.Scopes.{Scope, entered}
 use Rattle.scopes.specs.Memory.{tokenOf}
 use Rattle.scopes.proofs.Blocks.{as-parameter, stays}
 use Rattle.scopes.proofs.scope.enter.Statement.{statement}
