@@ -110,10 +110,15 @@ pub fn by_hand() -> Vec<(Example, &'static str)> {
 
 /// So many declarations, with names as short as can be: `a` is the first.
 pub fn declarations(count: usize) -> String {
+    short_names().take(count).map(|name| format!("int {name};")).collect()
+}
+
+/// The names of one letter, then those of two.
+pub fn short_names() -> impl Iterator<Item = String> {
     let letters = || ('a'..='z').chain('A'..='Z').map(String::from);
-    let pairs = letters().flat_map(|first| letters().map(move |second| first.clone() + &second));
-    let names = letters().chain(pairs.filter(|name| name != "if"));
-    names.take(count).map(|name| format!("int {name};")).collect()
+    let pairs =
+        letters().flat_map(move |first| letters().map(move |second| first.clone() + &second));
+    letters().chain(pairs.filter(|name| name != "if"))
 }
 
 fn frees(count: usize) -> String {

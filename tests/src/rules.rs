@@ -174,26 +174,55 @@ fn wrong_names(functions: &[Function]) -> Vec<usize> {
         if functions[..number].iter().any(|earlier| earlier.name.text == name.text) {
             wrong.push(name.place);
         }
-        let mut scope = Scope { functions, blocks: vec![Vec::new()], wrong: Vec::new() };
-        for parameter in &function.parameters {
-            scope.declare(parameter);
-        }
-        scope.block(&function.body);
-        wrong.append(&mut scope.wrong);
+        wrong.append(&mut named(functions, function, newest_back).wrong);
     }
     wrong
+}
+
+/// How many names each lookup of a variable compares (slip 6), in the order of
+/// the text, for a text that keeps the grammar.
+pub fn lookups(text: &[u8], compare: Compare) -> Result<Vec<usize>, Refusal> {
+    let functions = parse(&tokens(text)?)?;
+    Ok(functions.iter().flat_map(|f| named(&functions, f, compare).compared).collect())
+}
+
+/// A lookup among blocks of names, the innermost last and each with its newest
+/// last: how many it compares, and whether it has found the name.
+pub type Compare = fn(&[Vec<String>], &str) -> (usize, bool);
+
+/// "from the newest back"; "those up to the hit, or all of them if there is none".
+pub fn newest_back(blocks: &[Vec<String>], name: &str) -> (usize, bool) {
+    let seen: Vec<&String> = blocks.iter().flatten().collect();
+    let hit = seen.iter().rposition(|other| *other == name);
+    (seen.len() - hit.unwrap_or(0), hit.is_some())
+}
+
+/// The names of a function, looked up.
+fn named<'a>(functions: &'a [Function], function: &Function, compare: Compare) -> Scope<'a> {
+    let (wrong, compared) = (Vec::new(), Vec::new());
+    let mut scope = Scope { functions, blocks: vec![Vec::new()], compare, wrong, compared };
+    for parameter in &function.parameters {
+        scope.declare(parameter);
+    }
+    scope.block(&function.body);
+    scope
 }
 
 /// The names that can be seen: a list for each block, the innermost last.
 struct Scope<'a> {
     functions: &'a [Function],
     blocks: Vec<Vec<String>>,
+    compare: Compare,
     wrong: Vec<usize>,
+    /// How many names each lookup so far has compared.
+    compared: Vec<usize>,
 }
 
 impl Scope<'_> {
-    fn sees(&self, name: &Name) -> bool {
-        self.blocks.iter().any(|block| block.contains(&name.text))
+    fn sees(&mut self, name: &Name) -> bool {
+        let (compared, found) = (self.compare)(&self.blocks, &name.text);
+        self.compared.push(compared);
+        found
     }
 
     fn declare(&mut self, name: &Name) {
