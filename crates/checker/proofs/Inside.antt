@@ -21,8 +21,8 @@ use Rattle.events.proofs.Tokens as W
 use Rattle.semantics.specs.Demand.{_∈_}
 use Rattle.text_rules.specs.Scan.{scan, on, when}
 use Rattle.text_rules.specs.Rules.{Head, heads, deep, wrong, arityOf, miscounted, mains, withParameters, badMain, unended, Tally, tally, counted, over, functionOf}
-use Rattle.text_rules.specs.Names.{sought, unlessFound, ifFound, uncalled, repeated, badNames}
-use Rattle.text_rules.specs.Scopes.{Scope, nowhere as outside, entered, misnamedAt, badNamesIn}
+use Rattle.text_rules.specs.Names.{sought, unlessFound, ifFound, misnamed, uncalled, repeated, badNames}
+use Rattle.text_rules.specs.Scopes.{Scope, nowhere as outside, entered, onName, misnamedAt, badNamesIn}
 use Rattle.text_rules.proofs.Seen.{bad-names}
 use Rattle.text_rules.specs.Assigned.{unset}
 use Rattle.text_rules.specs.Own.{Own, own, owns, pairAt, breaching, isReversed, isWide}
@@ -109,7 +109,7 @@ module _ (m : ℕ) where
     low-unless (some n) h = nil
 
     low-misnamedAt : (s : Scope) (e : Event) → Within m e → Low m (misnamedAt same s e)
-    unfolding misnamedAt Within
+    unfolding onName misnamed Within
     low-misnamedAt s (function i) h = nil
     low-misnamedAt s (parameter i) h = low-found (sought same (s .blocks) i) h
     low-misnamedAt s (thing d i) h = nil

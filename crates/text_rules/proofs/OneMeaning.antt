@@ -12,8 +12,8 @@ use Rattle.events.proofs.Rising.{Between, Rising}
 use Rattle.events.proofs.Rising as R
 use Rattle.text_rules.specs.Scan.{scan}
 use Rattle.text_rules.specs.Rules.{Head, heads, functionOf}
-use Rattle.text_rules.specs.Names.{Meaning, asFound, meant, sought}
-use Rattle.text_rules.specs.Scopes.{Scope, entered, nowhere, namedAt, meaningsIn}
+use Rattle.text_rules.specs.Names.{Meaning, asFound, meant, sought, named}
+use Rattle.text_rules.specs.Scopes.{Scope, entered, nowhere, onName, namedAt, meaningsIn}
 
 -- ---- meanings at tokens that rise
 
@@ -63,7 +63,7 @@ module _ (same : ℕ → ℕ → Bool) (hs : List Head) where
   found-ascends (some n) h k a = above h (ascending-from k a)
 
   named-ascends : (lo mid : ℕ) (s : Scope) (e : Event) {ms : List Meaning} → Between lo e mid → Ascending mid ms → Ascending lo (namedAt same hs s e ++ ms)
-  unfolding namedAt Between
+  unfolding onName named Between
   named-ascends lo mid s (function i) h a = ascending-from h a
   named-ascends lo mid s (parameter i) h a = above (h .0) (ascending-from (h .1) a)
   named-ascends lo mid s (thing d i) h a = ascending-from h a
@@ -104,7 +104,7 @@ module _ (same : ℕ → ℕ → Bool) (hs : List Head) where
         first-held h ∙ z
 
     says : (s : Scope) (e : Event) (ms : List Meaning) → Held means (namedAt same hs s e ++ ms) → Says means s e
-    unfolding namedAt Says
+    unfolding onName named Says
     says s (function i) ms h = tt
     says s (parameter i) ms h = first-held h
     says s (thing d i) ms h = tt

@@ -14,8 +14,8 @@ use Rattle.events.proofs.Rising.{Rising}
 use Rattle.semantics.specs.Demand.{_∈_}
 use Rattle.text_rules.specs.Scan.{scan, on, when}
 use Rattle.text_rules.specs.Rules.{Head, heads, functionOf, arityOf, wrong, miscounted, miscalls, Tally, tally, counted, over, tooMany, mostParameters, mostDeclarations}
-use Rattle.text_rules.specs.Names.{Declared, meant, inBlock, sought, unlessFound, uncalled}
-use Rattle.text_rules.specs.Scopes.{Scope, added, outer, entered, nowhere, misnamedAt, badVariablesIn, badNamesIn, meaningsIn}
+use Rattle.text_rules.specs.Names.{Declared, meant, inBlock, sought, unlessFound, misnamed, uncalled}
+use Rattle.text_rules.specs.Scopes.{Scope, added, outer, entered, nowhere, onName, misnamedAt, badVariablesIn, badNamesIn, meaningsIn}
 use Rattle.text_rules.proofs.Counts.{nil-left, nil-right, not-when, or-right, arities}
 use Rattle.text_rules.proofs.OneMeaning.{Each, done, also, Says, one-meaning}
 
@@ -172,7 +172,7 @@ module _ (same : ℕ → ℕ → Bool) (hs : List Head) (means : ℕ → ℕ) wh
 
   fits-event : (s : Scope) (c : Tally) (e : Event) → Kept s c → Says same hs means s e
       → misnamedAt same s e ≡ [] → uncalled same hs e ≡ [] → miscounted same hs e ≡ [] → over c e ≡ [] → Fits (arities hs) means s e
-  unfolding Says misnamedAt uncalled miscounted over Fits
+  unfolding Says onName misnamed uncalled miscounted over Fits
   fits-event s c (function i) k m u v w h = tt
   fits-event s c (parameter i) k m u v w h =
       let x = leb mostParameters (c .parameters) in

@@ -12,7 +12,7 @@ use Rattle.text_rules.specs.Rules.{heads}
 use Rattle.text_rules.specs.Assigned.{parameterCount}
 use Rattle.text_rules.specs.Names.{Declared, variable, many, declaredBy, earlier, parametersOf, Name, declared, used, called, names, namesOf, forNames, misnamed, badNames, badFunctions, named, Meaning, meanings}
 use Rattle.text_rules.proofs.Many.{stands, many-one, many-all}
-use Rattle.text_rules.specs.Scopes.{Scope, scope, added, outer, entered, nowhere, nameAt, misnamedAt, badNamesIn, namedAt, meaningsIn}
+use Rattle.text_rules.specs.Scopes.{Scope, scope, added, outer, entered, nowhere, onName, nameAt, badNamesIn, meaningsIn}
 
 -- ---- the scope after some events
 
@@ -31,36 +31,23 @@ after-to s xs ys e = after-append s xs ys ∙ ap (λ (r : Scope). after r ys) e
 
 -- ---- lists of names
 
--- what an event gives in a scope is what its name gives, with the blocks that are open
-pub record Agrees {X : Type 0} (at : Scope → Event → List X) (of : Name → List X) : Type 0 where
-  pub function : (s : Scope) (i : ℕ) → at s (function i) ≡ []
-  pub parameter : (s : Scope) (i : ℕ) → at s (parameter i) ≡ of (declared i (s .next) (s .blocks))
-  pub thing : (s : Scope) (d i : ℕ) → at s (thing d i) ≡ []
-  pub opens : (s : Scope) → at s opens ≡ []
-  pub closes : (s : Scope) → at s closes ≡ []
-  pub declares : (s : Scope) (i : ℕ) → at s (declares i) ≡ of (declared i (s .next) (s .blocks))
-  pub uses : (s : Scope) (i : ℕ) → at s (uses i) ≡ of (used i (s .blocks))
-  pub calls : (s : Scope) (i n : ℕ) → at s (calls i n) ≡ of (called i)
-  pub ends : (s : Scope) (i : ℕ) (b : Bool) → at s (ends i b) ≡ []
-
 module _ {X : Type 0} (of : Name → List X) where
   pub for-append : (xs ys : List Name) → forNames of (xs ++ ys) ≡ forNames of xs ++ forNames of ys
   unfolding forNames
   for-append [] ys = refl
   for-append (x ∷ xs) ys = ap (λ (l : List X). of x ++ l) (for-append xs ys) ∙ sym (append-assoc (of x) (forNames of xs) (forNames of ys))
 
-module _ {X : Type 0} (at : Scope → Event → List X) (of : Name → List X) (agrees : Agrees at of) where
-  scan-append : (s : Scope) (xs ys : List Event) → scan entered at s (xs ++ ys) ≡ scan entered at s xs ++ scan entered at (after s xs) ys
+  scan-append : (s : Scope) (xs ys : List Event) → scan entered (onName of) s (xs ++ ys) ≡ scan entered (onName of) s xs ++ scan entered (onName of) (after s xs) ys
   unfolding scan after
   scan-append s [] ys = refl
   scan-append s (x ∷ xs) ys =
-      ap (λ (l : List X). at s x ++ l) (scan-append (entered s x) xs ys)
-      ∙ sym (append-assoc (at s x) (scan entered at (entered s x) xs) (scan entered at (after (entered s x) xs) ys))
+      ap (λ (l : List X). onName of s x ++ l) (scan-append (entered s x) xs ys)
+      ∙ sym (append-assoc (onName of s x) (scan entered (onName of) (entered s x) xs) (scan entered (onName of) (after (entered s x) xs) ys))
 
   -- events from s on lead to s′ and have the names ns
   record Part (s : Scope) (es : List Event) (ns : List Name) (s′ : Scope) : Type 0 where
     leads : after s es ≡ s′
-    gives : scan entered at s es ≡ forNames of ns
+    gives : scan entered (onName of) s es ≡ forNames of ns
 
   nothing : {s : Scope} → Part s [] [] s
   unfolding after scan forNames
@@ -72,16 +59,16 @@ module _ {X : Type 0} (at : Scope → Event → List X) (of : Name → List X) (
     leads = after-to s xs ys (p .leads) ∙ q .leads;
     gives =
         scan-append s xs ys
-        ∙ ap₂ (λ (u v : List X). u ++ v) (p .gives) (ap (λ (r : Scope). scan entered at r ys) (p .leads) ∙ q .gives)
-        ∙ sym (for-append of ns ms);
+        ∙ ap₂ (λ (u v : List X). u ++ v) (p .gives) (ap (λ (r : Scope). scan entered (onName of) r ys) (p .leads) ∙ q .gives)
+        ∙ sym (for-append ns ms);
   }
 
   -- an event without a name, and one that has one, before a part
-  plain : {s s′ : Scope} {e : Event} {es : List Event} {ns : List Name} → at s e ≡ [] → Part (entered s e) es ns s′ → Part s (e ∷ es) ns s′
+  plain : {s s′ : Scope} {e : Event} {es : List Event} {ns : List Name} → onName of s e ≡ [] → Part (entered s e) es ns s′ → Part s (e ∷ es) ns s′
   unfolding after scan
-  plain {s} {e = e} {es = es} h p = record { leads = p .leads; gives = ap (λ (l : List X). l ++ scan entered at (entered s e) es) h ∙ p .gives }
+  plain {s} {e = e} {es = es} h p = record { leads = p .leads; gives = ap (λ (l : List X). l ++ scan entered (onName of) (entered s e) es) h ∙ p .gives }
 
-  names-one : {s s′ : Scope} {e : Event} {es : List Event} {x : Name} {ns : List Name} → at s e ≡ of x → Part (entered s e) es ns s′ → Part s (e ∷ es) (x ∷ ns) s′
+  names-one : {s s′ : Scope} {e : Event} {es : List Event} {x : Name} {ns : List Name} → onName of s e ≡ of x → Part (entered s e) es ns s′ → Part s (e ∷ es) (x ∷ ns) s′
   unfolding after scan forNames
   names-one h p = record { leads = p .leads; gives = ap₂ (λ (u v : List X). u ++ v) h (p .gives) }
 
@@ -119,60 +106,60 @@ module _ {X : Type 0} (at : Scope → Event → List X) (of : Name → List X) (
   -- a declaration
   declares-one : (d i j : ℕ) (b : List Declared) (bs : List (List Declared)) (n : ℕ)
       → Part (scope (b ∷ bs) n) (thing d i ∷ declares j ∷ []) (declared j n (b ∷ bs) ∷ []) (scope ((variable j n ∷ b) ∷ bs) (n + 1))
-  unfolding entered added
-  declares-one d i j b bs n = plain (agrees .thing _ d i) (names-one (agrees .declares _ j) (to (same-next _ (omega arith)) nothing))
+  unfolding onName entered added
+  declares-one d i j b bs n = plain refl (names-one refl (to (same-next _ (omega arith)) nothing))
 
   -- a block begins, and ends
   open-block : {b : List Declared} {bs : List (List Declared)} {n : ℕ} {s′ : Scope} {es : List Event} {ns : List Name}
       → Part (scope ([] ∷ b ∷ bs) n) es ns s′ → Part (scope (b ∷ bs) n) (opens ∷ es) ns s′
-  unfolding entered
-  open-block p = plain (agrees .opens _) p
+  unfolding onName entered
+  open-block p = plain refl p
 
   close-block : {s : Scope} {b c : List Declared} {bs : List (List Declared)} {n : ℕ} {es : List Event} {ns : List Name}
       → Part s es ns (scope (c ∷ b ∷ bs) n) → Part s (es ++ closes ∷ []) ns (scope (b ∷ bs) n)
-  unfolding entered outer
-  close-block p = ending (then p (plain (agrees .closes _) nothing))
+  unfolding onName entered outer
+  close-block p = ending (then p (plain refl nothing))
 
   -- a block ends, and another begins
   next-block : {s s′ : Scope} {b c : List Declared} {bs : List (List Declared)} {n : ℕ} {es fs : List Event} {ns ms : List Name}
       → Part s es ns (scope (c ∷ b ∷ bs) n) → Part (scope ([] ∷ b ∷ bs) n) fs ms s′ → Part s (es ++ closes ∷ opens ∷ fs) (ns ++ ms) s′
-  unfolding entered outer
-  next-block p q = then p (plain (agrees .closes _) (open-block q))
+  unfolding onName entered outer
+  next-block p q = then p (plain refl (open-block q))
 
   gives : {k : Sort} (d : ℕ) (b : List Declared) (bs : List (List Declared)) (n : ℕ) (t : Ast k) → Gives k d b bs n t
-  unfolding eventsAt names entered declaredBy earlier stands outer
+  unfolding onName eventsAt names entered declaredBy earlier stands outer
   gives d b bs n (A.number i) = nothing
   gives d b bs n (A.negative i) = nothing
-  gives d b bs n (A.name i) = names-one (agrees .uses _ i) nothing
-  gives d b bs n (A.call i a) = names-one (agrees .calls _ i (count a)) (gives (suc d) b bs n a)
-  gives d b bs n (A.bracket i e) = plain (agrees .thing _ (suc d) (first e)) (gives (suc d) b bs n e)
+  gives d b bs n (A.name i) = names-one refl nothing
+  gives d b bs n (A.call i a) = names-one refl (gives (suc d) b bs n a)
+  gives d b bs n (A.bracket i e) = plain refl (gives (suc d) b bs n e)
   gives d b bs n (A.times x y) = then (gives d b bs n x) (gives d b bs n y)
   gives d b bs n (A.plus x y) = then (gives d b bs n x) (gives d b bs n y)
   gives d b bs n (A.minus x y) = then (gives d b bs n x) (gives d b bs n y)
   gives d b bs n A.noArgs = nothing
-  gives d b bs n (A.moreArgs l e) = then (gives d b bs n l) (plain (agrees .thing _ d (first e)) (gives d b bs n e))
+  gives d b bs n (A.moreArgs l e) = then (gives d b bs n l) (plain refl (gives d b bs n e))
   gives d b bs n (A.cmpMark o) = tt
   gives d b bs n A.always = nothing
   gives d b bs n A.never = nothing
   gives d b bs n (A.compare x o y) = then (gives d b bs n x) (gives d b bs n y)
   gives d b bs n (A.both x y) = then (gives d b bs n x) (gives d b bs n y)
   gives d b bs n (A.either x y) = then (gives d b bs n x) (gives d b bs n y)
-  gives d b bs n (A.empty i) = still (plain (agrees .thing _ d i) nothing)
+  gives d b bs n (A.empty i) = still (plain refl nothing)
   gives d b bs n (A.declare i) = declares-one d i (i + 1) b bs n
   gives d b bs n (A.declareFree i) = declares-one d i (i + 1) b bs n
   gives d b bs n (A.declareOwn i x y) = declares-one d i (i + 1) b bs n
-  gives d b bs n (A.assign i e) = still (plain (agrees .thing _ d i) (names-one (agrees .uses _ i) (gives d b bs n e)))
-  gives d b bs n (A.eval e) = still (plain (agrees .thing _ d (first e)) (gives d b bs n e))
-  gives d b bs n (A.block i l) = plain (agrees .thing _ d i) (gives (suc d) b bs n l)
+  gives d b bs n (A.assign i e) = still (plain refl (names-one refl (gives d b bs n e)))
+  gives d b bs n (A.eval e) = still (plain refl (gives d b bs n e))
+  gives d b bs n (A.block i l) = plain refl (gives (suc d) b bs n l)
   gives d b bs n (A.ifElse i c s t) =
       to (same-next (b ∷ bs) (omega (arith, many-one s)))
       (close-block
       (next-block
-      (to (same-next _ (omega (arith, many-one s))) (then (plain (agrees .thing _ d i) (gives d b bs n c)) (open-block (gives (suc d) [] (b ∷ bs) n s))))
+      (to (same-next _ (omega (arith, many-one s))) (then (plain refl (gives d b bs n c)) (open-block (gives (suc d) [] (b ∷ bs) n s))))
       (gives (suc d) [] (b ∷ bs) (n + many s) t)))
-  gives d b bs n (A.while i c s) = close-block (then (plain (agrees .thing _ d i) (gives d b bs n c)) (open-block (gives (suc d) [] (b ∷ bs) n s)))
-  gives d b bs n (A.return i e) = still (plain (agrees .thing _ d i) (gives d b bs n e))
-  gives d b bs n (A.fail i) = still (plain (agrees .thing _ d i) nothing)
+  gives d b bs n (A.while i c s) = close-block (then (plain refl (gives d b bs n c)) (open-block (gives (suc d) [] (b ∷ bs) n s)))
+  gives d b bs n (A.return i e) = still (plain refl (gives d b bs n e))
+  gives d b bs n (A.fail i) = still (plain refl nothing)
   gives d b bs n A.noStmts = still nothing
   gives d b bs n (A.moreStmts l s) =
       to (ap₂ (λ (x : List Declared) (m : ℕ). scope (x ∷ bs) m) (sym (append-assoc (declaredBy (n + many l) s) (earlier n l) b)) (omega (arith, many-all l)))
@@ -187,28 +174,28 @@ module _ {X : Type 0} (at : Scope → Event → List X) (of : Name → List X) (
   -- ---- a function, and a program
 
   starts : (d : ℕ) (b : List Declared) (bs : List (List Declared)) (n : ℕ) (q : Ast params) → Part (scope ([] ∷ []) 0) (eventsAt d q) (names b bs n q) (scope (parametersOf q ∷ []) (parameterCount q))
-  unfolding eventsAt names entered added parametersOf parameterCount
+  unfolding onName eventsAt names entered added parametersOf parameterCount
   starts d b bs n A.noParams = nothing
-  starts d b bs n (A.moreParams l i) = then (starts d b bs n l) (names-one (agrees .parameter _ i) nothing)
+  starts d b bs n (A.moreParams l i) = then (starts d b bs n l) (names-one refl nothing)
 
-  function-gives : (d : ℕ) (s : Scope) (f : Ast fun) → scan entered at s (eventsAt d f) ≡ forNames of (names [] [] 0 f)
-  unfolding eventsAt names entered
+  function-gives : (d : ℕ) (s : Scope) (f : Ast fun) → scan entered (onName of) s (eventsAt d f) ≡ forNames of (names [] [] 0 f)
+  unfolding onName eventsAt names entered
   function-gives d s (A.function i q l) =
       ending
       (then
-      (then (plain (agrees .function s i) (starts d [] [] 0 q)) (gives d (parametersOf q) [] (parameterCount q) l))
-      (plain (agrees .ends _ (closing l) (not (stops l))) nothing))
+      (then (plain refl (starts d [] [] 0 q)) (gives d (parametersOf q) [] (parameterCount q) l))
+      (plain refl nothing))
       .gives
 
-  program-gives : (d : ℕ) (s : Scope) (p : Ast prog) → scan entered at s (eventsAt d p) ≡ forNames of (names [] [] 0 p)
+  program-gives : (d : ℕ) (s : Scope) (p : Ast prog) → scan entered (onName of) s (eventsAt d p) ≡ forNames of (names [] [] 0 p)
   unfolding eventsAt names scan forNames
   program-gives d s A.noFuns = refl
   program-gives d s (A.moreFuns p f) =
       scan-append s (eventsAt d p) (eventsAt d f)
       ∙ ap₂ (λ (u v : List X). u ++ v) (program-gives d s p) (function-gives d (after s (eventsAt d p)) f)
-      ∙ sym (for-append of (names [] [] 0 p) (names [] [] 0 f))
+      ∙ sym (for-append (names [] [] 0 p) (names [] [] 0 f))
 
-  pub text-gives : (p : Ast prog) → scan entered at nowhere (events p) ≡ forNames of (namesOf p)
+  pub text-gives : (p : Ast prog) → scan entered (onName of) nowhere (events p) ≡ forNames of (namesOf p)
   unfolding events
   text-gives p = program-gives 1 nowhere p
 
@@ -221,56 +208,13 @@ for-itself (x ∷ xs) = ap (λ (l : List Name). x ∷ l) (for-itself xs)
 
 -- at each name of a text, in its order, the blocks that are open are those that hold the name, with the declarations that stand earlier in them
 pub handed : (p : Ast prog) → scan entered nameAt nowhere (events p) ≡ namesOf p
-unfolding nameAt
-handed p =
-    text-gives nameAt (λ (x : Name). x ∷ [])
-    (record {
-      function = λ s i. refl;
-      parameter = λ s i. refl;
-      thing = λ s d i. refl;
-      opens = λ s. refl;
-      closes = λ s. refl;
-      declares = λ s i. refl;
-      uses = λ s i. refl;
-      calls = λ s i n. refl;
-      ends = λ s i b. refl;
-    })
-    p
-    ∙ for-itself (namesOf p)
+handed p = text-gives (λ (x : Name). x ∷ []) p ∙ for-itself (namesOf p)
 
 -- ---- rule 6, and what names mean
 
 module _ (same : ℕ → ℕ → Bool) where
-  bad-agrees : Agrees (misnamedAt same) (misnamed same)
-  unfolding misnamedAt misnamed
-  bad-agrees = record {
-    function = λ s i. refl;
-    parameter = λ s i. refl;
-    thing = λ s d i. refl;
-    opens = λ s. refl;
-    closes = λ s. refl;
-    declares = λ s i. refl;
-    uses = λ s i. refl;
-    calls = λ s i n. refl;
-    ends = λ s i b. refl;
-  }
-
   pub bad-names : (p : Ast prog) → badNamesIn same (events p) ≡ badNames same p
-  bad-names p = ap (λ (l : List ℕ). l ++ badFunctions same (events p)) (text-gives (misnamedAt same) (misnamed same) bad-agrees p)
+  bad-names p = ap (λ (l : List ℕ). l ++ badFunctions same (events p)) (text-gives (misnamed same) p)
 
   pub meanings-are : (p : Ast prog) → meaningsIn same (events p) ≡ meanings same p
-  unfolding namedAt named
-  meanings-are p =
-      text-gives (namedAt same (heads (events p))) (named same (heads (events p)))
-      (record {
-        function = λ s i. refl;
-        parameter = λ s i. refl;
-        thing = λ s d i. refl;
-        opens = λ s. refl;
-        closes = λ s. refl;
-        declares = λ s i. refl;
-        uses = λ s i. refl;
-        calls = λ s i n. refl;
-        ends = λ s i b. refl;
-      })
-      p
+  meanings-are p = text-gives (named same (heads (events p))) p

@@ -4,8 +4,8 @@ use mathlib.Core.Bool.{Bool}
 use mathlib.Core.List.{List, [], _∷_, _++_}
 use Rattle.events.specs.Event.{Event, function, parameter, thing, opens, closes, declares, uses, calls, ends}
 use Rattle.text_rules.specs.Scan.{scan}
-use Rattle.text_rules.specs.Rules.{Head, heads, functionOf}
-use Rattle.text_rules.specs.Names.{Declared, variable, Name, declared, used, called, Meaning, meaning, asFound, ifFound, unlessFound, sought, badFunctions}
+use Rattle.text_rules.specs.Rules.{Head, heads}
+use Rattle.text_rules.specs.Names.{Declared, variable, Name, declared, used, called, misnamed, badFunctions, Meaning, named}
 
 -- the blocks that are open, the innermost first, with the declarations of each so far, the newest first; and the number of the next declaration
 pub record Scope : Type 0 where
@@ -38,42 +38,30 @@ entered s (ends i b) = s
 abbrev pub nowhere : Scope
 nowhere = scope [] 0
 
--- the name that an event has, with the blocks that are open: what is looked up there, and among what
-unfoldable pub nameAt : Scope → Event → List Name
-nameAt s (function i) = []
-nameAt s (parameter i) = declared i (s .next) (s .blocks) ∷ []
-nameAt s (thing d i) = []
-nameAt s opens = []
-nameAt s closes = []
-nameAt s (declares i) = declared i (s .next) (s .blocks) ∷ []
-nameAt s (uses i) = used i (s .blocks) ∷ []
-nameAt s (calls i n) = called i ∷ []
-nameAt s (ends i b) = []
+-- what the name of an event gives, where it has one, with the blocks that are open: what is looked up there, and among what
+unfoldable pub onName : {X : Type 0} → (Name → List X) → Scope → Event → List X
+onName f s (function i) = []
+onName f s (parameter i) = f (declared i (s .next) (s .blocks))
+onName f s (thing d i) = []
+onName f s opens = []
+onName f s closes = []
+onName f s (declares i) = f (declared i (s .next) (s .blocks))
+onName f s (uses i) = f (used i (s .blocks))
+onName f s (calls i n) = f (called i)
+onName f s (ends i b) = []
+
+-- the name itself
+abbrev pub nameAt : Scope → Event → List Name
+nameAt s e = onName (λ (x : Name). x ∷ []) s e
 
 -- `same i j`: the tokens i and j spell the same name
 module _ (same : ℕ → ℕ → Bool) where
   -- where an event breaks rule 6 for variables, and what its name means
-  unfoldable pub misnamedAt : Scope → Event → List ℕ
-  misnamedAt s (function i) = []
-  misnamedAt s (parameter i) = ifFound (sought same (s .blocks) i) i
-  misnamedAt s (thing d i) = []
-  misnamedAt s opens = []
-  misnamedAt s closes = []
-  misnamedAt s (declares i) = ifFound (sought same (s .blocks) i) i
-  misnamedAt s (uses i) = unlessFound (sought same (s .blocks) i) i
-  misnamedAt s (calls i n) = []
-  misnamedAt s (ends i b) = []
+  abbrev pub misnamedAt : Scope → Event → List ℕ
+  misnamedAt s e = onName (misnamed same) s e
 
-  unfoldable pub namedAt : List Head → Scope → Event → List Meaning
-  namedAt hs s (function i) = []
-  namedAt hs s (parameter i) = meaning i (s .next) ∷ []
-  namedAt hs s (thing d i) = []
-  namedAt hs s opens = []
-  namedAt hs s closes = []
-  namedAt hs s (declares i) = meaning i (s .next) ∷ []
-  namedAt hs s (uses i) = asFound (sought same (s .blocks) i) i
-  namedAt hs s (calls i n) = asFound (functionOf same hs i) i
-  namedAt hs s (ends i b) = []
+  abbrev pub namedAt : List Head → Scope → Event → List Meaning
+  namedAt hs s e = onName (named same hs) s e
 
   -- rule 6 over all events, and what their names mean
   abbrev pub badVariablesIn : List Event → List ℕ

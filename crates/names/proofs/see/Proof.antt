@@ -8,8 +8,8 @@ use Rattle.events.specs.declared.event.Event.{Event}
 use Rattle.events.specs.declared.event.Event.the-variants.{Function, Parameter, Thing, Opens, Closes, Declares, Uses, Calls, Ends}
 use Rattle.events.specs.Read.{asEvent}
 use Rattle.text_rules.specs.Rules.{Head}
-use Rattle.text_rules.specs.Names.{uncalled}
-use Rattle.text_rules.specs.Scopes.{Scope, misnamedAt, namedAt}
+use Rattle.text_rules.specs.Names.{misnamed, uncalled, named}
+use Rattle.text_rules.specs.Scopes.{Scope, onName, namedAt}
 use Rattle.text_rules.specs.Spelling.{sameName}
 use Rattle.names.specs.Steps.{wrong}
 use Rattle.names.proofs.Seeing.{with-nothing, nothing}
@@ -22,7 +22,7 @@ others = 0 ∷ 2 ∷ 3 ∷ 4 ∷ 8 ∷ []
 
 module _ (same : ℕ → ℕ → Bool) (hs : List Head) (s : Scope) where
   other : (x : Event) → OneOf others (number x) → (wrong same hs s (asEvent x) ≡ []) × (namedAt same hs s (asEvent x) ≡ [])
-  unfolding misnamedAt uncalled namedAt
+  unfolding onName misnamed uncalled named
   other (Function i) h = (refl, refl)
   other (Parameter i) h = absurd (not-one 1 others refl h)
   other (Thing d i) h = (refl, refl)
@@ -61,28 +61,28 @@ same-length : tie.Need-same-length
 same-length c = search needs
 
 returns : tie.Need-returns
-unfolding misnamedAt uncalled namedAt
+unfolding onName misnamed uncalled named
 returns c = rw (c .before .before .before .before .before .event .given .1) (with-nothing (c .before .before .see-declaration .ensures))
 
 same-length-2 : tie.Need-same-length-2
 same-length-2 c = search needs
 
 returns-2 : tie.Need-returns-2
-unfolding misnamedAt uncalled namedAt
+unfolding onName misnamed uncalled named
 returns-2 c = rw (c .before .before .before .before .before .event2 .given .1) (with-nothing (c .before .before .see-declaration2 .ensures))
 
 same-length-3 : tie.Need-same-length-3
 same-length-3 c = search needs
 
 returns-3 : tie.Need-returns-3
-unfolding misnamedAt uncalled namedAt
+unfolding onName misnamed uncalled named
 returns-3 c = rw (c .before .before .before .before .before .event3 .given .1) (with-nothing (c .before .before .see-variable .ensures))
 
 same-length-4 : tie.Need-same-length-4
 same-length-4 c = search needs
 
 returns-4 : tie.Need-returns-4
-unfolding misnamedAt uncalled namedAt
+unfolding onName misnamed uncalled named
 returns-4 c = rw (c .before .before .before .before .before .event4 .given .1) (c .before .before .see-call .ensures)
 
 returns-5 : tie.Need-returns-5
