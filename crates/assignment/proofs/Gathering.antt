@@ -39,7 +39,7 @@ module _ (means : ℕ → ℕ) where
   after-set v (A.name i) = refl
   after-set v (A.call i a) = refl
   after-set v (A.bracket i e) = refl
-  after-set v (A.times x y) = refl
+  after-set v (A.times o x y) = refl
   after-set v (A.plus x y) = refl
   after-set v (A.minus x y) = refl
   after-set v A.noArgs = refl
@@ -111,7 +111,7 @@ module _ (means : ℕ → ℕ) where
     group-unset (A.name i) h f = one i f
     group-unset (A.call i a) h f = group-unset a (omega arith) f
     group-unset (A.bracket i e) h f = group-unset e (omega arith) f
-    group-unset (A.times x y) h f = joined (unset means x f) (unset means y f) (group-unset x (omega arith) f) (group-unset y (omega arith) f)
+    group-unset (A.times o x y) h f = joined (unset means x f) (unset means y f) (group-unset x (omega arith) f) (group-unset y (omega arith) f)
     group-unset (A.plus x y) h f = joined (unset means x f) (unset means y f) (group-unset x (omega arith) f) (group-unset y (omega arith) f)
     group-unset (A.minus x y) h f = joined (unset means x f) (unset means y f) (group-unset x (omega arith) f) (group-unset y (omega arith) f)
     group-unset A.noArgs h f = refl

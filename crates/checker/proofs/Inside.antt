@@ -220,7 +220,7 @@ module _ (m : ℕ) where
   low-unset means (A.name i) set h = low-unread (set (means i)) h
   low-unset means (A.call i a) set h = low-unset means a _ (h .1)
   low-unset means (A.bracket i e) set h = low-unset means e _ (h .1)
-  low-unset means (A.times x y) set h = low-append (low-unset means x _ (h .0)) (low-unset means y _ (h .1))
+  low-unset means (A.times o x y) set h = low-append (low-unset means x _ (h .0)) (low-unset means y _ (h .1))
   low-unset means (A.plus x y) set h = low-append (low-unset means x _ (h .0)) (low-unset means y _ (h .1))
   low-unset means (A.minus x y) set h = low-append (low-unset means x _ (h .0)) (low-unset means y _ (h .1))
   low-unset means A.noArgs set h = nil
@@ -286,7 +286,7 @@ module _ (m : ℕ) where
   low-owns (A.name i) h = no-owns
   low-owns (A.call i a) h = no-owns
   low-owns (A.bracket i e) h = no-owns
-  low-owns (A.times x y) h = no-owns
+  low-owns (A.times o x y) h = no-owns
   low-owns (A.plus x y) h = no-owns
   low-owns (A.minus x y) h = no-owns
   low-owns A.noArgs h = no-owns

@@ -10,11 +10,11 @@ use lib.Dec.{T}
 use lib.Signed.{leZ}
 use Rattle.syntax.specs.Ast.{Sort, Ast, prog, lowFirst, lowNumber, highNumber}
 use Rattle.syntax.specs.Ast as A
-use Rattle.semantics.specs.Int.{add, sub, mul}
+use Rattle.semantics.specs.Int.{add, sub}
 use Rattle.semantics.specs.Program as P
 use Rattle.semantics.specs.Program.{Expr, Exprs, Cond, Stmt, Stmts, slot}
 use Rattle.text_rules.specs.Own.{signed, pairAt}
-use Rattle.text_rules.specs.Resolve.{Part, part, comparison}
+use Rattle.text_rules.specs.Resolve.{Part, part, multiplied, comparison}
 use Rattle.compiler.specs.Sound.{Sound}
 use Rattle.events.specs.Walk.{Below}
 
@@ -47,7 +47,7 @@ module _ (m : ℕ) (value means value′ means′ : ℕ → ℕ) (v : Agree m va
   sound-same (A.name i) h = (h .0, omega (arith, h .1, n .at (i) (h .0)))
   sound-same (A.call i a) h = (h .0, omega (arith, h .1, n .at (i) (h .0)), h .2, sound-same a (h .3))
   sound-same (A.bracket i e) h = sound-same e h
-  sound-same (A.times a b) h = (sound-same a (h .0), sound-same b (h .1))
+  sound-same (A.times o a b) h = (sound-same a (h .0), sound-same b (h .1))
   sound-same (A.plus a b) h = (sound-same a (h .0), sound-same b (h .1))
   sound-same (A.minus a b) h = (sound-same a (h .0), sound-same b (h .1))
   sound-same A.noArgs h = tt
@@ -88,7 +88,7 @@ module _ (m : ℕ) (value means value′ means′ : ℕ → ℕ) (v : Agree m va
   part-same (A.name i) w = ap (λ (k : ℕ). P.name (slot k)) (n .at i w)
   part-same (A.call i a) w = ap₂ (λ (k : ℕ) (es : Exprs). P.call k es) (n .at i (w .0)) (part-same a (w .1) P.none)
   part-same (A.bracket i e) w = part-same e (w .1)
-  part-same (A.times a b) w = ap₂ (λ (x y : Expr). P.op mul x y) (part-same a (w .0)) (part-same b (w .1))
+  part-same (A.times o a b) w = ap₂ (λ (x y : Expr). P.op (multiplied o) x y) (part-same a (w .0)) (part-same b (w .1))
   part-same (A.plus a b) w = ap₂ (λ (x y : Expr). P.op add x y) (part-same a (w .0)) (part-same b (w .1))
   part-same (A.minus a b) w = ap₂ (λ (x y : Expr). P.op sub x y) (part-same a (w .0)) (part-same b (w .1))
   part-same A.noArgs w = λ es. refl

@@ -74,7 +74,7 @@ module _ (means : ℕ → ℕ) where
     sound d (A.name i) w h y = (w, h .0)
     sound d (A.call i a) w h y = (w .0, h .0 .0, h .0 .1, sound (suc d) a (w .1) (h .1) tt)
     sound d (A.bracket i e) w h y = sound (suc d) e (w .1) (h .1) tt
-    sound d (A.times a b) w h y = (sound d a (w .0) (front (eventsAt d a) (eventsAt d b) h) tt, sound d b (w .1) (back (eventsAt d a) (eventsAt d b) h) tt)
+    sound d (A.times o a b) w h y = (sound d a (w .0) (front (eventsAt d a) (eventsAt d b) h) tt, sound d b (w .1) (back (eventsAt d a) (eventsAt d b) h) tt)
     sound d (A.plus a b) w h y = (sound d a (w .0) (front (eventsAt d a) (eventsAt d b) h) tt, sound d b (w .1) (back (eventsAt d a) (eventsAt d b) h) tt)
     sound d (A.minus a b) w h y = (sound d a (w .0) (front (eventsAt d a) (eventsAt d b) h) tt, sound d b (w .1) (back (eventsAt d a) (eventsAt d b) h) tt)
     sound d A.noArgs w h y = tt

@@ -3,7 +3,7 @@ use Prim.Native.Nat.{ℕ, _+_, _≤_}
 use mathlib.Core.Bool.{true, false}
 use mathlib.Core.List.{List, [], _∷_}
 use native.Mathlib.Omega.{arith}
-use Rattle.syntax.specs.Token.{kMinus, kClose, kComma, kTimes, kPlus, kAnd, kOr, kSemi, kLbrace, kRbrace, kElse}
+use Rattle.syntax.specs.Token.{kMinus, kClose, kComma, kPlus, kAnd, kOr, kSemi, kLbrace, kRbrace, kElse}
 use Rattle.syntax.specs.Tree.{Cat, Tree, onto, width}
 use Rattle.syntax.specs.Tree as T
 use Rattle.syntax.specs.Abstract.{ast, sortOf}
@@ -49,7 +49,7 @@ module _ (value means : ℕ → ℕ) where
   short (T.firstArg e) = λ es. omega (arith, short e)
   short (T.nextArg l e) = λ es. omega (arith, short l (Exprs.more (part value means (ast e)) es), short e, onto-length l (kComma ∷ onto e []))
   short (T.factor o) = short o
-  short (T.times t o) = omega (arith, short t, short o, onto-length t (kTimes ∷ onto o []))
+  short (T.times m t o) = omega (arith, short t, short o, onto-length t (T.mulKind m ∷ onto o []))
   short (T.addend t) = short t
   short (T.plus s t) = omega (arith, short s, short t, onto-length s (kPlus ∷ onto t []))
   short (T.minus s t) = omega (arith, short s, short t, onto-length s (kMinus ∷ onto t []))

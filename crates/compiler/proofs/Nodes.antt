@@ -209,7 +209,7 @@ module _ (value means : ℕ → ℕ) (m : ℕ) where
 
   operated-at : {l : List ℕ} {s : Sort} {i k : ℕ} {n : Node} {t : Ast s} → Operation k → Fetched l i n → At l s i k t → Operated l i (n .first) (n .second) k (n .third) t
   unfolding part codeE codeC Sound kindOf wordOf operationOf
-  operated-at times f (at-times {x = x} {y = y} r p q c e) = record {
+  operated-at times f (at-times {o = T.product} {x = x} {y = y} r p q c e) = record {
     s₁ = expr;
     s₂ = expr;
     same = refl;

@@ -79,7 +79,7 @@ module _ (m : ℕ) (value means : ℕ → ℕ) where
   fits (A.name i) h = h .1
   fits (A.call i a) h = (h .1, fits a (h .3) Exprs.none tt)
   fits (A.bracket i e) h = fits e h
-  fits (A.times a b) h = (fits a (h .0), fits b (h .1))
+  fits (A.times o a b) h = (fits a (h .0), fits b (h .1))
   fits (A.plus a b) h = (fits a (h .0), fits b (h .1))
   fits (A.minus a b) h = (fits a (h .0), fits b (h .1))
   fits A.noArgs h = λ es k. k

@@ -5,7 +5,7 @@ use mathlib.Core.Bool.{true, false, not}
 use mathlib.Core.List.{List, [], _∷_, _++_}
 use native.Mathlib.Omega.{arith}
 use lib.ListN.{length, length-append}
-use Rattle.syntax.specs.Token.{kMinus, kName, kClose, kComma, kTimes, kPlus, kAnd, kOr, kSemi, kInt, kLbrace, kRbrace, kElse}
+use Rattle.syntax.specs.Token.{kMinus, kName, kClose, kComma, kPlus, kAnd, kOr, kSemi, kInt, kLbrace, kRbrace, kElse}
 use Rattle.syntax.specs.Tree.{Cat, Tree, onto, width}
 use Rattle.syntax.specs.Tree as T
 use Rattle.syntax.specs.Abstract.{ast}
@@ -49,7 +49,7 @@ fits d (T.someArgs l) ks = omega (arith, fits d l (kClose ∷ ks))
 fits d (T.firstArg e) ks = omega (arith, fits d e ks)
 fits d (T.nextArg l e) ks = omega (arith, fits d l (kComma ∷ onto e ks), fits d e ks, length-append (eventsAt d (ast l)) (thing d (first (ast e)) ∷ eventsAt d (ast e)))
 fits d (T.factor o) ks = omega (arith, fits d o ks)
-fits d (T.times t o) ks = omega (arith, fits d t (kTimes ∷ onto o ks), fits d o ks, length-append (eventsAt d (ast t)) (eventsAt d (ast o)))
+fits d (T.times m t o) ks = omega (arith, fits d t (T.mulKind m ∷ onto o ks), fits d o ks, length-append (eventsAt d (ast t)) (eventsAt d (ast o)))
 fits d (T.addend t) ks = omega (arith, fits d t ks)
 fits d (T.plus s t) ks = omega (arith, fits d s (kPlus ∷ onto t ks), fits d t ks, length-append (eventsAt d (ast s)) (eventsAt d (ast t)))
 fits d (T.minus s t) ks = omega (arith, fits d s (kMinus ∷ onto t ks), fits d t ks, length-append (eventsAt d (ast s)) (eventsAt d (ast t)))

@@ -112,7 +112,7 @@ first-below m (A.negative i) b = omega (arith, b)
 first-below m (A.name i) b = b
 first-below m (A.call i a) b = b .0
 first-below m (A.bracket i e) b = b .0
-first-below m (A.times x y) b = first-below m x (b .0)
+first-below m (A.times o x y) b = first-below m x (b .0)
 first-below m (A.plus x y) b = first-below m x (b .0)
 first-below m (A.minus x y) b = first-below m x (b .0)
 

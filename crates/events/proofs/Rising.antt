@@ -3,7 +3,7 @@ use Prim.Native.Nat.{ℕ, suc, _+_, _≤_, _<_}
 use mathlib.Core.Path.{_≡_, sym, subst}
 use mathlib.Core.List.{List, [], _∷_, _++_}
 use native.Mathlib.Omega.{arith}
-use Rattle.syntax.specs.Token.{kMinus, kName, kClose, kComma, kTimes, kPlus, kAnd, kOr, kSemi, kInt, kLbrace, kRbrace, kElse}
+use Rattle.syntax.specs.Token.{kMinus, kName, kClose, kComma, kPlus, kAnd, kOr, kSemi, kInt, kLbrace, kRbrace, kElse}
 use Rattle.syntax.specs.Tree.{Cat, Tree, onto, width, numbered}
 use Rattle.syntax.specs.Tree as T
 use Rattle.syntax.specs.Abstract.{ast}
@@ -72,7 +72,7 @@ names-rise d p hi (T.nextArg l e) h =
     let q = p + width l + 1 in
     then (names-rise d p q l (omega arith)) (more q q _ (still q) (names-rise d q hi e (omega (arith, onto-length l (kComma ∷ onto e []), onto-length e []))))
 names-rise d p hi (T.factor o) h = names-rise d p hi o (omega (arith, onto-length o []))
-names-rise d p hi (T.times t o) h = then (names-rise d p (p + width t + 1) t (omega arith)) (names-rise d (p + width t + 1) hi o (omega (arith, onto-length t (kTimes ∷ onto o []), onto-length o [])))
+names-rise d p hi (T.times m t o) h = then (names-rise d p (p + width t + 1) t (omega arith)) (names-rise d (p + width t + 1) hi o (omega (arith, onto-length t (T.mulKind m ∷ onto o []), onto-length o [])))
 names-rise d p hi (T.addend t) h = names-rise d p hi t (omega (arith, onto-length t []))
 names-rise d p hi (T.plus s t) h = then (names-rise d p (p + width s + 1) s (omega arith)) (names-rise d (p + width s + 1) hi t (omega (arith, onto-length s (kPlus ∷ onto t []), onto-length t [])))
 names-rise d p hi (T.minus s t) h = then (names-rise d p (p + width s + 1) s (omega arith)) (names-rise d (p + width s + 1) hi t (omega (arith, onto-length s (kMinus ∷ onto t []), onto-length t [])))

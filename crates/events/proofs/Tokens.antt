@@ -4,7 +4,7 @@ use mathlib.Core.Path.{_≡_, refl}
 use mathlib.Core.Bool.{true, false}
 use mathlib.Core.List.{List, [], _∷_, _++_}
 use native.Mathlib.Omega.{arith}
-use Rattle.syntax.specs.Token.{kMinus, kName, kClose, kComma, kTimes, kPlus, kAnd, kOr, kSemi, kInt, kLbrace, kRbrace, kElse}
+use Rattle.syntax.specs.Token.{kMinus, kName, kClose, kComma, kPlus, kAnd, kOr, kSemi, kInt, kLbrace, kRbrace, kElse}
 use Rattle.syntax.specs.Tree.{Cat, Tree, onto, width, numbered}
 use Rattle.syntax.specs.Tree as T
 use Rattle.syntax.specs.Ast.{Sort, Ast}
@@ -34,7 +34,7 @@ numbered-below p m (T.someArgs l) h = numbered-below p m l (omega (arith, h, ont
 numbered-below p m (T.firstArg e) h = (tt, numbered-below p m e (omega (arith, h, onto-length e [])))
 numbered-below p m (T.nextArg l e) h = (numbered-below p m l (omega (arith, h, onto-length l (kComma ∷ onto e []), onto-length e [])), numbered-below (p + width l + 1) m e (omega (arith, h, onto-length l (kComma ∷ onto e []), onto-length e [])))
 numbered-below p m (T.factor o) h = numbered-below p m o (omega (arith, h, onto-length o []))
-numbered-below p m (T.times t o) h = (numbered-below p m t (omega (arith, h, onto-length t (kTimes ∷ onto o []), onto-length o [])), numbered-below (p + width t + 1) m o (omega (arith, h, onto-length t (kTimes ∷ onto o []), onto-length o [])))
+numbered-below p m (T.times u t o) h = (numbered-below p m t (omega (arith, h, onto-length t (T.mulKind u ∷ onto o []), onto-length o [])), numbered-below (p + width t + 1) m o (omega (arith, h, onto-length t (T.mulKind u ∷ onto o []), onto-length o [])))
 numbered-below p m (T.addend t) h = numbered-below p m t (omega (arith, h, onto-length t []))
 numbered-below p m (T.plus s t) h = (numbered-below p m s (omega (arith, h, onto-length s (kPlus ∷ onto t []), onto-length t [])), numbered-below (p + width s + 1) m t (omega (arith, h, onto-length s (kPlus ∷ onto t []), onto-length t [])))
 numbered-below p m (T.minus s t) h = (numbered-below p m s (omega (arith, h, onto-length s (kMinus ∷ onto t []), onto-length t [])), numbered-below (p + width s + 1) m t (omega (arith, h, onto-length s (kMinus ∷ onto t []), onto-length t [])))
@@ -104,7 +104,7 @@ events-within m d (A.negative i) b = none
 events-within m d (A.name i) b = more b none
 events-within m d (A.call i a) b = more (b .0) (events-within m (suc d) a (b .1))
 events-within m d (A.bracket i e) b = more (first-below m e (b .1)) (events-within m (suc d) e (b .1))
-events-within m d (A.times x y) b = each-append (events-within m d x (b .0)) (events-within m d y (b .1))
+events-within m d (A.times o x y) b = each-append (events-within m d x (b .0)) (events-within m d y (b .1))
 events-within m d (A.plus x y) b = each-append (events-within m d x (b .0)) (events-within m d y (b .1))
 events-within m d (A.minus x y) b = each-append (events-within m d x (b .0)) (events-within m d y (b .1))
 events-within m d A.noArgs b = none

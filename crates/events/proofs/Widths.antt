@@ -5,7 +5,7 @@ use mathlib.Core.Bool.{true, false}
 use mathlib.Core.List.{List, [], _∷_}
 use native.Mathlib.Omega.{arith}
 use lib.ListN.{length}
-use Rattle.syntax.specs.Token.{kMinus, kName, kOpen, kClose, kComma, kTimes, kPlus, kAnd, kOr, kSemi, kInt, kAssign, kLbrace, kRbrace, kIf, kElse, kWhile, kReturn}
+use Rattle.syntax.specs.Token.{kMinus, kName, kOpen, kClose, kComma, kPlus, kAnd, kOr, kSemi, kInt, kAssign, kLbrace, kRbrace, kIf, kElse, kWhile, kReturn}
 use Rattle.syntax.specs.Tree.{Cat, Tree, onto, width, numbered}
 use Rattle.syntax.specs.Tree as T
 
@@ -22,7 +22,7 @@ onto-length (T.someArgs l) ks = omega (arith, onto-length l (kClose ∷ ks), ont
 onto-length (T.firstArg e) ks = omega (arith, onto-length e ks, onto-length e [])
 onto-length (T.nextArg l e) ks = omega (arith, onto-length l (kComma ∷ onto e ks), onto-length e ks, onto-length l (kComma ∷ onto e []), onto-length e [])
 onto-length (T.factor o) ks = omega (arith, onto-length o ks, onto-length o [])
-onto-length (T.times t o) ks = omega (arith, onto-length t (kTimes ∷ onto o ks), onto-length o ks, onto-length t (kTimes ∷ onto o []), onto-length o [])
+onto-length (T.times m t o) ks = omega (arith, onto-length t (T.mulKind m ∷ onto o ks), onto-length o ks, onto-length t (T.mulKind m ∷ onto o []), onto-length o [])
 onto-length (T.addend t) ks = omega (arith, onto-length t ks, onto-length t [])
 onto-length (T.plus s t) ks = omega (arith, onto-length s (kPlus ∷ onto t ks), onto-length t ks, onto-length s (kPlus ∷ onto t []), onto-length t [])
 onto-length (T.minus s t) ks = omega (arith, onto-length s (kMinus ∷ onto t ks), onto-length t ks, onto-length s (kMinus ∷ onto t []), onto-length t [])
@@ -72,7 +72,7 @@ onto-numbered p (T.someArgs l) ks = onto-numbered p l (kClose ∷ ks)
 onto-numbered p (T.firstArg e) ks = onto-numbered p e ks
 onto-numbered p (T.nextArg l e) ks = onto-numbered p l (kComma ∷ onto (numbered (p + width l + 1) e) ks) ∙ ap (λ (x : List ℕ). onto l (kComma ∷ x)) (onto-numbered (p + width l + 1) e ks)
 onto-numbered p (T.factor o) ks = onto-numbered p o ks
-onto-numbered p (T.times t o) ks = onto-numbered p t (kTimes ∷ onto (numbered (p + width t + 1) o) ks) ∙ ap (λ (x : List ℕ). onto t (kTimes ∷ x)) (onto-numbered (p + width t + 1) o ks)
+onto-numbered p (T.times m t o) ks = onto-numbered p t (T.mulKind m ∷ onto (numbered (p + width t + 1) o) ks) ∙ ap (λ (x : List ℕ). onto t (T.mulKind m ∷ x)) (onto-numbered (p + width t + 1) o ks)
 onto-numbered p (T.addend t) ks = onto-numbered p t ks
 onto-numbered p (T.plus s t) ks = onto-numbered p s (kPlus ∷ onto (numbered (p + width s + 1) t) ks) ∙ ap (λ (x : List ℕ). onto s (kPlus ∷ x)) (onto-numbered (p + width s + 1) t ks)
 onto-numbered p (T.minus s t) ks = onto-numbered p s (kMinus ∷ onto (numbered (p + width s + 1) t) ks) ∙ ap (λ (x : List ℕ). onto s (kMinus ∷ x)) (onto-numbered (p + width s + 1) t ks)

@@ -5,9 +5,9 @@ use mathlib.Core.Bool.{true, false}
 use mathlib.Core.List.{List, [], _∷_}
 use lib.Dec.{eqb}
 use Rattle.syntax.specs.Token.{kName, kNumber, kOpen, kClose, kComma, kPlus, kMinus, kTimes, kTrue, kFalse, kAnd, kOr, kSemi, kAssign, kLbrace, kRbrace, kInt, kIf, kElse, kWhile, kReturn, kFail}
-use Rattle.syntax.specs.Tree.{Cat, Tree, Cmp, cmpKind, onto}
+use Rattle.syntax.specs.Tree.{Cat, Tree, mulKind, Cmp, cmpKind, onto}
 use Rattle.syntax.specs.Tree.{operand, term, sum, args, argList, cmp, atom, conj, cond, less, equal, lessEq, greater, greaterEq, unequal, stmt, stmts, body, params, paramList, fun, prog}
-use Rattle.syntax.specs.Tree.{number, negative, name, call, bracket, noArgs, someArgs, firstArg, nextArg, factor, times, addend, plus, minus, cmpMark, always, never, compare, oneAtom, both, oneConj, either, empty, declare, declareFree, declareOwn, assign, eval, block, ifElse, while, return, fail, noStmts, moreStmts, braced, noParams, someParams, firstParam, nextParam, function, noFuns, moreFuns}
+use Rattle.syntax.specs.Tree.{number, negative, name, call, bracket, noArgs, someArgs, firstArg, nextArg, factor, product, times, addend, plus, minus, cmpMark, always, never, compare, oneAtom, both, oneConj, either, empty, declare, declareFree, declareOwn, assign, eval, block, ifElse, while, return, fail, noStmts, moreStmts, braced, noParams, someParams, firstParam, nextParam, function, noFuns, moreFuns}
 use Rattle.grammar.proofs.Machine.{Stack, step, run}
 use Rattle.grammar.proofs.Machine.{tok, sOperand, sTerm, sTerms, sSum, sSums, sArgs, sMore, sCmp, sAtom, sConj, sConjs, sCond, sConds, sStmt, sBody, sParams, sParamMore, sFuns}
 
@@ -122,7 +122,7 @@ begins (someArgs l) r = let b = begins l (kClose ∷ r) in record { one = b .one
 begins (firstArg e) r = let b = begins e r in record { one = b .one; more = b .more; is = b .is; first = tt }
 begins (nextArg l e) r = begins l (kComma ∷ onto e r)
 begins (factor o) r = let b = begins o r in record { one = b .one; more = b .more; is = b .is; first = b .first }
-begins (times t o) r = begins t (kTimes ∷ onto o r)
+begins (times m t o) r = begins t (mulKind m ∷ onto o r)
 begins (addend t) r = let b = begins t r in record { one = b .one; more = b .more; is = b .is; first = b .first }
 begins (plus s t) r = begins s (kPlus ∷ onto t r)
 begins (minus s t) r = begins s (kMinus ∷ onto t r)
@@ -198,7 +198,7 @@ starts (name i) k r e = s-name e
 starts (call i a) k r e = s-name refl
 starts (bracket i t) k r e = s-open
 starts (factor o) k r e = starts o k r e
-starts (times t o) k r e = starts t kTimes (onto o (k ∷ r)) refl
+starts (times product t o) k r e = starts t kTimes (onto o (k ∷ r)) refl
 starts (addend t) k r e = starts t k r e
 starts (plus s t) k r e = starts s kPlus (onto t (k ∷ r)) refl
 starts (minus s t) k r e = starts s kMinus (onto t (k ∷ r)) refl
@@ -292,7 +292,7 @@ accept (factor o) ss k r q = run-term (onto o (k ∷ r)) ∙ accept o (sTerms �
     run-term : (l : List ℕ) → run (sTerm ∷ ss) l ≡ run (sOperand ∷ sTerms ∷ ss) l
     run-term [] = refl
     run-term (x ∷ l) = refl
-accept (times t o) ss k r q = accept t ss kTimes (onto o (k ∷ r)) refl ∙ accept o (sTerms ∷ ss) k r q
+accept (times product t o) ss k r q = accept t ss kTimes (onto o (k ∷ r)) refl ∙ accept o (sTerms ∷ ss) k r q
 accept (addend t) ss k r q = run-sum (onto t (k ∷ r)) ∙ accept t (sSums ∷ ss) k r (q .0) ∙ skip-terms k (sSums ∷ ss) r (q .1)
   where
     run-sum : (l : List ℕ) → run (sSum ∷ ss) l ≡ run (sTerm ∷ sSums ∷ ss) l

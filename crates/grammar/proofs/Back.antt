@@ -8,7 +8,7 @@ use lib.ListN.{length, drop, getD}
 use Rattle.syntax.specs.Token.{kEnd, kName, kOpen, kClose, kComma, kPlus, kMinus, kTimes, kAnd, kOr, kSemi, kLbrace, kRbrace, kInt, kElse, kDotDot}
 use Rattle.syntax.specs.Tree.{Cat, Tree, cmpKind, endOnto, onto, width, numbered}
 use Rattle.syntax.specs.Tree.{operand, term, sum, args, argList, cmp, atom, conj, cond, stmt, stmts, body, params, paramList, fun, prog}
-use Rattle.syntax.specs.Tree.{number, negative, name, call, bracket, noArgs, someArgs, firstArg, nextArg, factor, times, addend, plus, minus, cmpMark, always, never, compare, oneAtom, both, oneConj, either, empty, declare, declareFree, declareOwn, assign, eval, block, ifElse, while, return, fail, noStmts, moreStmts, braced, noParams, someParams, firstParam, nextParam, function, noFuns, moreFuns}
+use Rattle.syntax.specs.Tree.{number, negative, name, call, bracket, noArgs, someArgs, firstArg, nextArg, factor, product, times, addend, plus, minus, cmpMark, always, never, compare, oneAtom, both, oneConj, either, empty, declare, declareFree, declareOwn, assign, eval, block, ifElse, while, return, fail, noStmts, moreStmts, braced, noParams, someParams, firstParam, nextParam, function, noFuns, moreFuns}
 use Rattle.syntax.specs.Ast.{bit}
 use Rattle.grammar.specs.Parse.{ok, readCmp, moreProg, readText}
 use Rattle.grammar.proofs.Lengths.{onto-length, operand-longer, term-longer, longer, atom-longer, conj-longer, stmt-longer, params-longer}
@@ -81,8 +81,8 @@ module _ (ks : List ℕ) where
       next-arg-step ks p q (p + width l) (numbered p l) (numbered (p + width l + 1) s) (back l p (p + width l) kComma (onto s (k ∷ r)) e refl (refl, refl, refl, refl)) (x .here) (omega (arith, h)) (y .inside)
       (sum-done ks (p + width l + 1) q k (numbered (p + width l + 1) s) (back s (p + width l + 1) q k r (x .next) h (z .0, z .1)) (y .here) (z .2) (z .3))
   back (factor o) p q k r e w z = let x = ends ks o p e w in factor-step ks p q (numbered p o) (omega (arith, w, operand-longer o)) (x .inside) (back o p q k r e w z)
-  back (times t o) p q k r e w z =
-      let x = ends ks t p e refl in let y = ends ks (times t o) p e w in let h : q ≡ p + width t + 1 + width o = omega (arith, w, onto-length t (kTimes ∷ onto o [])) in
+  back (times product t o) p q k r e w z =
+      let x = ends ks t p e refl in let y = ends ks (times product t o) p e w in let h : q ≡ p + width t + 1 + width o = omega (arith, w, onto-length t (kTimes ∷ onto o [])) in
       times-step ks p q (p + width t) (numbered p t) (numbered (p + width t + 1) o) (back t p (p + width t) kTimes (onto o (k ∷ r)) e refl refl) (x .here) (omega (arith, h)) (y .inside) (back o (p + width t + 1) q k r (x .next) h z)
   back (addend t) p q k r e w z = let x = ends ks t p e w in addend-step ks p q (numbered p t) (omega (arith, w, term-longer t)) (x .inside) (back t p q k r e w (z .0)) (clash (x .here) (z .1))
   back (plus s t) p q k r e w z =

@@ -5,8 +5,8 @@ use mathlib.Core.Bool.{Bool, true, false}
 use mathlib.Core.List.{List, [], _∷_, _++_}
 use native.Mathlib.Omega.{arith}
 use lib.ListN.{length, length-append}
-use Rattle.syntax.specs.Token.{kName, kOpen, kClose, kComma, kPlus, kMinus, kTimes, kAnd, kOr, kSemi, kAssign, kLbrace, kRbrace, kInt, kIf, kElse, kWhile, kReturn}
-use Rattle.syntax.specs.Tree.{Cat, Tree, onto, width}
+use Rattle.syntax.specs.Token.{kName, kOpen, kClose, kComma, kPlus, kMinus, kAnd, kOr, kSemi, kAssign, kLbrace, kRbrace, kInt, kIf, kElse, kWhile, kReturn}
+use Rattle.syntax.specs.Tree.{Cat, Tree, mulKind, onto, width}
 use Rattle.syntax.specs.Tree.{operand, term, sum, atom, conj, stmt, params}
 use Rattle.syntax.specs.Tree.{number, negative, name, call, bracket, noArgs, someArgs, firstArg, nextArg, factor, times, addend, plus, minus, cmpMark, always, never, compare, oneAtom, both, oneConj, either, empty, declare, declareFree, declareOwn, assign, eval, block, ifElse, while, return, fail, noStmts, moreStmts, braced, noParams, someParams, firstParam, nextParam, function, noFuns, moreFuns}
 
@@ -22,7 +22,7 @@ onto-append (someArgs l) r s = onto-append l (kClose ∷ r) s
 onto-append (firstArg e) r s = onto-append e r s
 onto-append (nextArg l e) r s = ap (λ (x : List ℕ). onto l (kComma ∷ x)) (onto-append e r s) ∙ onto-append l (kComma ∷ onto e r) s
 onto-append (factor o) r s = onto-append o r s
-onto-append (times t o) r s = ap (λ (x : List ℕ). onto t (kTimes ∷ x)) (onto-append o r s) ∙ onto-append t (kTimes ∷ onto o r) s
+onto-append (times m t o) r s = ap (λ (x : List ℕ). onto t (mulKind m ∷ x)) (onto-append o r s) ∙ onto-append t (mulKind m ∷ onto o r) s
 onto-append (addend t) r s = onto-append t r s
 onto-append (plus l t) r s = ap (λ (x : List ℕ). onto l (kPlus ∷ x)) (onto-append t r s) ∙ onto-append l (kPlus ∷ onto t r) s
 onto-append (minus l t) r s = ap (λ (x : List ℕ). onto l (kMinus ∷ x)) (onto-append t r s) ∙ onto-append l (kMinus ∷ onto t r) s
@@ -74,7 +74,7 @@ operand-longer (bracket i e) = omega arith
 pub term-longer : (t : Tree term) → 0 < width t
 unfolding onto
 term-longer (factor o) = operand-longer o
-term-longer (times t o) = omega (arith, term-longer t, onto-length t (kTimes ∷ onto o []))
+term-longer (times m t o) = omega (arith, term-longer t, onto-length t (mulKind m ∷ onto o []))
 
 pub longer : (t : Tree sum) → 0 < width t
 unfolding onto

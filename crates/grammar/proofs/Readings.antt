@@ -12,7 +12,7 @@ use borrow.Author.Tests.{eq-eqb, ne-eqb}
 use Rattle.syntax.specs.Token.{kName, kNumber, kOpen, kClose, kComma, kPlus, kMinus, kTimes, kTrue, kFalse, kAnd, kOr, kSemi, kAssign, kLbrace, kRbrace, kInt, kFree, kIf, kElse, kWhile, kReturn, kFail, kDotDot}
 use Rattle.syntax.specs.Tree.{Cat, Tree, Cmp, cmpKind, onto, width}
 use Rattle.syntax.specs.Tree.{operand, term, sum, args, argList, atom, conj, cond, less, equal, lessEq, greater, greaterEq, unequal, stmt, stmts, body, params, paramList, fun, prog}
-use Rattle.syntax.specs.Tree.{number, negative, name, call, bracket, noArgs, someArgs, firstArg, nextArg, factor, times, addend, plus, minus, cmpMark, always, never, compare, oneAtom, both, oneConj, either, empty, declare, declareFree, declareOwn, assign, eval, block, ifElse, while, return, fail, noStmts, moreStmts, braced, noParams, someParams, firstParam, nextParam, function, noFuns, moreFuns}
+use Rattle.syntax.specs.Tree.{number, negative, name, call, bracket, noArgs, someArgs, firstArg, nextArg, factor, product, times, addend, plus, minus, cmpMark, always, never, compare, oneAtom, both, oneConj, either, empty, declare, declareFree, declareOwn, assign, eval, block, ifElse, while, return, fail, noStmts, moreStmts, braced, noParams, someParams, firstParam, nextParam, function, noFuns, moreFuns}
 use Rattle.grammar.specs.Parse.{Res, ok, andThen, expect, readEnd, readOwn, readOperand, readArgs, moreArgs, readTerm, moreTerm, readSum, moreSum, readCmp, readAtom, moreConj, readConj, moreCond, readCond, readGuard, readEnded, readNamed, readDecl, readFail, readStmt, moreBody, moreParams, readParams, readFun, moreProg}
 use Rattle.grammar.proofs.Lengths.{onto-append}
 use Rattle.grammar.proofs.Accept.{Start, s-number, s-minus, s-open, s-name}
@@ -161,9 +161,9 @@ module _ (ks : List ℕ) where
   factor-step p q o b i h zero f = absurd (omega arith)
   factor-step p q o b i h (suc d) f = goes (λ e. moreTerm ks e (factor o) q) d i (omega arith) (then-ok _ (h d (omega arith)))
 
-  pub times-step : (p q x : ℕ) (t : Tree term) (o : Tree operand) → Term t p x → getD ks x 0 ≡ kTimes → x < q → q < length ks → Operand o (x + 1) q → Term (times t o) p q
+  pub times-step : (p q x : ℕ) (t : Tree term) (o : Tree operand) → Term t p x → getD ks x 0 ≡ kTimes → x < q → q < length ks → Operand o (x + 1) q → Term (times product t o) p q
   unfolding readOperand
-  times-step p q x t o h n b i k d f = let g = h d f in goes (λ e. moreTerm ks e (times t o) q) (g .fuel) i (omega (arith, g .enough)) (g .is ∙ yes _ _ n ∙ then-ok _ (k (g .fuel) (omega (arith, g .enough))))
+  times-step p q x t o h n b i k d f = let g = h d f in goes (λ e. moreTerm ks e (times product t o) q) (g .fuel) i (omega (arith, g .enough)) (g .is ∙ yes _ _ n ∙ then-ok _ (k (g .fuel) (omega (arith, g .enough))))
 
   term-done : (p q : ℕ) (t : Tree term) → Term t p q → (getD ks q 0 ≡ kTimes → ⊥) → (d : ℕ) → Fuel 3 d p → readTerm ks d p ≡ ok t q
   unfolding readOperand

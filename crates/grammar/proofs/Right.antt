@@ -15,7 +15,7 @@ use borrow.Author.Tests.{eqb-true, eqb-false}
 use Rattle.syntax.specs.Token.{kName, kNumber, kOpen, kClose, kComma, kPlus, kMinus, kTimes, kTrue, kFalse, kAnd, kOr, kLess, kEqual, kLessEq, kGreater, kGreaterEq, kUnequal}
 use Rattle.syntax.specs.Tree.{Cat, Tree, onto}
 use Rattle.syntax.specs.Tree.{term, sum, argList, conj, cond, less}
-use Rattle.syntax.specs.Tree.{number, negative, call, bracket, someArgs, firstArg, nextArg, factor, times, addend, plus, minus, cmpMark, compare, oneAtom, both, oneConj, either}
+use Rattle.syntax.specs.Tree.{number, negative, call, bracket, someArgs, firstArg, nextArg, factor, product, times, addend, plus, minus, cmpMark, compare, oneAtom, both, oneConj, either}
 use Rattle.grammar.proofs.Machine.{Stack, stuck, step, run, goOn}
 use Rattle.grammar.proofs.Machine.{tok, sOperand, sTerm, sTerms, sSum, sSums, sCall, sArgs, sMore, sCmp, sAtom, sConj, sConjs, sCond, sConds}
 use Rattle.grammar.specs.Parse.{Res, ok, bad, andThen, peek, readOperand, readBracket, readCall, readArgs, moreArgs, readTerm, moreTerm, readSum, moreSum, readCmp, readAtom, moreConj, readConj, moreCond, readCond}
@@ -180,8 +180,8 @@ module _ (ks : List ℕ) (ends : (a : ℕ) → suc a ≡ length ks → getD ks a
     more-term (suc d) l b at i w f =
         split (eqb (peek ks at) kTimes)
         (λ e. let x = eat at kTimes i e refl in eatThen {S′ = λ ss. sOperand ∷ sTerms ∷ ss} x (λ ss r. refl)
-        (after (times l) (λ r. r) (λ t r. x .read _ ∙ w _) (operand-right d (at + 1) (x .inside) (omega arith))
-        (λ t m h. more-term d (times l t) b m (h .inside) (λ r. h .read r ∙ x .read _ ∙ w _) (omega (arith, h .past)))))
+        (after (times product l) (λ r. r) (λ t r. x .read _ ∙ w _) (operand-right d (at + 1) (x .inside) (omega arith))
+        (λ t m h. more-term d (times product l t) b m (h .inside) (λ r. h .read r ∙ x .read _ ∙ w _) (omega (arith, h .past)))))
         (λ e. skip i (λ ss. rw e) (done i w))
 
     pub sum-right : (d at : ℕ) → at < length ks → Fuel 4 d at → Reads at (λ ss. sSum ∷ ss) at (readSum ks d at)

@@ -9,7 +9,7 @@ use Rattle.syntax.specs.Token.{kEnd, kName, kNumber, kOpen, kClose, kComma, kPl
 use Rattle.syntax.specs.Tree.{Cat, Tree}
 use Rattle.syntax.specs.Tree.{operand, term, sum, args, argList, cmp, atom, conj, cond, stmt, stmts, body, params, paramList, fun, prog}
 use Rattle.syntax.specs.Tree.{less, lessEq, greater, greaterEq, equal, unequal}
-use Rattle.syntax.specs.Tree.{number, negative, name, call, bracket, noArgs, someArgs, firstArg, nextArg, factor, times, addend, plus, minus, cmpMark, always, never, compare, oneAtom, both, oneConj, either, empty, declare, declareFree, declareOwn, assign, eval, block, ifElse, while, return, fail, noStmts, moreStmts, braced, noParams, someParams, firstParam, nextParam, function, noFuns, moreFuns}
+use Rattle.syntax.specs.Tree.{number, negative, name, call, bracket, noArgs, someArgs, firstArg, nextArg, factor, product, times, addend, plus, minus, cmpMark, always, never, compare, oneAtom, both, oneConj, either, empty, declare, declareFree, declareOwn, assign, eval, block, ifElse, while, return, fail, noStmts, moreStmts, braced, noParams, someParams, firstParam, nextParam, function, noFuns, moreFuns}
 
 -- a tree and the number of the token after it, or the number of the first token that does not fit
 pub data Res (c : Cat) : Type 0 where
@@ -100,7 +100,7 @@ module _ (ks : List ℕ) where
     moreTerm zero l at = bad at
     moreTerm (suc d) l at =
         elim (eqb (peek at) kTimes) [
-          | true ↦ andThen (readOperand d (at + 1)) (λ o m. moreTerm d (times l o) m)
+          | true ↦ andThen (readOperand d (at + 1)) (λ o m. moreTerm d (times product l o) m)
           | false ↦
               ok l at
         ]

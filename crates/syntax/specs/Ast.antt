@@ -2,7 +2,7 @@
 -- A number in a tree is that of a token in the token list; a comment says of which.
 use Prim.Native.Nat.{ℕ, _+_}
 use mathlib.Core.Bool.{Bool, true, false}
-use Rattle.syntax.specs.Tree.{Cmp}
+use Rattle.syntax.specs.Tree.{Mul, Cmp}
 
 pub data Sort : Type 0 where
   expr args mark cond stmt stmts body params fun prog : Sort
@@ -14,7 +14,8 @@ pub data Ast : Sort → Type 0 where
   name : ℕ → Ast expr
   call : ℕ → Ast args → Ast expr
   bracket : ℕ → Ast expr → Ast expr
-  times plus minus : Ast expr → Ast expr → Ast expr
+  times : Mul → Ast expr → Ast expr → Ast expr
+  plus minus : Ast expr → Ast expr → Ast expr
   -- arguments, left to right
   noArgs : Ast args
   moreArgs : Ast args → Ast expr → Ast args

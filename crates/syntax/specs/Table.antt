@@ -4,7 +4,7 @@ use mathlib.Core.Path.{_≡_}
 use mathlib.Core.Bool.{Bool}
 use mathlib.Core.List.{List}
 use lib.ListN.{getD, set}
-use Rattle.syntax.specs.Tree.{Cmp, less, lessEq, greater, greaterEq, equal, unequal}
+use Rattle.syntax.specs.Tree.{Mul, product, Cmp, less, lessEq, greater, greaterEq, equal, unequal}
 use Rattle.syntax.specs.Ast as A
 use Rattle.syntax.specs.Ast.{Sort, Ast, bit}
 
@@ -112,6 +112,10 @@ nNoFuns = 33
 abbrev pub nMoreFuns : ℕ
 nMoreFuns = 34
 
+-- the third word of an operation of the rank of `*`
+abbrev pub mulNumber : Mul → ℕ
+mulNumber product = 0
+
 -- the comparison's number
 abbrev pub cmpNumber : Cmp → ℕ
 cmpNumber less = 0
@@ -160,7 +164,7 @@ pub data At (l : List ℕ) : (s : Sort) → ℕ → ℕ → Ast s → Type 0 whe
   at-name : {i t : ℕ} → Row l i nName t 0 0 0 → At l A.expr i nName (A.name t)
   at-call : {i t a k : ℕ} {x : Ast A.args} → Row l i nCall t a 0 0 → a < i → At l A.args a k x → At l A.expr i nCall (A.call t x)
   at-bracket : {i t a k : ℕ} {x : Ast A.expr} → Row l i nBracket t a 0 0 → a < i → At l A.expr a k x → At l A.expr i nBracket (A.bracket t x)
-  at-times : {i a b j k : ℕ} {x y : Ast A.expr} → Row l i nTimes 0 a b 0 → a < i → b < i → At l A.expr a j x → At l A.expr b k y → At l A.expr i nTimes (A.times x y)
+  at-times : {i a b j k : ℕ} {o : Mul} {x y : Ast A.expr} → Row l i nTimes 0 a b (mulNumber o) → a < i → b < i → At l A.expr a j x → At l A.expr b k y → At l A.expr i nTimes (A.times o x y)
   at-plus : {i a b j k : ℕ} {x y : Ast A.expr} → Row l i nPlus 0 a b 0 → a < i → b < i → At l A.expr a j x → At l A.expr b k y → At l A.expr i nPlus (A.plus x y)
   at-minus : {i a b j k : ℕ} {x y : Ast A.expr} → Row l i nMinus 0 a b 0 → a < i → b < i → At l A.expr a j x → At l A.expr b k y → At l A.expr i nMinus (A.minus x y)
   at-no-args : {i : ℕ} → Row l i nNoArgs 0 0 0 0 → At l A.args i nNoArgs A.noArgs

@@ -10,6 +10,13 @@ use Rattle.syntax.specs.Token.{kName, kNumber, kInt, kFree, kIf, kElse, 
 pub data Cat : Type 0 where
   operand term sum args argList cmp atom conj cond stmt stmts body params paramList fun prog : Cat
 
+-- an operation of the rank of `*`
+pub data Mul : Type 0 where
+  product : Mul
+
+abbrev pub mulKind : Mul → ℕ
+mulKind product = kTimes
+
 -- "one of `< <= > >= == !=`"
 pub data Cmp : Type 0 where
   less lessEq greater greaterEq equal unequal : Cmp
@@ -36,7 +43,7 @@ pub data Tree : Cat → Type 0 where
   nextArg : Tree argList → Tree sum → Tree argList
   -- "`*` above `+` and `-`, left to right"
   factor : Tree operand → Tree term
-  times : Tree term → Tree operand → Tree term
+  times : Mul → Tree term → Tree operand → Tree term
   addend : Tree term → Tree sum
   plus : Tree sum → Tree term → Tree sum
   minus : Tree sum → Tree term → Tree sum
@@ -94,7 +101,7 @@ onto (someArgs l) ks = onto l (kClose ∷ ks)
 onto (firstArg e) ks = onto e ks
 onto (nextArg l e) ks = onto l (kComma ∷ onto e ks)
 onto (factor o) ks = onto o ks
-onto (times t o) ks = onto t (kTimes ∷ onto o ks)
+onto (times m t o) ks = onto t (mulKind m ∷ onto o ks)
 onto (addend t) ks = onto t ks
 onto (plus s t) ks = onto s (kPlus ∷ onto t ks)
 onto (minus s t) ks = onto s (kMinus ∷ onto t ks)
@@ -144,7 +151,7 @@ numbered p (someArgs l) = someArgs (numbered p l)
 numbered p (firstArg e) = firstArg (numbered p e)
 numbered p (nextArg l e) = nextArg (numbered p l) (numbered (p + width l + 1) e)
 numbered p (factor o) = factor (numbered p o)
-numbered p (times t o) = times (numbered p t) (numbered (p + width t + 1) o)
+numbered p (times m t o) = times m (numbered p t) (numbered (p + width t + 1) o)
 numbered p (addend t) = addend (numbered p t)
 numbered p (plus s t) = plus (numbered p s) (numbered (p + width s + 1) t)
 numbered p (minus s t) = minus (numbered p s) (numbered (p + width s + 1) t)

@@ -161,7 +161,7 @@ module _ (counts : List ℕ) (means : ℕ → ℕ) where
   resolve d s (A.bracket i e) w =
       let r = resolve (suc d) s e (tail w) in
       record { still = r .still; reads = S.bracket (r .reads) }
-  resolve d s (A.times a b) w = two s (eventsAt d a) (eventsAt d b) S.times (resolve d s a) (resolve d s b) w
+  resolve d s (A.times o a b) w = two s (eventsAt d a) (eventsAt d b) S.times (resolve d s a) (resolve d s b) w
   resolve d s (A.plus a b) w = two s (eventsAt d a) (eventsAt d b) S.plus (resolve d s a) (resolve d s b) w
   resolve d s (A.minus a b) w = two s (eventsAt d a) (eventsAt d b) S.minus (resolve d s a) (resolve d s b) w
   resolve d s A.noArgs w = record { still = refl; reads = S.noArgs }

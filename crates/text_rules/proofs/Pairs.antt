@@ -57,7 +57,7 @@ module _ (P : Window → Type 0) where
       part-pairs (A.name i) h = tt
       part-pairs (A.call i a) h = tt
       part-pairs (A.bracket i e) h = tt
-      part-pairs (A.times a b) h = tt
+      part-pairs (A.times o a b) h = tt
       part-pairs (A.plus a b) h = tt
       part-pairs (A.minus a b) h = tt
       part-pairs A.noArgs h = tt

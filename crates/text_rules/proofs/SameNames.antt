@@ -18,7 +18,7 @@ module _ (one other : ℕ → ℕ) (m : ℕ) (agree : (i : ℕ) → i < m → on
   after-same v (A.name i) h q = q
   after-same v (A.call i a) h q = q
   after-same v (A.bracket i e) h q = q
-  after-same v (A.times x y) h q = q
+  after-same v (A.times o x y) h q = q
   after-same v (A.plus x y) h q = q
   after-same v (A.minus x y) h q = q
   after-same v A.noArgs h q = q
@@ -56,7 +56,7 @@ module _ (one other : ℕ → ℕ) (m : ℕ) (agree : (i : ℕ) → i < m → on
   unset-same (A.name i) {f = f} h q = ap (λ (b : Bool). cond b [] (i ∷ [])) (ap f (agree i h) ∙ q (other i))
   unset-same (A.call i a) h q = unset-same a (h .1) q
   unset-same (A.bracket i e) h q = unset-same e (h .1) q
-  unset-same (A.times x y) h q = ap₂ _++_ (unset-same x (h .0) q) (unset-same y (h .1) q)
+  unset-same (A.times o x y) h q = ap₂ _++_ (unset-same x (h .0) q) (unset-same y (h .1) q)
   unset-same (A.plus x y) h q = ap₂ _++_ (unset-same x (h .0) q) (unset-same y (h .1) q)
   unset-same (A.minus x y) h q = ap₂ _++_ (unset-same x (h .0) q) (unset-same y (h .1) q)
   unset-same A.noArgs h q = refl

@@ -133,7 +133,7 @@ module _ {X : Type 0} (of : Name → List X) where
   gives d b bs n (A.name i) = names-one refl nothing
   gives d b bs n (A.call i a) = names-one refl (gives (suc d) b bs n a)
   gives d b bs n (A.bracket i e) = plain refl (gives (suc d) b bs n e)
-  gives d b bs n (A.times x y) = then (gives d b bs n x) (gives d b bs n y)
+  gives d b bs n (A.times o x y) = then (gives d b bs n x) (gives d b bs n y)
   gives d b bs n (A.plus x y) = then (gives d b bs n x) (gives d b bs n y)
   gives d b bs n (A.minus x y) = then (gives d b bs n x) (gives d b bs n y)
   gives d b bs n A.noArgs = nothing

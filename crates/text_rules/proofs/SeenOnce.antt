@@ -137,7 +137,7 @@ module _ (same : ℕ → ℕ → Bool) where
   once b bs n (A.name i) h e = also h done
   once b bs n (A.call i a) h e = also tt (once b bs n a h (kept-rest (called i) _ e))
   once b bs n (A.bracket i x) h e = once b bs n x h e
-  once b bs n (A.times x y) h e = both _ _ (once b bs n x h) (once b bs n y h) e
+  once b bs n (A.times o x y) h e = both _ _ (once b bs n x h) (once b bs n y h) e
   once b bs n (A.plus x y) h e = both _ _ (once b bs n x h) (once b bs n y h) e
   once b bs n (A.minus x y) h e = both _ _ (once b bs n x h) (once b bs n y h) e
   once b bs n A.noArgs h e = done

@@ -6,6 +6,7 @@ use mathlib.Core.Bool.{Bool}
 use mathlib.Core.List.{List, _∷_}
 use native.Mathlib.Omega.{arith}
 use lib.ListN.{length, getD}
+use Rattle.syntax.specs.Tree.{Mul}
 use Rattle.syntax.specs.Ast.{Sort, Ast, expr, args, mark, cond, stmt, stmts, body}
 use Rattle.syntax.specs.Ast as A
 use Rattle.events.specs.Event.{count}
@@ -20,7 +21,7 @@ module _ (arities : List ℕ) (means : ℕ → ℕ) where
     name : {i : ℕ} → means i < lo → means i ∈ seen → Reads seen lo expr (A.name i)
     call : {i : ℕ} {a : Ast args} → means i < length arities → getD arities (means i) 0 ≡ count a → Reads seen lo args a → Reads seen lo expr (A.call i a)
     bracket : {i : ℕ} {e : Ast expr} → Reads seen lo expr e → Reads seen lo expr (A.bracket i e)
-    times : {a b : Ast expr} → Reads seen lo expr a → Reads seen lo expr b → Reads seen lo expr (A.times a b)
+    times : {o : Mul} {a b : Ast expr} → Reads seen lo expr a → Reads seen lo expr b → Reads seen lo expr (A.times o a b)
     plus : {a b : Ast expr} → Reads seen lo expr a → Reads seen lo expr b → Reads seen lo expr (A.plus a b)
     minus : {a b : Ast expr} → Reads seen lo expr a → Reads seen lo expr b → Reads seen lo expr (A.minus a b)
     noArgs : Reads seen lo args A.noArgs

@@ -51,7 +51,7 @@ module _ (means : ℕ → ℕ) where
   after v (A.name i) b = b
   after v (A.call i a) b = b
   after v (A.bracket i e) b = b
-  after v (A.times x y) b = b
+  after v (A.times o x y) b = b
   after v (A.plus x y) b = b
   after v (A.minus x y) b = b
   after v A.noArgs b = b
@@ -75,7 +75,7 @@ module _ (means : ℕ → ℕ) where
   unset (A.name i) set = cond (set (means i)) [] (i ∷ [])
   unset (A.call i a) set = unset a set
   unset (A.bracket i e) set = unset e set
-  unset (A.times x y) set = unset x set ++ unset y set
+  unset (A.times o x y) set = unset x set ++ unset y set
   unset (A.plus x y) set = unset x set ++ unset y set
   unset (A.minus x y) set = unset x set ++ unset y set
   unset A.noArgs set = []

@@ -4,11 +4,11 @@ use mathlib.Core.Bool.{Bool, true, false, cond}
 use mathlib.Core.Option.{Option}
 use mathlib.Core.List.{List, [], _∷_}
 use lib.IntN.{pos, _-ℤ_}
-use Rattle.syntax.specs.Tree.{less, lessEq, greater, greaterEq, equal, unequal}
+use Rattle.syntax.specs.Tree.{product, less, lessEq, greater, greaterEq, equal, unequal}
 use Rattle.syntax.specs.Ast.{Sort, Ast, lowFirst}
 use Rattle.syntax.specs.Ast as A
 use Rattle.syntax.specs.Tree as T
-use Rattle.semantics.specs.Int.{Cmp, add, sub, mul, lt, le, gt, ge, eq, ne}
+use Rattle.semantics.specs.Int.{Op, Cmp, add, sub, mul, lt, le, gt, ge, eq, ne}
 use Rattle.semantics.specs.Program as P
 use Rattle.semantics.specs.Program.{Expr, Exprs, Cond, Stmt, Stmts, Program, slot}
 use Rattle.text_rules.specs.Rules.{Head}
@@ -27,6 +27,9 @@ Part A.params = ℕ
 Part A.fun = Stmts
 Part A.prog = List Stmts → List Stmts
 
+abbrev pub multiplied : T.Mul → Op
+multiplied product = mul
+
 abbrev pub comparison : T.Cmp → Cmp
 comparison less = lt
 comparison lessEq = le
@@ -43,7 +46,7 @@ module _ (value means : ℕ → ℕ) where
   part (A.name i) = P.name (slot (means i))
   part (A.call i a) = P.call (means i) (part a P.none)
   part (A.bracket i e) = part e
-  part (A.times a b) = P.op mul (part a) (part b)
+  part (A.times o a b) = P.op (multiplied o) (part a) (part b)
   part (A.plus a b) = P.op add (part a) (part b)
   part (A.minus a b) = P.op sub (part a) (part b)
   part A.noArgs = λ es. es

@@ -2,7 +2,7 @@ use Prim.Native.Nat.{ℕ}
 use mathlib.Core.Path.{refl, _∙_}
 use native.Mathlib.Omega.{arith}
 use borrow.Author.Needs.{needs}
-use Rattle.syntax.specs.Tree.{times}
+use Rattle.syntax.specs.Tree.{product, times}
 use Rattle.syntax.specs.Abstract.{ast}
 use Rattle.syntax.specs.Table.{at-times}
 use Rattle.grammar.specs.Parse.{readOperand, moreTerm}
@@ -51,4 +51,4 @@ more-term-same-length-2 t c = c .before .before .more-term .kept .1 .1 .0 ∙ c 
 
 pub more-term-returns-3 : (t : ℕ) → more-term-lts.Need-returns-3 (more-term-C t) (more-term-at t) more-term.Post
 unfolding readOperand ast
-more-term-returns-3 t c = let operand′ = c .before .before .before .before .before .before .before .before .before .before .before .before .before .operand in let s₀ = c .before .before .before .before .before .before .before .before .before .before .before .before .before .before .before .before .before .before .before in let store′ = c .before .before .before .before .before .before .store in record { after = λ u h. let C = call _ (operand′ .ensures) (eat _ _ (c .before .before .before .before .before .before .before .before .before .before .before .before .before .before .before .if1 .left) refl (begin 1 (λ d. moreTerm (s₀ .args .kinds .now) d u) (s₀ .pre .1 .0))) (omega arith) (c .before .before .before .before .before .before .before .before .before .right .given .1) (operand′ .kept .1 .1 .0) in hand (c .before .before .more-term .ensures .after (times u (C .tree)) (record { kind = _; at = at-times (written (store′ .ensures) (room-for (C .sofar .ready))) (omega (arith, (s₀ .pre .1 .1), C .more)) (C .rooted) ((kept (unwritten (store′ .ensures)) (omega (arith, (s₀ .pre .1 .1), C .more)) (kept (C .same) (s₀ .pre .1 .1) h)) .at) ((kept (unwritten (store′ .ensures)) (C .rooted) (C .holds)) .at) })) (wrote (store′ .ensures) (C .sofar) (omega arith)) (omega arith) (omega arith) }
+more-term-returns-3 t c = let operand′ = c .before .before .before .before .before .before .before .before .before .before .before .before .before .operand in let s₀ = c .before .before .before .before .before .before .before .before .before .before .before .before .before .before .before .before .before .before .before in let store′ = c .before .before .before .before .before .before .store in record { after = λ u h. let C = call _ (operand′ .ensures) (eat _ _ (c .before .before .before .before .before .before .before .before .before .before .before .before .before .before .before .if1 .left) refl (begin 1 (λ d. moreTerm (s₀ .args .kinds .now) d u) (s₀ .pre .1 .0))) (omega arith) (c .before .before .before .before .before .before .before .before .before .right .given .1) (operand′ .kept .1 .1 .0) in hand (c .before .before .more-term .ensures .after (times product u (C .tree)) (record { kind = _; at = at-times (written (store′ .ensures) (room-for (C .sofar .ready))) (omega (arith, (s₀ .pre .1 .1), C .more)) (C .rooted) ((kept (unwritten (store′ .ensures)) (omega (arith, (s₀ .pre .1 .1), C .more)) (kept (C .same) (s₀ .pre .1 .1) h)) .at) ((kept (unwritten (store′ .ensures)) (C .rooted) (C .holds)) .at) })) (wrote (store′ .ensures) (C .sofar) (omega arith)) (omega arith) (omega arith) }
