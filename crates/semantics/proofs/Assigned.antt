@@ -243,6 +243,7 @@ module _ {X : Type 0} where
         where
           go : (c : Bool) → T c → Fit (at (c || b)) (some x)
           go true t = tt
+          go false t = elim t [ ]
 
       other : (v : ℕ) (f : Flow) (p : Option X) → (v ≡ i → ⊥) → Fit f p → Fit (assigned i v f) p
       other v nowhere p q k = k

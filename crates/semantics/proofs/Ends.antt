@@ -96,6 +96,7 @@ insert-first e s (acons {x} {xs} h t) = go (smaller s x) h
   where
     go : (b : Bool) → T b → cond b (leaf e s ∷ leaf e x ∷ map (leaf e) xs) (leaf e x ∷ insert (leaf e s) (map (leaf e) xs)) ≡ leaf e s ∷ leaf e x ∷ map (leaf e) xs
     go true h = refl
+    go false h = elim h [ ]
 
 sorted-leaves : (e : List ℤ → Ending) {ss : List (List ℤ)} → Rising ss → sorted (map (leaf e) ss) ≡ map (leaf e) ss
 unfolding sorted

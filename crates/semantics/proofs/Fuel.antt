@@ -8,7 +8,6 @@ use native.Mathlib.Omega.{arith}
 use lib.ListN.{get_or}
 use lib.IntN.{ℤ}
 use Rattle.semantics.specs.Int.{Op, Cmp, arith as arith32}
-use Rattle.semantics.specs.Program
 use Rattle.semantics.specs.Does
 use Rattle.semantics.specs.Program.{Window, Expr, Exprs, Cond, const, compare, and, or, number, name, op, call, more, Stmt, Stmts, Program}
 use Rattle.semantics.specs.Does.{Does, returned, failed, cut, stuck, step, free, test, within, Frame, frame, expr, exprs, loop, stmt, stmts, enter, does, fetch, store}

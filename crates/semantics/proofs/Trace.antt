@@ -22,7 +22,7 @@ use Rattle.semantics.proofs.Range.{In, Sub, sub_refl, sub_trans, Subs, Within, a
 use Rattle.semantics.proofs.Narrow.{holds_negated}
 use Rattle.semantics.proofs.Sound.{Narrower, Sound, passes}
 use Rattle.semantics.proofs.Keep.{All, keep, keep_all, keep-none, keep_same, keep-keep, keep-if, all_of, all_map}
-use Rattle.semantics.proofs.Ends.{leaf, started, sized, longer, inside, opens, ends}
+use Rattle.semantics.proofs.Ends.{leaf, sized, longer, inside, opens, ends}
 use Rattle.semantics.proofs.Settings.{fits, fitted, lists, settings-lists, Inside, lists-in, false_of}
 use Rattle.semantics.proofs.Own.{Given, pair-given, Asks}
 use Rattle.semantics.proofs.Seen.{Seen, join, join-nothing, seen_in, seen_of, seen_in-append, seen-split, seen-started, seen-tried, seen-probed, seen-failed, ends-nil}

@@ -13,12 +13,12 @@ use Rattle.semantics.specs.Program.{Window}
 use Rattle.semantics.specs.Run.{Ending, returns, fails, cuts, Ran, noting, starting, exactly, pair_of, counting, numbers, each, Choice}
 use Rattle.semantics.specs.Plans.{ended, chosen, noted, choices_of}
 use Rattle.semantics.proofs.Range.{Sub}
-use Rattle.semantics.proofs.Keep.{All, anil, acons, keep, each_same, all_of, all_map, all-mapped, all-each, Ordered, onil, ocons, ordered-append, ordered-map}
+use Rattle.semantics.proofs.Keep.{All, anil, acons, each_same, all_of, all_map, all-mapped, all-each, Ordered, onil, ocons, ordered-append, ordered-map}
 use Rattle.semantics.proofs.Order.{of-suc}
 use Rattle.semantics.proofs.Ends.{inside, adding, belonging, Less, lower, alike}
 use Rattle.semantics.proofs.Settings.{lists, each_keep, numbers-sub, counting-above}
 use Rattle.semantics.proofs.Natural.{own_run}
-use Rattle.semantics.proofs.Own.{Given, pair-given, Asks}
+use Rattle.semantics.proofs.Own.{pair-given, Asks}
 
 adding-append : (r : Option Ran) (s : List ℤ) (l m : List Choice) → adding r s (l ++ m) ≡ adding r s l ++ m
 adding-append none s l m = refl
