@@ -9,7 +9,7 @@ use Rattle.semantics.specs.Program.{Window}
 use Rattle.semantics.specs.Search.{Value, known, work, Solver, Test}
 use Rattle.simulation.specs.Code.{Code}
 use Rattle.simulation.specs.Machine.{Machine, Doing, advance, start}
-use Rattle.simulation.specs.Path.{State, state, begins, outcome, later, holding, End, cut, Went, on, ended, stepped, siding, choosing, comparing, turning, turn}
+use Rattle.simulation.specs.Path.{State, state, begins, outcome, later, holding, End, Went, on, ended, stepped, siding, choosing, comparing, turning, turn}
 use Rattle.simulation.specs.Lister.{following, next}
 use Rattle.simulation.specs.Back.{standing, Passes, here, turned, ChoiceAt}
 use Rattle.simulation.specs.Resume.{forcing}

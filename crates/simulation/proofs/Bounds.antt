@@ -69,7 +69,7 @@ module _ {X : Type 0} (num : ℤ → X) (work : Op → X → X → X) (c : Code)
   gather-le : (f ts : List X) (n j : ℕ) (vs : List X) → length (gather num work c f ts n j vs).rest ≤ length ts
   unfolding gather
   gather-le f ts zero j vs = omega arith
-  gather-le f ts (suc n) j vs = le_trans (gather-le f _ n _ _) (taken-le f ts (before j))
+  gather-le f ts (suc n) j vs = le_trans (gather-le f (taken num work c f ts (before j)).rest n _ _) (taken-le f ts (before j))
 
   sound-leaving : (n d : ℕ) (cs : List (Caller X)) (v : X) (b : Bool) → held_by cs ≤ n → d + length cs ≡ 32 → Framed cs → Sounds n (leaving num work c cs v b d)
   sound-leaving n d [] v b few nested frames = tt

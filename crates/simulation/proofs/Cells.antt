@@ -1,14 +1,14 @@
 -- A machine's frames hold 0 beside the cells that its code uses, wherever a path comes, and that of the start holds nothing; and on the way starting pairs are added and none is changed.
 use Prim.Native.Nat.{ℕ, zero, suc, ◌+◌, ◌-◌, ◌≤◌, ◌<◌}
-use mathlib.Core.Path.{◌≡◌, refl, sym, ap, ◌∙◌, subst}
+use mathlib.Core.Path.{◌≡◌, refl, sym, ◌∙◌, subst}
 use mathlib.Core.Bool.{Bool}
 use mathlib.Core.Option.{Option, none, some}
 use mathlib.Core.List.{List, [], ◌∷◌, ◌++◌, append-nil}
 use native.Mathlib.Omega.{arith}
 use native.Mathlib.Decide.{dec_lt}
-use lib.ListN.{get_or, length, set}
+use lib.ListN.{get_or, length}
 use lib.Seq.{get_or-set_other}
-use lib.IntN.{ℤ, pos}
+use lib.IntN.{pos}
 use Rattle.semantics.specs.Int.{Cmp}
 use Rattle.semantics.specs.Program.{Window, Address, slot}
 use Rattle.semantics.specs.Does.{frame, store}
@@ -17,7 +17,7 @@ use Rattle.semantics.specs.Search.{Value, known, unknown, work, Solver}
 use Rattle.simulation.specs.Code.{Act, Entry, leaf, argument, act, Code}
 use Rattle.simulation.specs.Machine.{Caller, Machine, Doing, Gathered, before, extent, entry_at, taken, gather, entering, leaving, acting, working, advance, start}
 use Rattle.simulation.specs.Words.{place_of}
-use Rattle.simulation.specs.Path.{State, begins, outcome, holding, End, cut, Went, on, ended, Turn, counted, still, stepped, reached, siding, choosing, comparing, turning, turn}
+use Rattle.simulation.specs.Path.{State, outcome, holding, End, cut, Went, on, ended, Turn, counted, still, stepped, reached, siding, choosing, comparing, turning, turn}
 use Rattle.simulation.specs.Back.{Passes, here, turned}
 use Rattle.simulation.specs.Resume.{Comes}
 use Rattle.simulation.specs.Cells.{Stores, Fills, Uses, Blank, Blanks, Spares, CallsMain, BlankStart}

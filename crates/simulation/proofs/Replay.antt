@@ -70,6 +70,7 @@ moves-path-moves (fork a b) = ap (λ l. l ++ plain back ∷ moves b) (moves-path
 pub one-path : (t : Paths) (p : List Bool) → Has t p → ahead t p ≡ replayed t p ++ after t (chosen t p)
 unfolding ahead replayed after chosen Has
 one-path t [] h = moves-path-moves t
+one-path (leaf _) (o ∷ p) h = elim h [ ]
 one-path (onward t) (o ∷ p) h = one-path t (o ∷ p) h ∙ ap (λ l. replayed t (o ∷ p) ++ l) (sym (after-step t (chosen t (o ∷ p))))
 one-path (fork a b) (true ∷ p) h = ap (λ l. l ++ plain back ∷ moves b) (one-path a p h) ∙ append_assoc (replayed a p) (after a (chosen a p)) (plain back ∷ moves b)
 one-path (fork a b) (false ∷ p) h = one-path b p h
@@ -82,6 +83,7 @@ onwards t (some q) = plain back ∷ ahead t q
 pub take_back : (t : Paths) (p : List Bool) → Has t p → after t p ≡ onwards t (next p)
 unfolding after ahead next Has moves
 take_back t [] h = refl
+take_back (leaf _) (o ∷ p) h = elim h [ ]
 take_back (onward t) (o ∷ p) h = take_back t (o ∷ p) h ∙ go o (next p)
   where
     go : (o : Bool) (x : Option (List Bool)) → onwards t (following o x) ≡ onwards (onward t) (following o x)
@@ -114,6 +116,7 @@ has-truths (fork a b) = has-truths a
 pub has_chosen : (t : Paths) (p : List Bool) → Has t p → Has t (chosen t p)
 unfolding Has chosen
 has_chosen t [] h = has-truths t
+has_chosen (leaf _) (o ∷ p) h = elim h [ ]
 has_chosen (onward t) (o ∷ p) h = has-step t (chosen t (o ∷ p)) (has_chosen t (o ∷ p) h)
   where
     has-step : (t : Paths) (p : List Bool) → Has t p → Has (onward t) p
@@ -129,6 +132,7 @@ HasSome t (some q) = Has t q
 pub has-next : (t : Paths) (p : List Bool) → Has t p → HasSome t (next p)
 unfolding Has next
 has-next t [] h = tt
+has-next (leaf _) (o ∷ p) h = elim h [ ]
 has-next (onward t) (o ∷ p) h = go o (next p) (has-next t (o ∷ p) h)
   where
     go : (o : Bool) (x : Option (List Bool)) → HasSome t (following o x) → HasSome (onward t) (following o x)

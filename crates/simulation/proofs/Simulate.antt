@@ -11,7 +11,6 @@ use lib.IntN.{ℤ, pos}
 use lib.Dec.{T}
 use lib.Signed.{le_z}
 use Rattle.semantics.specs.Int.{Op, Cmp}
-use Rattle.semantics.specs.Program
 use Rattle.semantics.specs.Does
 use Rattle.semantics.specs.Program.{Window, Expr, Exprs, Cond, Stmt, Stmts, Program}
 use Rattle.semantics.specs.Does.{Does, Frame, fetch, store, expr, exprs, loop, stmt, stmts, enter, does}

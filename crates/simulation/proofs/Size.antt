@@ -7,7 +7,7 @@ use native.Mathlib.Omega.{arith}
 use native.Mathlib.Nat.{le_refl}
 use lib.ListN.{length, length-append}
 use Rattle.semantics.specs.Program.{Expr, Exprs, Cond, Stmt, Stmts, Program}
-use Rattle.simulation.specs.Code.{number, name, operate, compare, call, jump, skip, again, store, return, fail, argument, act, count, code_e, code_es, code_c, code_s, code_ss, code_b, entries_of, code_of}
+use Rattle.simulation.specs.Code.{operate, compare, call, jump, skip, again, store, return, fail, argument, act, count, code_e, code_es, code_c, code_s, code_ss, code_b, entries_of, code_of}
 
 -- ---- the fewest tokens that a part can have in a text
 
