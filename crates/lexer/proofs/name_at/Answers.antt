@@ -1,0 +1,8 @@
+use native.Mathlib.Omega.{arith}
+use borrow.Author.Rules.{rules}
+use Rattle.lexer.proofs.Fronts.{name-piece}
+use Rattle.lexer.proofs.name_at.Goals as goal
+
+pub returns : goal.returns
+returns c =
+    name-piece c.args.text.now c.args.at c.requires.0 (omega (arith, c.type_inv.text c.args.at)) c.word_end-end.result c.word_kind-kind.result c.requires.2 c.word_end-end.ensures.0 c.word_kind-kind.ensures

@@ -1,0 +1,18 @@
+use Prim.Native.Nat.{◌+◌, ◌-◌, ◌≤◌}
+use native.Mathlib.Omega.{arith}
+use mathlib.Core.Path.{◌≡◌, sym, ◌∙◌}
+use lib.ListN.{length, get_or, drop}
+use borrow.Author.Tests.{eq-eqb, ne_eqb}
+use Rattle.lexer.specs.Lex.{longest}
+use Rattle.lexer.specs.Parts.{class_of}
+use Rattle.lexer.proofs.Bytes.{class-digit, class-underscore}
+use Rattle.lexer.proofs.Numbers.{more, end_of, end-digit, end-underscore, end-other, end-over}
+use Rattle.lexer.proofs.Fronts.{number-start}
+use Rattle.lexer.proofs.number_end.Given as goal
+
+-- the bytes before i are read, and `end` is after the last digit of them
+abbrev pub invariant-loop-i : goal.invariant-loop-i
+invariant-loop-i l = (l.i ≤ length l.text) × (l.end ≤ l.i) × (l.at + longest (drop l.at l.text) ≡ end_of l.end l.i (more (drop l.i l.text)))
+
+abbrev pub decreases-loop-i : goal.decreases-loop-i
+decreases-loop-i l = length l.text - l.i
