@@ -32,7 +32,7 @@ pub const ENDS: u32 = 8;
 pub const CLOSES: u32 = 9;
 
 // One event: tokens, but for a depth and a count.
-#[derive(Drop)]
+#[derive(Clone, Copy)]
 pub enum Event {
     Function(usize),
     Parameter(usize),
