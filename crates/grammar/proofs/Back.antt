@@ -4,8 +4,8 @@ use mathlib.Core.Path.{◌≡◌, refl, sym, ap, ◌∙◌, subst}
 use mathlib.Core.Bool.{Bool, true, false}
 use mathlib.Core.List.{List, [], ◌∷◌}
 use native.Mathlib.Omega.{arith}
-use lib.ListN.{length, drop, get_or}
-use Rattle.syntax.specs.Token.{k_end, k_name, k_open, k_close, k_comma, k_plus, k_minus, k_times, k_and, k_or, k_semi, k_lbrace, k_rbrace, k_int, k_else, k_dot_dot}
+use lib.ListN.{length, drop}
+use Rattle.syntax.specs.Token.{k_end, k_name, k_open, k_close, k_comma, k_plus, k_minus, k_times, k_and, k_or, k_semi, k_lbrace, k_rbrace, k_int, k_else}
 use Rattle.syntax.specs.Tree.{Cat, Tree, cmp_kind, end_onto, onto, width, numbered}
 use Rattle.syntax.specs.Tree.{operand, term, sum, args, arg_list, cmp, atom, conj, cond, stmt, stmts, body, params, param_list, fun, prog}
 use Rattle.syntax.specs.Tree.{number, negative, name, call, bracket, no_args, some_args, first_arg, next_arg, factor, product, times, addend, plus, minus, cmp_mark, always, never, compare, one_atom, both, one_conj, either, empty, declare, declare_free, declare_own, assign, eval, block, if_else, while, return, fail, no_stmts, more_stmts, braced, no_params, some_params, first_param, next_param, function, no_funs, more_funs}

@@ -1,6 +1,6 @@
 -- The ends of a pair: where the number of each stands, and how the reader of `l .. h ;` goes on from one token to the next.
-use Prim.Native.Nat.{ℕ, suc, ◌+◌, ◌-◌, ◌≤◌, ◌<◌}
-use mathlib.Core.Path.{◌≡◌, refl, sym, ap, ap₂, ◌∙◌}
+use Prim.Native.Nat.{ℕ, ◌+◌, ◌-◌, ◌<◌}
+use mathlib.Core.Path.{◌≡◌, refl, sym, ap, ◌∙◌}
 use mathlib.Core.Bool.{Bool, true, false}
 use mathlib.Core.List.{List}
 use native.Mathlib.Omega.{arith}
@@ -12,7 +12,7 @@ use Rattle.syntax.specs.Token.{k_minus, k_number}
 use Rattle.syntax.specs.Ast.{bit}
 use Rattle.syntax.specs.Tree.{Cat}
 use Rattle.syntax.specs.Table.{Row}
-use Rattle.grammar.specs.Parse.{Res, ok, bad, peek, expect, read_end}
+use Rattle.grammar.specs.Parse.{Res, bad, expect, read_end}
 use Rattle.grammar.specs.Readers.{is_minus, Inside, Ready}
 use Rattle.grammar.proofs.Steps.{Sofar, same-as}
 

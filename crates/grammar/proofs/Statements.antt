@@ -12,7 +12,7 @@ use borrow.Author.Tests.{eq-eqb}
 use Rattle.syntax.specs.Token.{k_name, k_open, k_close, k_comma, k_true, k_semi, k_assign, k_lbrace, k_rbrace, k_int, k_free, k_if, k_else, k_while, k_return, k_fail, k_number, k_minus, k_dot_dot}
 use Rattle.syntax.specs.Tree.{Cat, Tree, end_onto, onto}
 use Rattle.syntax.specs.Tree.{sum, cond, stmt, stmts, param_list, prog}
-use Rattle.syntax.specs.Tree.{always, one_atom, one_conj, empty, declare, declare_free, declare_own, assign, eval, block, if_else, while, return, fail, no_stmts, more_stmts, braced, no_params, some_params, first_param, next_param, function, more_funs}
+use Rattle.syntax.specs.Tree.{always, one_atom, one_conj, empty, declare, declare_own, assign, eval, block, if_else, while, return, fail, no_stmts, more_stmts, braced, no_params, some_params, first_param, next_param, function, more_funs}
 use Rattle.grammar.proofs.Lengths.{stmt-longer}
 use Rattle.grammar.proofs.Machine.{Stack, step, run}
 use Rattle.grammar.proofs.Machine.{tok, s_sum, s_cond, s_stmt, s_decl, s_free, s_end, s_named, s_body, s_params, s_param_more, s_funs}

@@ -1,4 +1,6 @@
 // The readers: from the kinds of the tokens to the syntax tree, in a table that is lent.
+#![tactic(auto)]
+
 ghost use Rattle.std.specs.Prelude.{◌≡◌, ◌+◌, ◌*◌, ◌≤◌, ◌<◌, length};
 ghost use Rattle.syntax.specs.Ast.{bit};
 ghost use Rattle.grammar.specs.Parse.{read_operand, read_bracket, read_call, read_args, more_args, read_term, more_term, read_sum, more_sum, read_atom, read_conj, more_conj, read_cond, more_cond, read_guard, read_own, read_decl, read_named, read_fail, read_stmt, read_block, read_if, read_while, more_body, read_params, more_params, read_fun, more_prog, parsed};

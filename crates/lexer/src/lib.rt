@@ -1,4 +1,6 @@
 // Bytes to tokens, by longest match.
+#![tactic(auto)]
+
 ghost use Rattle.std.specs.Prelude.{◌≡◌, true, [], ◌∷◌, min, ◌+◌, ◌-◌, ◌*◌, ◌≤◌, ◌<◌, length, drop, get_or};
 ghost use Rattle.syntax.specs.Token.{k_end, k_name};
 ghost use Rattle.lexer.specs.Lex.{is_digit, is_letter, is_word, same, words, marks, kind_in, longest, decimal, digits_of, front};

@@ -1,4 +1,6 @@
 // The table that holds a syntax tree: five words for each node.
+#![tactic(auto)]
+
 ghost use Rattle.std.specs.Prelude.{◌≡◌, ◌+◌, ◌*◌, ◌^◌, ◌≤◌, ◌<◌, length};
 ghost use Rattle.syntax.specs.Table.{node_words, row};
 ghost use Rattle.syntax.specs.Fetch.{Fetched};

@@ -1,7 +1,5 @@
-use Prim.Native.Nat.{ℕ}
 use mathlib.Core.Path.{refl, ◌∙◌}
 use native.Mathlib.Omega.{arith}
-use borrow.Author.Rules.{rules}
 use Rattle.syntax.specs.Tree.{first_arg}
 use Rattle.syntax.specs.Abstract.{ast}
 use Rattle.syntax.specs.Table.{at_no_args, at-more-args}
@@ -14,8 +12,6 @@ use mathlib.Core.Path.{◌∙◌}
 use Rattle.syntax.specs.Tree.{addend}
 use Rattle.grammar.specs.Parse.{read_operand, read_sum}
 use Rattle.grammar.proofs.Steps.{ready-after, told, begin, call, fail, hand}
-use Prim.Native.Nat.{ℕ, ◌<◌, ◌*◌, ◌-◌, ◌+◌}
-use lib.ListN.{length}
 use Rattle.syntax.specs.Tree.{next_arg}
 use Rattle.syntax.specs.Table.{at-more-args}
 use Rattle.grammar.specs.Parse.{read_operand, more_args}

@@ -1,12 +1,9 @@
-use Prim.Native.Nat.{ℕ}
-use mathlib.Core.Path.{◌∙◌}
 use native.Mathlib.Omega.{arith}
-use borrow.Author.Rules.{rules}
 use Rattle.syntax.specs.Abstract.{ast}
 use Rattle.syntax.specs.Table.{at_block}
 use Rattle.grammar.specs.Parse.{read_stmt, read_block}
 use Rattle.grammar.proofs.Steps.{kept, room_for, written, unwritten, ready-next, ready_up, ready-after, told, begin, pass, wrote, call, fail, found}
-use mathlib.Core.Path.{refl, ◌∙◌}
+use mathlib.Core.Path.{refl}
 use Rattle.syntax.specs.Tree.{more_stmts}
 use Rattle.syntax.specs.Table.{at-more-stmts, at-braced}
 use Rattle.grammar.specs.Parse.{read_stmt, more_body}
@@ -15,8 +12,6 @@ use Rattle.syntax.specs.Tree.{no_stmts}
 use Rattle.syntax.specs.Table.{at-no-stmts}
 use Rattle.grammar.specs.Parse.{read_stmt}
 use Rattle.grammar.proofs.Steps.{room_for, written, unwritten, ready-in, before}
-use Prim.Native.Nat.{ℕ, ◌<◌, ◌*◌, ◌-◌, ◌+◌}
-use lib.ListN.{length}
 use Rattle.syntax.specs.Table.{at-if-else}
 use Rattle.grammar.specs.Parse.{read_stmt, read_if}
 use Rattle.grammar.proofs.Steps.{not_last, kept, room_for, written, unwritten, ready-next, ready-after, told, begin, not_so, pass, eat, wrote, call, fail, stop, found}

@@ -1,8 +1,5 @@
-use Prim.Native.Nat.{ℕ, ◌<◌, ◌-◌}
-use mathlib.Core.Path.{refl, ◌∙◌}
+use mathlib.Core.Path.{refl}
 use native.Mathlib.Omega.{arith}
-use borrow.Author.Rules.{rules}
-use lib.ListN.{length}
 use Rattle.syntax.specs.Abstract.{ast}
 use Rattle.syntax.specs.Tree.{either}
 use Rattle.syntax.specs.Table.{at-either}

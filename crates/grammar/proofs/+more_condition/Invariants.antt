@@ -1,13 +1,5 @@
-use Prim.Native.Nat.{ℕ, ◌<◌, ◌-◌}
-use mathlib.Core.Path.{refl, ◌∙◌}
-use native.Mathlib.Omega.{arith}
-use borrow.Author.Rules.{rules}
+use Prim.Native.Nat.{◌-◌}
 use lib.ListN.{length}
-use Rattle.syntax.specs.Abstract.{ast}
-use Rattle.syntax.specs.Tree.{either}
-use Rattle.syntax.specs.Table.{at-either}
-use Rattle.grammar.specs.Parse.{more_cond}
-use Rattle.grammar.proofs.Steps.{not_last, kept, room_for, written, unwritten, ready-next, ready-stored, ready-after, told, begin, not_so, eat, wrote, call, fail, found, hand}
 use Rattle.grammar.proofs.+more_condition.Given as goal
 
 abbrev pub decreases-more_condition : goal.decreases-more_condition

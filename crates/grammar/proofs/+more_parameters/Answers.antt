@@ -1,7 +1,5 @@
-use Prim.Native.Nat.{ℕ, ◌<◌, ◌-◌}
-use mathlib.Core.Path.{refl, ◌∙◌}
+use mathlib.Core.Path.{refl}
 use native.Mathlib.Omega.{arith}
-use lib.ListN.{length}
 use Rattle.syntax.specs.Abstract.{ast}
 use Rattle.syntax.specs.Tree.{next_param}
 use Rattle.syntax.specs.Table.{at-more-params}

@@ -1,6 +1,5 @@
 use mathlib.Core.Path.{refl, sym, ◌∙◌}
 use native.Mathlib.Omega.{arith}
-use borrow.Author.Rules.{rules}
 use Rattle.syntax.specs.Abstract.{ast}
 use Rattle.syntax.specs.Table.{at-always, at-never, at-compare}
 use Rattle.grammar.specs.Parse.{read_atom}

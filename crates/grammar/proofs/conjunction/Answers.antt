@@ -1,6 +1,4 @@
-use mathlib.Core.Path.{◌∙◌}
 use native.Mathlib.Omega.{arith}
-use borrow.Author.Rules.{rules}
 use Rattle.syntax.specs.Abstract.{ast}
 use Rattle.syntax.specs.Tree.{one_atom}
 use Rattle.grammar.specs.Parse.{read_conj}

@@ -1,7 +1,3 @@
-use Prim.Native.Nat.{◌+◌, ◌<◌}
-use mathlib.Core.Path.{◌≡◌, sym, ap, ◌∙◌}
-use native.Mathlib.Omega.{arith}
-use borrow.Author.Rules.{rules}
 use Rattle.grammar.proofs.Ends.{minus_number, plain-number, minus-inside}
 use Rattle.grammar.proofs.end_number.Goals as goal
 

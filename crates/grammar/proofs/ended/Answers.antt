@@ -1,6 +1,5 @@
-use mathlib.Core.Path.{refl, ◌∙◌}
+use mathlib.Core.Path.{refl}
 use native.Mathlib.Omega.{arith}
-use borrow.Author.Rules.{rules}
 use Rattle.grammar.specs.Parse.{read_ended}
 use Rattle.grammar.proofs.Steps.{kept, room_for, written, unwritten, ready-after, told, begin, not_so, eat, wrote, call, fail, stop, found}
 use Rattle.grammar.proofs.ended.Goals as goal

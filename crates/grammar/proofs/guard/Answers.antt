@@ -1,6 +1,5 @@
 use mathlib.Core.Path.{refl}
 use native.Mathlib.Omega.{arith}
-use borrow.Author.Rules.{rules}
 use Rattle.syntax.specs.Abstract.{ast}
 use Rattle.grammar.specs.Parse.{read_guard}
 use Rattle.grammar.proofs.Steps.{not_last, ready-next, ready-after, told, begin, not_so, eat, call, fail, stop, found}

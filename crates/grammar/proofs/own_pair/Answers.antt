@@ -1,7 +1,6 @@
 use Prim.Native.Nat.{◌+◌}
 use mathlib.Core.Path.{refl}
 use native.Mathlib.Omega.{arith}
-use borrow.Author.Rules.{rules}
 use Rattle.syntax.specs.Token.{k_dot_dot, k_semi}
 use Rattle.syntax.specs.Tree.{declare_own}
 use Rattle.syntax.specs.Abstract.{ast}

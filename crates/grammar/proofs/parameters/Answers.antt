@@ -1,4 +1,4 @@
-use mathlib.Core.Path.{refl, ◌∙◌}
+use mathlib.Core.Path.{refl}
 use native.Mathlib.Omega.{arith}
 use Rattle.syntax.specs.Abstract.{ast}
 use Rattle.syntax.specs.Tree.{first_param}

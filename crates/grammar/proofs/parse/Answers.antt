@@ -1,5 +1,4 @@
 use native.Mathlib.Omega.{arith}
-use borrow.Author.Rules.{rules}
 use Rattle.syntax.specs.Tree.{no_funs}
 use Rattle.grammar.proofs.Steps.{told}
 use Rattle.grammar.proofs.Whole.{begin-ready, no-funs-at, whole-stop, whole-tree, whole-bad}

@@ -1,9 +1,8 @@
-use Prim.Native.Nat.{◌-◌, ◌<◌}
+use Prim.Native.Nat.{◌<◌}
 use native.Mathlib.Omega.{arith}
-use borrow.Author.Rules.{rules}
 use mathlib.Core.Path.{sym, ◌∙◌}
 use lib.ListN.{length, length-set}
-use Rattle.lexer.proofs.Turns.{Turn, turn-start, too_long, turn-blank, turn-nothing, turn-size, turn-token, turn-large, turn-tokens}
+use Rattle.lexer.proofs.Turns.{turn-start, too_long, turn-blank, turn-nothing, turn-size, turn-token, turn-large, turn-tokens}
 use Rattle.lexer.proofs.lex.Goals as goal
 
 pub returns-then-text-gt2048 : goal.returns-then-text-gt2048

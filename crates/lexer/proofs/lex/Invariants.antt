@@ -1,9 +1,6 @@
-use Prim.Native.Nat.{◌-◌, ◌<◌}
-use native.Mathlib.Omega.{arith}
-use borrow.Author.Rules.{rules}
-use mathlib.Core.Path.{sym, ◌∙◌}
-use lib.ListN.{length, length-set}
-use Rattle.lexer.proofs.Turns.{Turn, turn-start, too_long, turn-blank, turn-nothing, turn-size, turn-token, turn-large, turn-tokens}
+use Prim.Native.Nat.{◌-◌}
+use lib.ListN.{length}
+use Rattle.lexer.proofs.Turns.{Turn}
 use Rattle.lexer.proofs.lex.Given as goal
 
 abbrev pub invariant-loop-at : goal.invariant-loop-at

@@ -1,5 +1,4 @@
 use native.Mathlib.Omega.{arith}
-use borrow.Author.Rules.{rules}
 use Rattle.lexer.proofs.Fronts.{name-piece}
 use Rattle.lexer.proofs.name_at.Goals as goal
 

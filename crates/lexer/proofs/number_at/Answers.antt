@@ -1,5 +1,4 @@
 use native.Mathlib.Omega.{arith}
-use borrow.Author.Rules.{rules}
 use Rattle.lexer.proofs.Fronts.{number-piece}
 use Rattle.lexer.proofs.number_at.Goals as goal
 

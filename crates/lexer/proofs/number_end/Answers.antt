@@ -1,12 +1,10 @@
-use Prim.Native.Nat.{◌+◌, ◌-◌, ◌≤◌}
 use native.Mathlib.Omega.{arith}
-use mathlib.Core.Path.{◌≡◌, sym, ◌∙◌}
-use lib.ListN.{length, get_or, drop}
+use mathlib.Core.Path.{sym, ◌∙◌}
+use lib.ListN.{get_or}
 use borrow.Author.Tests.{eq-eqb, ne_eqb}
-use Rattle.lexer.specs.Lex.{longest}
 use Rattle.lexer.specs.Parts.{class_of}
 use Rattle.lexer.proofs.Bytes.{class-digit, class-underscore}
-use Rattle.lexer.proofs.Numbers.{more, end_of, end-digit, end-underscore, end-other, end-over}
+use Rattle.lexer.proofs.Numbers.{end-digit, end-underscore, end-other, end-over}
 use Rattle.lexer.proofs.Fronts.{number-start}
 use Rattle.lexer.proofs.number_end.Goals as goal
 

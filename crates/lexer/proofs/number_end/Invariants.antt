@@ -1,13 +1,8 @@
 use Prim.Native.Nat.{◌+◌, ◌-◌, ◌≤◌}
-use native.Mathlib.Omega.{arith}
-use mathlib.Core.Path.{◌≡◌, sym, ◌∙◌}
-use lib.ListN.{length, get_or, drop}
-use borrow.Author.Tests.{eq-eqb, ne_eqb}
+use mathlib.Core.Path.{◌≡◌}
+use lib.ListN.{length, drop}
 use Rattle.lexer.specs.Lex.{longest}
-use Rattle.lexer.specs.Parts.{class_of}
-use Rattle.lexer.proofs.Bytes.{class-digit, class-underscore}
-use Rattle.lexer.proofs.Numbers.{more, end_of, end-digit, end-underscore, end-other, end-over}
-use Rattle.lexer.proofs.Fronts.{number-start}
+use Rattle.lexer.proofs.Numbers.{more, end_of}
 use Rattle.lexer.proofs.number_end.Given as goal
 
 -- the bytes before i are read, and `end` is after the last digit of them

@@ -1,7 +1,7 @@
-use Prim.Native.Nat.{ℕ, ◌+◌, ◌-◌, ◌≤◌, min}
+use Prim.Native.Nat.{ℕ, ◌+◌, min}
 use native.Mathlib.Omega.{arith}
-use mathlib.Core.Path.{◌≡◌, refl, sym, ◌∙◌, ap}
-use lib.ListN.{length, drop}
+use mathlib.Core.Path.{refl, sym, ◌∙◌, ap}
+use lib.ListN.{drop}
 use Rattle.lexer.specs.Lex.{decimal, digits_of}
 use Rattle.lexer.specs.Parts.{limit}
 use Rattle.lexer.proofs.Numbers.{value-more, value-end}

@@ -1,10 +1,8 @@
-use Prim.Native.Nat.{ℕ, ◌+◌, ◌-◌, ◌≤◌, min}
-use native.Mathlib.Omega.{arith}
-use mathlib.Core.Path.{◌≡◌, refl, sym, ◌∙◌, ap}
+use Prim.Native.Nat.{◌-◌, ◌≤◌, min}
+use mathlib.Core.Path.{◌≡◌}
 use lib.ListN.{length, drop}
 use Rattle.lexer.specs.Lex.{decimal, digits_of}
 use Rattle.lexer.specs.Parts.{limit}
-use Rattle.lexer.proofs.Numbers.{value-more, value-end}
 use Rattle.lexer.proofs.number_value.Given as goal
 
 abbrev pub invariant-loop-i : goal.invariant-loop-i

@@ -1,5 +1,4 @@
 use mathlib.Core.Path.{sym, ◌∙◌}
-use borrow.Author.Rules.{rules}
 use lib.ListN.{drop}
 use Rattle.syntax.specs.Token.{k_name}
 use Rattle.lexer.specs.Lex.{words}

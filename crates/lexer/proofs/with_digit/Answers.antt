@@ -1,4 +1,3 @@
-use borrow.Author.Rules.{rules}
 use native.Mathlib.Omega.{arith}
 use Rattle.lexer.proofs.Bytes.{digit-bounds}
 use Rattle.lexer.proofs.with_digit.Goals as goal

@@ -1,11 +1,9 @@
-use Prim.Native.Nat.{◌+◌, ◌-◌, ◌≤◌}
 use native.Mathlib.Omega.{arith}
-use mathlib.Core.Path.{◌≡◌, refl, sym, ◌∙◌, ap}
-use lib.ListN.{length, get_or, drop}
+use mathlib.Core.Path.{refl, sym, ◌∙◌, ap}
+use lib.ListN.{get_or}
 use lib.Dec.{leb}
 use borrow.Author.Tests.{lt-leb, le-leb}
 use Rattle.lexer.specs.Lex.{is_word}
-use Rattle.lexer.specs.Parts.{span}
 use Rattle.lexer.proofs.Bytes.{word-class, span_more, span-stop, span-end}
 use Rattle.lexer.proofs.word_end.Goals as goal
 

@@ -1,12 +1,8 @@
 use Prim.Native.Nat.{◌+◌, ◌-◌, ◌≤◌}
-use native.Mathlib.Omega.{arith}
-use mathlib.Core.Path.{◌≡◌, refl, sym, ◌∙◌, ap}
-use lib.ListN.{length, get_or, drop}
-use lib.Dec.{leb}
-use borrow.Author.Tests.{lt-leb, le-leb}
+use mathlib.Core.Path.{◌≡◌}
+use lib.ListN.{length, drop}
 use Rattle.lexer.specs.Lex.{is_word}
 use Rattle.lexer.specs.Parts.{span}
-use Rattle.lexer.proofs.Bytes.{word-class, span_more, span-stop, span-end}
 use Rattle.lexer.proofs.word_end.Given as goal
 
 abbrev pub invariant-loop-end : goal.invariant-loop-end
