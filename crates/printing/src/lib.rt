@@ -1,4 +1,6 @@
 // Bytes and numbers written into a lent slice, one after the other. What lies past the slice's end is counted and not written.
+#![tactic(auto)]
+
 ghost use Rattle.std.specs.Prelude.{List, [], ◌∷◌, ◌≡◌, ℕ, ◌+◌, ◌<◌, min};
 ghost use Rattle.std.specs.Int.{w32};
 ghost use Rattle.std.proofs.Common.{to_z};
