@@ -1,4 +1,6 @@
 // The events of a syntax tree: one pass over the node table.
+#![tactic(auto)]
+
 ghost use Rattle.std.specs.Prelude.{[], ◌∷◌, ◌+◌, ◌*◌, ◌^◌, ◌≤◌, ◌<◌, length};
 ghost use Rattle.syntax.specs.Ast.{expr, args, body};
 ghost use Rattle.events.specs.Stored.{event_words, event_of};

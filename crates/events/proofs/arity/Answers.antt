@@ -1,0 +1,26 @@
+use mathlib.Core.Path.{sym}
+use native.Mathlib.Nat.{zero-add}
+use native.Mathlib.Omega.{arith}
+use Rattle.events.proofs.Counting.{rest-step, rest-none}
+use Rattle.events.proofs.Steps.{counts-arguments}
+use Rattle.events.proofs.arity.Goals as goal
+
+pub loop-node-init : goal.loop-node-init
+loop-node-init c = (omega arith, λ a h. record { tree = a; holds = h; same = sym (zero-add _) })
+
+pub fetch-node-requires : goal.fetch-node-requires
+fetch-node-requires c = omega (arith, c.loop-node.invariant.0, c.requires.room, c.requires.few)
+
+pub returns-then-node-ne-MORE_ARGS : goal.returns-then-node-ne-MORE_ARGS
+returns-then-node-ne-MORE_ARGS c = record { small = omega (arith, c.loop-node.invariant.0); is = λ a h. rest-none counts-arguments c.if-node-ne-MORE_ARGS.true c.fetch-node.ensures (c.loop-node.invariant.1 a h) }
+
+pub overflow_add-count : goal.overflow_add-count
+overflow_add-count c = omega (arith, c.loop-node.invariant.0, c.requires.few)
+
+pub loop-node-smaller : goal.loop-node-smaller
+loop-node-smaller c = (rest-step counts-arguments c.if-node-ne-MORE_ARGS.false c.fetch-node.ensures (c.loop-node.invariant.1 c.requires.tree c.requires.holds)).0
+
+pub loop-node-preserved : goal.loop-node-preserved
+loop-node-preserved c =
+    let w = (rest-step counts-arguments c.if-node-ne-MORE_ARGS.false c.fetch-node.ensures (c.loop-node.invariant.1 c.requires.tree c.requires.holds)).0 in
+    (omega (arith, w, c.loop-node.invariant.0), λ a h. (rest-step counts-arguments c.if-node-ne-MORE_ARGS.false c.fetch-node.ensures (c.loop-node.invariant.1 a h)).1)
