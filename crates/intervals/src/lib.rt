@@ -1,4 +1,6 @@
 // A window, and how it narrows by a comparison with a number.
+#![tactic(auto)]
+
 ghost use Rattle.std.specs.Prelude.{◌≡◌};
 ghost use Rattle.std.proofs.Math.Option.{none};
 ghost use Rattle.semantics.specs.Int.{lt, le, gt, ge, eq, ne};
