@@ -9,7 +9,6 @@ use native.Mathlib.Nat.{add-zero, add-suc, suc-add}
 use lib.ListN.{length, get_or, set, length-set}
 use lib.Seq.{get_or-set_same, get_or-set_other}
 use lib.Dec.{eqb}
-use types.Run.{OneOf}
 use Rattle.events.specs.Event.{Event, function, parameter, thing, opens, closes, declares, uses, calls, ends}
 use Rattle.events.specs.Stored.{e_function, e_parameter, e_thing, e_opens, e_declares, e_uses, e_calls, e_ends, event_found_at, event_of, from, stored}
 use Rattle.events.specs.declared.event.Event as C
@@ -17,23 +16,22 @@ use Rattle.events.specs.declared.event.Event.TheVariants.{Function, Parameter, T
 use Rattle.text_rules.specs.Rules.{Head, heads, parameters}
 use Rattle.events.specs.Read.{as_event}
 use Rattle.text_rules.specs.Answers.{head_arity, head_words, head, head_at, heads_from, stored_heads}
-use Rattle.events.proofs.Variants.{number, not-one}
 use Rattle.events.proofs.Laws.{from-length}
 use Rattle.text_rules.proofs.Scans.{rest, rest_more, rest-none, rest_all}
 
 -- ---- the parameters that events begin with
 
--- the numbers of the variants but Parameter, and but Function
-abbrev pub no_parameter : List ℕ
-no_parameter = 0 ∷ 2 ∷ 3 ∷ 4 ∷ 5 ∷ 6 ∷ 7 ∷ 8 ∷ []
+-- an event is no parameter, and no function
+abbrev pub NoParameter : C.Event → Type 0
+NoParameter x = (t : ℕ) → x ≡ Parameter t → ⊥
 
-abbrev pub no_function : List ℕ
-no_function = 1 ∷ 2 ∷ 3 ∷ 4 ∷ 5 ∷ 6 ∷ 7 ∷ 8 ∷ []
+abbrev pub NoFunction : C.Event → Type 0
+NoFunction x = (t : ℕ) → x ≡ Function t → ⊥
 
-stops : (es : List Event) (x : C.Event) → OneOf no_parameter (number x) → parameters (as_event x ∷ es) ≡ 0
+stops : (es : List Event) (x : C.Event) → NoParameter x → parameters (as_event x ∷ es) ≡ 0
 unfolding parameters
 stops es (Function i) h = refl
-stops es (Parameter i) h = absurd (not-one 1 no_parameter refl h)
+stops es (Parameter i) h = absurd (h i refl)
 stops es (Thing d i) h = refl
 stops es Opens h = refl
 stops es Closes h = refl
@@ -47,7 +45,7 @@ module _ (l : List ℕ) (n i : ℕ) where
   unfolding parameters
   arity-more lt e = ap parameters (rest_more l n i lt) ∙ rw (← e)
 
-  pub arity-stop : (x : C.Event) → i < n → as_event x ≡ event_found_at l i → OneOf no_parameter (number x) → parameters (rest l n i) ≡ 0
+  pub arity-stop : (x : C.Event) → i < n → as_event x ≡ event_found_at l i → NoParameter x → parameters (rest l n i) ≡ 0
   arity-stop x lt e h = ap parameters (rest_more l n i lt) ∙ rw (← e) (stops (rest l n (i + 1)) x h)
 
   pub arity-none : n ≤ i → parameters (rest l n i) ≡ 0
@@ -88,9 +86,9 @@ function-word k x y t e = go (eqb k e_function) (eqb k e_parameter) (eqb k e_thi
     go false false false false false false false true e = cc
     go false false false false false false false false e = cc
 
-passes : (es : List Event) (x : C.Event) → OneOf no_function (number x) → heads (as_event x ∷ es) ≡ heads es
+passes : (es : List Event) (x : C.Event) → NoFunction x → heads (as_event x ∷ es) ≡ heads es
 unfolding heads
-passes es (Function i) h = absurd (not-one 0 no_function refl h)
+passes es (Function i) h = absurd (h i refl)
 passes es (Parameter i) h = refl
 passes es (Thing d i) h = refl
 passes es Opens h = refl
@@ -105,7 +103,7 @@ module _ (l : List ℕ) (n i : ℕ) where
   unfolding heads
   heads-more lt e = ap heads (rest_more l n i lt) ∙ rw (← e)
 
-  pub heads-pass : (x : C.Event) → i < n → as_event x ≡ event_found_at l i → OneOf no_function (number x) → heads (rest l n i) ≡ heads (rest l n (i + 1))
+  pub heads-pass : (x : C.Event) → i < n → as_event x ≡ event_found_at l i → NoFunction x → heads (rest l n i) ≡ heads (rest l n (i + 1))
   heads-pass x lt e h = ap heads (rest_more l n i lt) ∙ rw (← e) (passes (rest l n (i + 1)) x h)
 
 -- ---- functions in a slice: the last one, and those before it
@@ -176,7 +174,7 @@ module _ (l : List ℕ) (n : ℕ) (before : List ℕ) where
           kept = λ j le. ap (λ (y : List ℕ). get_or y j 0) x ∙ put_other m h t a r j (λ z. omega arith) (λ z. omega arith) ∙ g.kept j (omega arith);
         }
 
-    pub gathered-pass : (x : C.Event) → as_event x ≡ event_found_at l i → OneOf no_function (number x) → Gathered l n before m h (i + 1)
+    pub gathered-pass : (x : C.Event) → as_event x ≡ event_found_at l i → NoFunction x → Gathered l n before m h (i + 1)
     gathered-pass x e o = record {
       few = omega (arith, g.few);
       inside = omega arith;

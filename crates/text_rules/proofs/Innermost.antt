@@ -1,9 +1,9 @@
 -- What a lookup finds, in the words of document 01, and how many declarations it compares, in those of document 02: the innermost block that has the name, and in it the newest declaration of it.
 -- Where rule 6 is kept no name can be seen twice, so that there is no other.
 use Prim.Native.Nat.{ℕ, suc, ◌+◌}
-use mathlib.Core.Path.{◌≡◌, refl, sym, ap, ◌∙◌, subst}
+use mathlib.Core.Path.{◌≡◌, refl, ap, ◌∙◌}
 use mathlib.Core.Bool.{Bool, true, false, cond}
-use mathlib.Core.List.{List, [], ◌∷◌, ◌++◌, map, reverse, reverse-cons, append_assoc}
+use mathlib.Core.List.{List, [], ◌∷◌, ◌++◌}
 use mathlib.Core.List.Memᴰ.{append_cases}
 use mathlib.Core.List.Memᴰ.{head as here}
 use mathlib.Core.List.Memᴰ.{not-nil}
@@ -13,7 +13,7 @@ use mathlib.Core.Option.{Option, none, some}
 use native.Mathlib.Omega.{arith}
 use lib.ListN.{length, length-append}
 use Rattle.semantics.specs.Demand.{◌∈◌}
-use Rattle.text_rules.specs.Names.{Declared, in_block, sought, seen, compared, if_found, unless_found}
+use Rattle.text_rules.specs.Names.{Declared, in_block, sought, seen, compared}
 
 module _ (same : ℕ → ℕ → Bool) where
   -- none of the declarations ds has the name of token i

@@ -69,7 +69,7 @@ module _ (value : ℕ → ℕ) (counts : List ℕ) (means : ℕ → ℕ) where
   abbrev come : Ast cond → Bool → Flows → Flows
   come c o φ v = when (part value means c) o (φ v)
 
-  reads-keep : {k : Sort} {seen : List ℕ} {lo : ℕ} {t : Ast k} → Reads counts means seen lo k t → (φ : Flows) (set : ℕ → Bool) → SaysOf φ set → unset means t set ≡ [] → Keeps k t φ
+  reads-keep : {seen : List ℕ} {lo : ℕ} {k : Sort} {t : Ast k} → Reads counts means seen lo k t → (φ : Flows) (set : ℕ → Bool) → SaysOf φ set → unset means t set ≡ [] → Keeps k t φ
   unfolding part unset KeepsE KeepsC many
   reads-keep S.number φ set h u = tt
   reads-keep S.negative φ set h u = tt

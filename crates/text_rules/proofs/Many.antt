@@ -1,6 +1,6 @@
 -- How many declarations stand in a part, by the tree: rule 10 counts as many in its events.
 use Prim.Native.Nat.{ℕ, suc, ◌+◌}
-use mathlib.Core.Path.{◌≡◌, refl, sym, ap, ◌∙◌}
+use mathlib.Core.Path.{◌≡◌, refl, ap, ◌∙◌}
 use mathlib.Core.List.{List, [], ◌∷◌, ◌++◌}
 use native.Mathlib.Omega.{arith}
 use Rattle.syntax.specs.Ast.{Sort, Ast, stmt, stmts, body}

@@ -1,11 +1,10 @@
 -- The declarations with their own pair that the tokens of a tree show are those of the tree.
-use Prim.Native.Nat.{ℕ, suc, ◌+◌, ◌-◌}
+use Prim.Native.Nat.{ℕ, suc, ◌+◌}
 use mathlib.Core.Path.{◌≡◌, refl, sym, ap, ap₂, ◌∙◌}
 use mathlib.Core.Bool.{true, false}
 use mathlib.Core.List.{List, [], ◌∷◌, ◌++◌, append_assoc}
 use native.Mathlib.Omega.{arith}
-use lib.ListN.{length}
-use Rattle.syntax.specs.Token.{k_end, k_name, k_open, k_close, k_comma, k_times, k_plus, k_minus, k_and, k_or, k_semi, k_int, k_assign, k_lbrace, k_rbrace, k_else}
+use Rattle.syntax.specs.Token.{k_end, k_name, k_close, k_comma, k_times, k_plus, k_minus, k_and, k_or, k_semi, k_int, k_lbrace, k_rbrace, k_else}
 use Rattle.syntax.specs.Tree.{Cat, Tree, onto, width, numbered, less, less_eq, greater, greater_eq, equal, unequal}
 use Rattle.syntax.specs.Tree as T
 use Rattle.syntax.specs.Abstract.{ast}

@@ -13,7 +13,7 @@ use native.Mathlib.Omega.{arith}
 use lib.ListN.{length, get_or, length-map, get_or-map}
 use Rattle.syntax.specs.Ast.{Sort, Ast, params, body, fun, prog}
 use Rattle.syntax.specs.Ast as A
-use Rattle.events.specs.Event.{Event, function, parameter, thing, opens, closes, ends, first, closing, stops, events_at, events}
+use Rattle.events.specs.Event.{Event, parameter, thing, opens, closes, ends, first, closing, stops, events_at, events}
 use Rattle.events.proofs.Rising.{Rising}
 use Rattle.semantics.specs.Demand.{◌∈◌}
 use Rattle.semantics.specs.Program.{Stmts, Program}

@@ -1,16 +1,16 @@
 -- The names of a text by its events are the names of its tree: what the lookup is handed at a name is just what can be seen there.
 use Prim.Native.Nat.{ℕ, suc, ◌+◌}
 use mathlib.Core.Path.{◌≡◌, refl, sym, ap, ap₂, ◌∙◌, subst}
-use mathlib.Core.Bool.{Bool, not}
+use mathlib.Core.Bool.{Bool}
 use mathlib.Core.List.{List, [], ◌∷◌, ◌++◌, append_assoc, append-nil}
 use native.Mathlib.Omega.{arith}
 use Rattle.syntax.specs.Ast.{Sort, Ast, expr, args, mark, cond, stmt, stmts, body, params, fun, prog}
 use Rattle.syntax.specs.Ast as A
-use Rattle.events.specs.Event.{Event, function, parameter, thing, opens, closes, declares, uses, calls, ends, first, count, closing, stops, events_at, events}
+use Rattle.events.specs.Event.{Event, thing, opens, closes, declares, events_at, events}
 use Rattle.text_rules.specs.Scan.{scan}
 use Rattle.text_rules.specs.Rules.{heads}
 use Rattle.text_rules.specs.Assigned.{parameter_count}
-use Rattle.text_rules.specs.Names.{Declared, variable, many, declared_by, earlier, parameters_of, Name, declared, used, called, names, names_of, for_names, misnamed, bad_names, bad_functions, named, Meaning, meanings}
+use Rattle.text_rules.specs.Names.{Declared, variable, many, declared_by, earlier, parameters_of, Name, declared, names, names_of, for_names, misnamed, bad_names, bad_functions, named, meanings}
 use Rattle.text_rules.proofs.Many.{stands, many-one, many-all}
 use Rattle.text_rules.specs.Scopes.{Scope, scope, added, outer, entered, nowhere, on_name, name_at, bad_names_in, meanings_in}
 

@@ -19,7 +19,7 @@ use Rattle.lexer.specs.Lex as S
 use Rattle.lexer.proofs.Bytes.{same-eq}
 use Rattle.text_rules.specs.Spelling.{spelled, same_name}
 use Rattle.text_rules.specs.Assigned.{parameter_count}
-use Rattle.text_rules.specs.Names.{Declared, variable, many, declared_by, earlier, parameters_of, Name, declared, used, called, names, names_of, for_names, in_block, sought, seen, if_found, unless_found, misnamed, bad_variables}
+use Rattle.text_rules.specs.Names.{Declared, variable, many, declared_by, earlier, parameters_of, Name, declared, used, called, names, names_of, for_names, in_block, sought, seen, if_found, misnamed, bad_variables}
 use Rattle.text_rules.proofs.Counts.{nil-left, nil-right}
 use Rattle.text_rules.proofs.Seen.{for-append}
 use Rattle.text_rules.proofs.Innermost.{Without, not_in, not_found}
