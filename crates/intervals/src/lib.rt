@@ -9,7 +9,7 @@ ghost use Rattle.ints.specs.Numbers.{comparison};
 ghost use Rattle.intervals.specs.Meaning.{of_window, of_pair};
 
 // From low to high; none, where low is above high.
-#[derive(Drop)]
+#[derive(Clone, Copy)]
 pub struct Window {
     pub low: i32,
     pub high: i32,
