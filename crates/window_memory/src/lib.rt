@@ -1,4 +1,6 @@
 // The windows of a path in memory: eight pairs, two words each.
+#![tactic(auto)]
+
 ghost use Rattle.std.specs.Prelude.{◌≡◌, ◌+◌, ◌<◌, ◌≤◌, length};
 ghost use Rattle.window_memory.specs.Memory.{pair_at, pairs_at, put_pair, put_pairs};
 
