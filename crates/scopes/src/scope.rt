@@ -15,7 +15,7 @@ pub const SCOPE_SLOT: usize = 1;
 pub const SCOPE_START: usize = 2;
 
 // How many blocks are open, how many declarations can be seen, and the number of the function's next declaration.
-#[derive(Drop)]
+#[derive(Clone, Copy)]
 pub struct Scope {
     pub blocks: usize,
     pub seen: usize,
