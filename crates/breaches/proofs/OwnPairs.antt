@@ -1,5 +1,5 @@
 -- To go through the tokens with the least token so far is to take the least of all that breaks the rule.
-use Prim.Native.Nat.{ℕ, zero, suc, ◌+◌, ◌-◌, ◌^◌, ◌≤◌, ◌<◌}
+use Prim.Native.Nat.{ℕ, zero, suc, ◌+◌, ◌^◌, ◌≤◌, ◌<◌}
 use mathlib.Core.Path.{◌≡◌, refl, sym, ap, ap₂, ◌∙◌, subst}
 use mathlib.Core.Bool.{Bool, true, false, cond}
 use mathlib.Core.List.{List, [], ◌∷◌, ◌++◌, append_assoc, append-nil}
@@ -8,7 +8,7 @@ use native.Mathlib.Omega.{arith}
 use lib.ListN.{length, get_or, drop, drop_of_length-le}
 use lib.Seq.{drop-cons, get_or-drop}
 use lib.Dec.{eqb}
-use lib.IntN.{ℤ, pos, negsuc, ◌-ℤ◌}
+use lib.IntN.{ℤ}
 use lib.Signed.{mag}
 use borrow.Author.Tests.{eq-eqb, ne_eqb}
 use Rattle.syntax.specs.Token.{k_free, k_semi, k_minus}
@@ -16,8 +16,8 @@ use Rattle.syntax.specs.Ast.{bit}
 use Rattle.semantics.specs.Program.{Window}
 use Rattle.semantics.specs.Search.{to}
 use Rattle.text_rules.specs.Scan.{least, lesser, when}
-use Rattle.text_rules.specs.Own.{Own, own, signed, pair_at, breach, breaching}
-use Rattle.text_rules.specs.Answers.{least_with, minus_at, own_at, owns_from}
+use Rattle.text_rules.specs.Own.{Own, own, signed, breach, breaching}
+use Rattle.text_rules.specs.Answers.{least_with, minus_at, field_own, owns_from}
 use Rattle.text_rules.proofs.OwnRules.{negated-is}
 use Rattle.text_rules.proofs.Scans.{with_append, with_none}
 use Rattle.breaches.specs.Pairs.{word, pair_rule, own_here, breaches_from}
@@ -41,7 +41,7 @@ module _ (ks : List ℕ) where
   behind : (i j : ℕ) → get_or (drop (suc i) ks) j 0 ≡ get_or ks (i + 1 + j) 0
   behind i j = rw get_or-drop (ap (λ (n : ℕ). get_or ks n 0) (omega arith))
 
-  here-is : (i : ℕ) → cond (eqb (get_or ks i 0) k_free) (own_at (suc i) (drop (suc i) ks)) [] ≡ own_here ks i
+  here-is : (i : ℕ) → cond (eqb (get_or ks i 0) k_free) (field_own (suc i) (drop (suc i) ks)) [] ≡ own_here ks i
   here-is i =
       let d = drop (suc i) ks in
       let t : suc i ≡ i + 1 = omega arith in
@@ -61,7 +61,7 @@ module _ (ks : List ℕ) where
     one_more i h =
         let t : suc i ≡ i + 1 = omega arith in
         ap (λ (l : List ℕ). breaching (word vs) (pair_rule wide) (owns_from i l)) (drop-cons ks i 0 h)
-        ∙ breaching-append (word vs) (pair_rule wide) (cond (eqb (get_or ks i 0) k_free) (own_at (suc i) (drop (suc i) ks)) []) (owns_from (suc i) (drop (suc i) ks))
+        ∙ breaching-append (word vs) (pair_rule wide) (cond (eqb (get_or ks i 0) k_free) (field_own (suc i) (drop (suc i) ks)) []) (owns_from (suc i) (drop (suc i) ks))
         ∙ ap (λ (l : List Own). breaching (word vs) (pair_rule wide) l ++ breaching (word vs) (pair_rule wide) (owns_from (suc i) (drop (suc i) ks))) (here-is i)
         ∙ ap (λ (n : ℕ). breaching (word vs) (pair_rule wide) (own_here ks i) ++ breaching (word vs) (pair_rule wide) (owns_from n (drop n ks))) t
 

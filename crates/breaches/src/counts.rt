@@ -18,7 +18,7 @@ const PARAMETERS: usize = 4;
 const DECLARATIONS: usize = 16;
 
 // How many functions so far, and of the present one how many parameters, and declarations with the parameters.
-#[derive(Drop)]
+#[derive(Clone, Copy)]
 struct Tally {
     pub functions: usize,
     pub parameters: usize,
