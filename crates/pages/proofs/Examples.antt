@@ -1,11 +1,9 @@
 -- Columns and page numbers, by computation: each limit and one past it.
-use Prim.Native.Nat.{ℕ}
 use mathlib.Core.Path.{◌≡◌, refl}
-use mathlib.Core.List.{List, [], ◌∷◌, map}
-use lib.IntN.{ℤ, pos, negsuc}
+use mathlib.Core.List.{[], ◌∷◌, map}
+use lib.IntN.{pos, negsuc}
 use Rattle.lexer.specs.Lex.{bytes}
 use Rattle.printing.specs.Decimal.{digits, natural, integer}
-use Rattle.semantics.specs.Run.{Row}
 use Rattle.pages.specs.Pages.{right, column, columns, row_across, last_five, heading}
 
 -- 12345678 and -1234567 are shown, 123456789 and -12345678 are wider than 8; a minus counts

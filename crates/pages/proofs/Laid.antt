@@ -5,7 +5,7 @@ use mathlib.Core.Path.{◌≡◌, refl, sym, ◌∙◌, ap}
 use mathlib.Core.Bool.{Bool, true, false}
 use mathlib.Core.List.{List, [], ◌∷◌, ◌++◌, append_assoc}
 use lib.ListN.{length, take, drop, get_or, length-append, length-take, length-drop, length-map, get_or-append}
-use lib.Seq.{drop-drop, get_or_at, get_or-take, get_or-drop, take_at, take-append-le, drop-append-le, drop-append-add}
+use lib.Seq.{drop-drop, get_or_at, get_or-take, get_or-drop, take_at, drop-append-le, drop-append-add}
 use lib.Dec.{ltb}
 use borrow.Author.Tests.{ltb-true, ltb-false}
 use Rattle.printing.specs.Written.{blanks}
@@ -13,7 +13,7 @@ use Rattle.semantics.specs.Run.{Row}
 use Rattle.semantics.specs.Search.{Close}
 use Rattle.semantics.proofs.Keep.{All, anil, acons}
 use Rattle.lines.specs.Print.{line_end, ending}
-use Rattle.pages.specs.Pages.{Line, Page, filled, row_across, rows_down, heading, page, pages_from, wall_sheet, page_bytes, sheet_bytes}
+use Rattle.pages.specs.Pages.{Line, Page, filled, row_across, rows_down, heading, page, wall_sheet, page_bytes, sheet_bytes}
 use Rattle.pages.specs.Laid.{line_at, no_row, Laid}
 use Rattle.pages.proofs.Widths.{filled-length, filled_none}
 use Rattle.pages.proofs.Lists.{map_at}

@@ -3,20 +3,20 @@ use Prim.Native.Nat.{ℕ, zero, suc, ◌+◌, ◌-◌, ◌*◌, ◌≤◌, ◌<�
 use native.Mathlib.Omega.{arith}
 use mathlib.Core.Path.{◌≡◌, refl, sym, ◌∙◌, ap, ap₂}
 use mathlib.Core.List.{List, [], ◌∷◌, ◌++◌, map, append_assoc, append-nil}
-use lib.ListN.{length, take, drop, get_or, replicate, length-append, length-take, length-drop, length-replicate, replicate-append-replicate}
-use lib.Seq.{sets, sets-eq, take_at, drop-drop, get_or-drop, take-append_seam, drop-append-le, take-append-le, length-take-le, take_all}
+use lib.ListN.{length, take, drop, get_or, replicate, length-drop, replicate-append-replicate}
+use lib.Seq.{sets-eq, take_at, drop-drop, get_or-drop, take-append_seam, drop-append-le, length-take-le}
 use lib.IntN.{ℤ, pos}
 use Rattle.lexer.specs.Lex.{bytes}
 use Rattle.printing.specs.Decimal.{natural, integer}
-use Rattle.printing.specs.Written.{blanks, most, Put}
+use Rattle.printing.specs.Written.{blanks, Put}
 use Rattle.semantics.specs.Run.{Row}
-use Rattle.semantics.specs.Search.{Close, whole, cuts, full, spent}
+use Rattle.semantics.specs.Search.{whole, cuts, full, spent}
 use Rattle.lines.specs.Print.{line_end, ending}
-use Rattle.lines.specs.Written.{count_of, ending_at, row_from, rows_from}
+use Rattle.lines.specs.Written.{count_of, ending_at, row_from}
 use Rattle.pages.specs.Pages.{right, filled, column, columns, row_across, rows_down, last_five, heading, page, page_bytes}
 use Rattle.pages.specs.Parts.{foot_at, joined, rows_bytes, blank_lines}
 use Rattle.pages.proofs.Widths.{Narrow, across-length, heading-length, filled-by, filled_none, ending-short}
-use Rattle.pages.proofs.Lists.{joined-append, joined-map, joined_same, map-replicate, map-join}
+use Rattle.pages.proofs.Lists.{joined-append, joined-map, map-replicate, map-join}
 
 -- ---- what was written into a slice of one's own
 

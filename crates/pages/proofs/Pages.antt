@@ -1,7 +1,7 @@
 -- The sheet, as the loop over its pages writes it.
 use Prim.Native.Nat.{ℕ, suc, ◌+◌, ◌*◌, ◌-◌, ◌≤◌, ◌<◌}
 use native.Mathlib.Omega.{arith}
-use mathlib.Core.Path.{◌≡◌, refl, sym, ◌∙◌, ap}
+use mathlib.Core.Path.{◌≡◌, sym, ◌∙◌, ap}
 use mathlib.Core.List.{List, ◌++◌}
 use lib.ListN.{length, take, drop}
 use lib.IntN.{ℤ}
@@ -12,7 +12,7 @@ use Rattle.pages.specs.Pages.{page, wall_sheet, page_bytes, sheet_bytes}
 use Rattle.pages.specs.Parts.{foot_at}
 use Rattle.pages.proofs.Lists.{rows-count, rows_take, rows_drop}
 use Rattle.pages.proofs.Lines.{foot-said}
-use Rattle.pages.proofs.Sheet.{Last, full_pages, sheet-end}
+use Rattle.pages.proofs.Sheet.{full_pages, sheet-end}
 
 module _ (ws : List ℤ) (n number from : ℕ) (e : from ≡ 58 * (number - 1)) (h : 1 ≤ number) where
   same_number : suc (number - 1) ≡ number

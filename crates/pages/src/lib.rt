@@ -1,4 +1,6 @@
 // The pages of a sheet for the wall, written into a lent slice.
+#![tactic(auto)]
+
 ghost use Rattle.std.specs.Prelude.{List, ◌++◌, ◌≡◌, ℕ, ◌+◌, ◌*◌, ◌≤◌, length, take, drop};
 ghost use Rattle.printing.specs.Decimal.{natural, integer};
 ghost use Rattle.printing.specs.Written.{blanks, Put};
