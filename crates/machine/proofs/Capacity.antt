@@ -9,7 +9,6 @@ use lib.IntN.{pos}
 use Rattle.semantics.specs.Does.{frame}
 use Rattle.semantics.specs.Search.{known}
 use Rattle.simulation.specs.Machine.{machine}
-use Rattle.simulation.specs.Nodes as nodes
 use Rattle.simulation.specs.Nodes.{Cell, Within, meaning}
 use Rattle.simulation.proofs.Bounds.{held_by, held, Sound}
 use Rattle.machine.specs.Layout.{frame_cells, cell_place, caller_base, tables_place}

@@ -21,7 +21,6 @@ use Rattle.machine.specs.Layout.{frame_cells, frame_place, variable_place, cell_
 use Rattle.machine.specs.Memory.{Sym, cell_read_as, cell_at, node_at, nodes_in, temps, frame_at, callers, machine_at}
 use Rattle.machine.specs.Terms.{cell_of, Room, Ready, Other, Kept, Put, Noded, Worked, Formed, Reads, Taking, Paired, Goes, acts, storing, Asked}
 use Rattle.machine.specs.declared.Value.{Value}
-use Rattle.machine.specs.declared.Value.TheVariants.{Open}
 use Rattle.machine.specs.declared.Run.{Run}
 use Rattle.machine.proofs.Tables.{Same, nodes-length, nodes-kept, meaning-kept, within_more, frame-cell, temp-cell, stacked-same, frame_same, temps-same, callers-same, room-same, room-less}
 use Rattle.machine.proofs.Operands.{kept-node}

@@ -150,7 +150,7 @@ module _ (ws : List ℕ) (size : ℕ) where
   module _ (m : List ℕ) (r : Run) (j : ℕ) where
     -- a temporary
     taking-pop : (v : Value) (top : ℕ) → Popped m r v top → ((f ts : List Sym) → taken known search.work c f ts j ≡ popped known search.work (code_in [] 0) ts) → Taking c m r j v top
-    taking-pop v top p e = record { is = λ f g. e _ _ ∙ p.is f g; low = p.low; high = p.high; sized = p.sized; within = p.within }
+    taking-pop v top p e = record { is = λ f g. e (frame_at f m r.depth) (temps f m r.base (r.top - r.base)) ∙ p.is f g; low = p.low; high = p.high; sized = p.sized; within = p.within }
 
     pub taking-out : (v : Value) (top : ℕ) → (j ≡ 0) ⊎ (size < j) → Popped m r v top → Taking c m r j v top
     taking-out v top h p = taking-pop v top p (λ f ts. taken_out f ts j h)

@@ -1,4 +1,6 @@
 // The machine of `simulation`, over lent memory.
+#![tactic(auto)]
+
 ghost use Rattle.std.specs.Prelude.{◌≡◌, ℕ, suc, ◌+◌, ◌-◌, ◌*◌, ◌<◌, ◌≤◌, length, get_or};
 ghost use Rattle.semantics.specs.Program.{slot};
 ghost use Rattle.semantics.specs.Search.{known, work as workS};
@@ -18,7 +20,7 @@ pub mod kinds;
 pub mod layout;
 
 // "A value is known, or open with the expression it stands for": a number, or the place of a node.
-#[derive(Drop)]
+#[derive(Clone, Copy)]
 pub enum Value {
     Known(i32),
     Open(usize),
@@ -31,7 +33,7 @@ pub struct Cell {
 }
 
 // The machine's state, beside the memory: the entry to be worked next, the flag, where the temporaries of the function that runs begin and end, how many functions wait for it, and how many nodes there are.
-#[derive(Drop)]
+#[derive(Clone, Copy)]
 pub struct Run {
     pub pc: usize,
     pub flag: bool,
