@@ -1,4 +1,6 @@
 // Rule 6 over the events of a text, and what each name means.
+#![tactic(auto)]
+
 ghost use Rattle.std.specs.Prelude.{◌≡◌, [], ◌*◌, ◌^◌, ◌≤◌, ◌<◌, length, set};
 ghost use Rattle.text_rules.specs.Spelling.{same_name};
 ghost use Rattle.events.specs.Stored.{event_words, stored};
