@@ -1,4 +1,6 @@
 // Rule 17 of a text: definite assignment. The variables are walked sixteen at a time: an array says which of a group are assigned.
+#![tactic(auto)]
+
 ghost use Rattle.std.specs.Prelude.{◌≡◌, true, ◌&&◌, ◌||◌, ℕ, ◌+◌, ◌^◌, ◌≤◌, ◌<◌, eqb, ltb, get_or};
 ghost use Rattle.syntax.specs.Ast.{cond, params, fun, prog};
 ghost use Rattle.events.specs.Walk.{Rooted};

@@ -1,0 +1,7 @@
+use Rattle.assignment.proofs.+flow_sequence.Given as goal
+
+abbrev pub decreases-flow : goal.decreases-flow
+decreases-flow l = l.i
+
+abbrev pub decreases-sequence : goal.decreases-sequence
+decreases-sequence l = l.i

@@ -1,0 +1,4 @@
+use Rattle.assignment.proofs.+split.Given as goal
+
+abbrev pub decreases-split : goal.decreases-split
+decreases-split l = l.i
