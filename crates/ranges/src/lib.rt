@@ -1,4 +1,6 @@
 // What two ranges decide, and the ranges of operations, over 32-bit numbers.
+#![tactic(auto)]
+
 ghost use Rattle.std.specs.Prelude.{◌≡◌, ◌+ℤ◌, ◌-ℤ◌, ◌*ℤ◌};
 ghost use Rattle.semantics.specs.Int.{add, sub, mul, eq, ne};
 ghost use Rattle.semantics.specs.Search.{to, min_z, max_z, span, fitted, always as alwaysOf, decided, negated as negatedOf, mirrored as mirroredOf};
