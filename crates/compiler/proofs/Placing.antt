@@ -1,5 +1,5 @@
 -- The program of a sound tree fits into words; so the words that the compiler writes are a code in which the program is placed.
-use Rattle.std.proofs.Common.{◌≡◌, ℕ, zero, suc, ◌+◌, ◌-◌, ◌*◌, ◌%◌, ◌^◌, ◌<◌, ◌≤◌, Bool, true, false, cond, List, [], ◌∷◌, ◌++◌, length, drop, ℤ, pos, negsuc, ◌-ℤ◌, sym, ap, ◌∙◌, zero-add, arith, length-append, w32, to_z, le-ltb, lt-ltb}
+use Rattle.std.proofs.Common.{◌≡◌, ℕ, zero, suc, ◌+◌, ◌-◌, ◌*◌, ◌%◌, ◌^◌, ◌<◌, ◌≤◌, Bool, true, false, List, [], ◌∷◌, ◌++◌, length, drop, ℤ, pos, negsuc, ◌-ℤ◌, sym, ap, ◌∙◌, zero-add, arith, length-append, w32, to_z, le-ltb, lt-ltb}
 use lib.Seq.{sets-eq}
 use mir.Val.{sel}
 use Rattle.semantics.specs.Int.{low32}
