@@ -1,4 +1,6 @@
 // The windows of a path, eight pairs, and how they narrow by a comparison of two sides.
+#![tactic(auto)]
+
 ghost use Rattle.std.specs.Prelude.{◌≡◌, ◌<◌, get_or, set};
 ghost use Rattle.std.proofs.Math.Option.{none};
 ghost use Rattle.semantics.specs.Search.{to, decided, clip, clipped, all32};
@@ -10,7 +12,7 @@ use intervals::Window;
 use ranges::mirrored;
 
 // A side of a comparison: just a free variable, by its place among the eight, or anything else, by its range.
-#[derive(Drop)]
+#[derive(Clone, Copy)]
 pub enum Side {
     Free(usize),
     Other(Window),
@@ -71,7 +73,7 @@ fn narrow_side(ws: [[i32; 2]; 8], s: Side, c: u32, k: i32) -> [[i32; 2]; 8]
 // The windows where the comparison, which the ranges of its sides do not decide, holds.
 pub fn narrowed(ws: [[i32; 2]; 8], c: u32, a: Side, b: Side) -> [[i32; 2]; 8]
     requires among_eight { AmongEight a × AmongEight b }
-    requires b_value { decided (comparison c) (range_of (of_pairs ws) a) (range_of (of_pairs ws) b) ≡ none }
+    requires undecided { decided (comparison c) (range_of (of_pairs ws) a) (range_of (of_pairs ws) b) ≡ none }
     ensures { of_pairs result ≡ narrowed_by (comparison c) a b (of_pairs ws) }
 {
     let w = range_of(ws, b);
