@@ -16,7 +16,7 @@ use lib.Seq.{drop-cons, take_all}
 use lib.Dec.{leb, ltb}
 use borrow.Author.Tests.{eq-eqb, ne_eqb, le-leb, lt-leb, le-ltb, lt-ltb}
 use Rattle.lexer.specs.Lex.{is_digit, all, decimal, same, bytes}
-use Rattle.lines.specs.JobLine.{place, before, after, blank, is_natural, plain, minus, number_of, job_with, job_in, line_job}
+use Rattle.lines.specs.JobLine.{place, before, after, blank, is_natural, plain, minus, number_of, job_with, job_in, line_job, line_settled}
 use Rattle.lines.specs.declared.JobLine.TheVariants.{Bad}
 use Rattle.lines.specs.Parts.{huge, valued, magnitude_of, read}
 
@@ -177,6 +177,13 @@ no_line l e = rw (le-ltb (place 10 l) (length l) (omega arith), line_job)
 pub a-line : (l : List ℕ) → place 10 l < length l → line_job l ≡ job_in (place 10 l + 1) (before 10 l)
 unfolding line_job
 a-line l h = rw (lt-ltb (place 10 l) (length l) h, line_job)
+
+-- what settles a job line: 40 bytes, or its end
+pub settled_long : (l : List ℕ) → 40 ≤ length l → line_settled l ≡ true
+settled_long l h = rw (le-leb 40 (length l) h)
+
+pub settled_short : (l : List ℕ) → length l < 40 → line_settled l ≡ ltb (place 10 l) (length l)
+settled_short l h = rw (lt-leb 40 (length l) h)
 
 -- ---- the three numbers of a line
 

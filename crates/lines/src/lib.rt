@@ -181,6 +181,7 @@ pub fn job_line(input: &[u8]) -> JobLine
 }
 
 // Whether no further input changes the job line: it has ended, or it is longer than any good one.
+#[tactic(auto, using(crate::proofs::Words::settled_long, crate::proofs::Words::settled_short))]
 pub fn line_settled(input: &[u8]) -> bool
     ensures { result ≡ line_settled input.now }
 {

@@ -1,3 +1,4 @@
+use native.Mathlib.Omega.{arith}
 use lib.IntN.{ℤ}
 use mir.Syntax.{w32}
 use mir.Val.{to_z, of_z, Fits}
@@ -23,4 +24,4 @@ returns c =
     let g : Fits w32 c.args.high = record { fits = c.if-high-ge4294967296.false } in
     let a : to_z w32 (of_z w32 c.signed.result) ≡ to_z w32 c.args.low = ap (λ (z : ℤ). to_z w32 (of_z w32 z)) c.signed.ensures ∙ to_z-of_z (to_z-Fits w32 c.args.low f) in
     let b : to_z w32 (of_z w32 c.signed-2.result) ≡ to_z w32 c.args.high = ap (λ (z : ℤ). to_z w32 (of_z w32 z)) c.signed-2.ensures ∙ to_z-of_z (to_z-Fits w32 c.args.high g) in
-    rw (read-signed c.args.low c.if-low-ge4294967296.false, read-signed c.args.high c.if-high-ge4294967296.false, read_plain c.args.steps c.if-steps-gt2147483647.false, a, b)
+    rw (read-signed c.args.low c.if-low-ge4294967296.false, read-signed c.args.high c.if-high-ge4294967296.false, read_plain c.args.steps (omega arith), a, b)

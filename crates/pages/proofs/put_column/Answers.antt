@@ -24,4 +24,4 @@ pub returns : goal.returns
 returns c =
     let z = rw (to_z-of_z c.ranges.z) at c.put_integer-n.ensures in
     let h = integer-length _ c.ranges.z in
-    put_as (ap (right 8) (written-front z (omega (arith, h))) ∙ column-shown _ (omega (arith, h, written_count z (omega (arith, h)), c.if-n-gt8.false))) c.put_right.ensures
+    put_as (ap (right 8) (written-front z (omega (arith, h))) ∙ column-shown _ (omega (arith, h, written_count z (omega (arith, h))))) c.put_right.ensures
