@@ -16,7 +16,7 @@ use Rattle.lexer.specs.declared.Lexed.{Lexed}
 use Rattle.lexer.specs.declared.Lexed.TheVariants as X
 use Rattle.lexer.proofs.Theorems.{Ended, the_end, before-end, lexed-tokens, end-last, count, stored-length, stored-kinds, stored-places}
 use Rattle.grammar.specs.Text.{Tokens}
-use Rattle.checker.specs.Check.{Verdict, accepted, refused, kinds, places, values, source, checked_tokens, checked}
+use Rattle.checker.specs.Check.{Verdict, accepted, refused, kinds, values, source, checked_tokens, checked}
 use Rattle.checker.specs.Sizes.{TOKENS}
 use Rattle.checker.specs.Analysis.{Settles, Analyses}
 use Rattle.checker.specs.Analysis as N

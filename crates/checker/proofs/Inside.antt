@@ -24,7 +24,7 @@ use Rattle.events.proofs.Tokens as W
 use Rattle.semantics.specs.Demand.{◌∈◌}
 use Rattle.text_rules.specs.Scan.{scan, on, when}
 use Rattle.text_rules.specs.Rules.{Head, heads, deep, wrong, arity_of, miscounted, mains, with_parameters, bad_main, unended, Tally, tally, counted, over, function_of}
-use Rattle.text_rules.specs.Names.{sought, unless_found, if_found, misnamed, uncalled, repeated, bad_names}
+use Rattle.text_rules.specs.Names.{sought, unless_found, if_found, misnamed, uncalled, repeated}
 use Rattle.text_rules.specs.Scopes.{Scope, nowhere as outside, entered, on_name, misnamed_at, bad_names_in}
 use Rattle.text_rules.proofs.Seen.{bad-names}
 use Rattle.text_rules.specs.Assigned.{unset}

@@ -38,7 +38,7 @@ tokens-low n s h = go (parsed s.kinds)
     go (ok t m) = verdict-low n s.places h (first_broken (rules_of s (ast t)))
 
 -- where a byte begins no token, and the first large token
-large-low : {text : List ℕ} {p q : ℕ} {ts : List Token} → Scans text p (found ts) → FirstLarge ts q → q ≤ length text
+large-low : {text : List ℕ} {q p : ℕ} {ts : List Token} → Scans text p (found ts) → FirstLarge ts q → q ≤ length text
 large-low s (here e) = place-low s 0
 large-low (ended b) (there e f) = absurd (none f)
   where

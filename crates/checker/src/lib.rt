@@ -1,4 +1,6 @@
 // Check.
+#![tactic(auto)]
+
 ghost use Rattle.std.specs.Prelude.{◌≡◌, ◌*◌, ◌≤◌, ◌<◌, length, replicate, List, ℕ};
 ghost use Rattle.events.specs.Stored.{event_words, stored};
 ghost use Rattle.syntax.specs.Ast.{prog};
