@@ -42,7 +42,8 @@ pub fn document(path: &str) -> String {
 pub fn crates() -> Vec<String> {
     let listed = document("crates.txt");
     let lines = listed.lines().filter(|line| !line.starts_with('#'));
-    lines.filter_map(|line| line.split_once(':')).map(|(name, _)| name.to_string()).collect()
+    let names = lines.filter_map(|line| line.split_once(':')?.0.split_whitespace().next());
+    names.map(str::to_string).collect()
 }
 
 // ---- what a document names
@@ -191,21 +192,15 @@ struct Definitions {
 
 /// The path of an imported file of definitions of this repository.
 fn imported(module: &str) -> Option<String> {
-    let (holder, rest) = module.strip_prefix("Rattle·")?.split_once('.')?;
-    let name = holder.split('·').next()?;
-    let mut parts = rest.split('.');
-    let folder = parts.next()?;
+    let mut parts = module.strip_prefix("Rattle.")?.split('.');
+    let (name, folder) = (parts.next()?, parts.next()?);
     let path = format!("crates/{name}/{folder}/{}.antt", parts.next()?);
     file(&path).exists().then_some(path)
 }
 
-/// `_∈_` is written between its sides as `∈`.
+/// `◌∈◌` is written between its sides as `∈`.
 fn plain(name: &str) -> &str {
-    if name.len() > 2 {
-        name.trim_matches('_')
-    } else {
-        name
-    }
+    name.trim_matches('◌')
 }
 
 impl Definitions {

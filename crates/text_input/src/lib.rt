@@ -1,8 +1,10 @@
 // The input of the programs that read a text and nothing else.
+#![tactic(auto)]
+
 ghost use Rattle.std.specs.Prelude.{◌≤◌, length};
 ghost use Rattle.text_input.specs.Input.{bytes_in};
 
-use libc::STDIN_FILENO;
+use std::io::Read;
 
 // 2,049 bytes settle what is said of a text: one of more than 2,048 is refused.
 pub const ENOUGH: usize = 2049;
@@ -15,16 +17,14 @@ pub enum Input {
 }
 
 // Reads until the buffer is full or the input ends.
-pub fn read_text(buffer: &mut [u8]) -> Input
+pub fn read_text(input: &mut impl Read, buffer: &mut [u8]) -> Input
     ensures { bytes_in result ≤ length buffer.new }
 {
     let mut n = 0;
     while n < buffer.len() {
-        let got = libc::read(STDIN_FILENO, &mut buffer[n..]);
-        if got < 0 {
+        let Ok(more) = input.read(&mut buffer[n..]) else {
             return Input::Failed;
-        }
-        let more = io::count(got, &buffer[n..]);
+        };
         if more == 0 {
             return Input::Bytes(n);
         }
