@@ -2,7 +2,7 @@
 use mathlib.Core.Path.{◌≡◌, refl, sym, ap, ap₂, ◌∙◌, subst}
 use mathlib.Core.Bool.{Bool, true, false, not}
 use mathlib.Core.List.{List}
-use Prim.Native.Nat.{ℕ, suc, ◌+◌, ◌-◌, ◌*◌, ◌≤◌, ◌<◌}
+use Prim.Native.Nat.{ℕ, ◌+◌, ◌-◌, ◌*◌, ◌≤◌, ◌<◌}
 use native.Mathlib.Omega.{arith}
 use lib.Dec.{T}
 use lib.ListN.{length}
@@ -25,7 +25,6 @@ use Rattle.settings.specs.declared.Tried.{Tried}
 use Rattle.settings.specs.declared.Tried.TheVariants.{Go, Spent}
 use Rattle.settings.specs.declared.Sought.{Sought}
 use Rattle.settings.specs.declared.Sought.TheVariants.{Met, Over, Out}
-use Rattle.settings.proofs.Pass.{not-true, not-false}
 use Rattle.settings.proofs.Renumbered.{setting-stays, nodes-steady, tests-steady, windows-steady, steady-none, steady-numbers, steady-setting, steady-more}
 use Rattle.settings.proofs.Going.{whole, Tries, tries-none, tries-first, tries-over, tries-next, tries-last, probing, Probes, probes-none, probes-before, probes-first}
 use Rattle.settings.proofs.Counting.{trying-placed}
@@ -36,11 +35,11 @@ pub fair-more : {t u : Tally} (size size' : ℕ) → size' ≡ size → Fair siz
 fair-more size size' e f c = record { sum = omega (arith, f.sum, c.sum); place = subst (λ (n : ℕ). 10 * n ≤ size') (sym c.places) (omega (arith, f.place)) }
 
 -- a test whether there is a setting
-pub some-setting : {b r : Bool} → r ≡ b → not r ≡ false → T b
-some-setting e h = subst T (sym (not-false _ h) ∙ e) tt
+pub some-setting : {b r : Bool} → r ≡ b → r ≡ true → T b
+some-setting e h = subst T (sym h ∙ e) tt
 
-pub no-setting : {b r : Bool} → r ≡ b → not r ≡ true → T (not b)
-no-setting e h = subst (λ (b : Bool). T (not b)) (sym (not-true _ h) ∙ e) tt
+pub no-setting : {b r : Bool} → r ≡ b → r ≡ false → T (not b)
+no-setting e h = subst (λ (b : Bool). T (not b)) (sym h ∙ e) tt
 
 -- ---- the memory of a loop
 

@@ -3,7 +3,7 @@ use mathlib.Core.Path.{◌≡◌, refl, sym, ap, ap₂, ◌∙◌, subst}
 use mathlib.Core.Bool.{Bool, true, false}
 use mathlib.Core.Option.{none}
 use mathlib.Core.List.{List}
-use Prim.Native.Nat.{ℕ, zero, suc, ◌+◌, ◌-◌, ◌≤◌, ◌<◌}
+use Prim.Native.Nat.{ℕ, suc, ◌+◌, ◌-◌, ◌≤◌, ◌<◌}
 use native.Mathlib.Omega.{arith}
 use lib.IntN.{ℤ}
 use Rattle.semantics.specs.Program.{Window}
@@ -13,7 +13,6 @@ use Rattle.simulation.specs.Lister as lister
 use Rattle.settings.specs.Tries.{tally_of, spending, leaving, cutting, Charged, Counted, Placing}
 use Rattle.settings.specs.Seek.{Missed, none_yet, one_more}
 use Rattle.settings.specs.declared.Tally.{Tally}
-use Rattle.settings.specs.declared.Tried.{Tried}
 use Rattle.settings.specs.declared.Tried.TheVariants.{Go, Spent}
 use Rattle.settings.proofs.Counting.{trying-missed, trying-over, probed-go, probed-over}
 use Rattle.settings.proofs.Going.{whole, Tries, tries-next, tries-last, tries-over, probing, Probes, probes-next, probes-last, probes-over, probes-done}

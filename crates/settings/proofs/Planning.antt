@@ -1,15 +1,15 @@
 -- The plan: what it rests on stays while settings are tried, and the nodes before its end are enough for the tests.
 use mathlib.Core.Path.{◌≡◌, refl, sym, ap, ap₂, ◌∙◌, subst}
 use mathlib.Core.Bool.{true, false}
-use mathlib.Core.List.{List, [], ◌∷◌, map}
+use mathlib.Core.List.{List, [], ◌∷◌}
 use mathlib.Core.Logic.{⊎_elim}
 use Prim.Native.Nat.{ℕ, zero, suc, ◌≤◌, ◌<◌}
 use native.Mathlib.Nat.{eq-or-lt_of_le}
 use native.Mathlib.Omega.{arith}
 use lib.Dec.{T}
 use lib.ListN.{length}
-use Rattle.semantics.specs.Search.{Value, Test, as_test}
-use Rattle.simulation.specs.Nodes.{Cell, Known, Open, Node, unknown, meaning, test_of, Within, Noted}
+use Rattle.semantics.specs.Search.{Test, as_test}
+use Rattle.simulation.specs.Nodes.{Cell, Known, Open, unknown, meaning, test_of, Within, Noted}
 use Rattle.simulation.proofs.Nodes.{meaning-grows}
 use Rattle.machine.specs.Memory.{cell_read_as, node_by, node_at, nodes_in, test_at, tests_in}
 use Rattle.settings.specs.Table.{Steady}

@@ -1,16 +1,13 @@
 -- The last free variable goes up, and nothing is worked anew that does not depend on it.
 use mathlib.Core.Path.{◌≡◌, refl, sym, ap, ap₂, ◌∙◌, subst}
-use mathlib.Core.Bool.{true}
 use mathlib.Core.Option.{some}
 use mathlib.Core.List.{List}
 use mathlib.Core.Logic.{◌⊎◌, inl, inr, ⊎_elim}
 use Prim.Native.Nat.{ℕ, zero, suc, ◌+◌, ◌-◌, ◌≤◌, ◌<◌}
 use native.Mathlib.Nat.{eq-or-lt_of_le}
 use native.Mathlib.Omega.{arith}
-use lib.Dec.{T}
 use lib.ListN.{get_or}
 use lib.IntN.{ℤ, pos, suc_ℤ}
-use lib.Signed.{lt_z}
 use mir.Syntax.{w32}
 use mir.Val.{to_z}
 use Rattle.semantics.specs.Int as int
@@ -18,7 +15,7 @@ use Rattle.simulation.specs.Nodes.{Cell, Known, Open, Node, unknown, operation, 
 use Rattle.simulation.specs.Odometer.{after}
 use Rattle.machine.specs.Layout.{value_place, number_place}
 use Rattle.machine.specs.Memory.{node_at, windows_in, setting_in, numbers_in}
-use Rattle.settings.specs.Table.{window_at, value_at, number_at, Wrote, Worked, Anew, Follows, Steady}
+use Rattle.settings.specs.Table.{value_at, number_at, Wrote, Worked, Anew}
 use Rattle.settings.specs.Plan.{NotFree, Off, Clear, Apart}
 use Rattle.settings.specs.Seek.{Rising, Rose}
 use Rattle.settings.proofs.Entries.{number_word, setting-at, setting-none, word-there, word_none}

@@ -1,5 +1,5 @@
 -- Which nodes are worked for a setting: those on which tests rest; and where only the last free variable went up, only those that may differ.
-use Rattle.std.specs.Prelude.{◌≡◌, Bool, true, false, List, ℕ, ◌≤◌, ◌<◌, ℤ}
+use Rattle.std.specs.Prelude.{◌≡◌, Bool, true, false, List, ℕ, ◌≤◌, ◌<◌}
 use Rattle.simulation.specs.Nodes.{Cell, Known, Open, Node, unknown, operation, Within, Noted}
 use Rattle.machine.specs.Memory.{node_at, test_at}
 use Rattle.settings.specs.declared.Plan.{Plan}

@@ -1,4 +1,6 @@
 // The settings of a path: what the nodes are under one, whether it meets the tests, the one after it, and the rows and cut runs that trying them finds.
+#![tactic(auto)]
+
 ghost use Rattle.std.specs.Prelude.{◌≡◌, true, false, ◌+◌, ◌-◌, ◌*◌, ◌<◌, ◌≤◌, T, length, get_or, pos};
 ghost use Rattle.std.proofs.Math.IntN.{suc_ℤ};
 ghost use Rattle.std.specs.Int.Signed.{lt_z, le_z};
@@ -41,7 +43,7 @@ pub enum Tried {
 }
 
 // What is worked for the settings of a path: the nodes before `upto`, on which its tests rest; where the last free variable alone goes up, of these only node `moving`, which is that variable, and those from `first` on.
-#[derive(Drop)]
+#[derive(Clone, Copy)]
 pub struct Plan {
     pub moving: usize,
     pub first: usize,
