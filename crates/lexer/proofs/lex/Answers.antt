@@ -109,7 +109,7 @@ pub shape_of-kinds-then-large-lt2048 : goal.shape_of-kinds-then-large-lt2048
 shape_of-kinds-then-large-lt2048 c = length-set c.loop-at.kinds c.loop-at.n 0 ∙ c.loop-at.invariant.kinds.same_size
 
 pub shape_of-places-then-large-lt2048 : goal.shape_of-places-then-large-lt2048
-shape_of-places-then-large-lt2048 c = length-set c.loop-at.places c.loop-at.n c.loop-at.at ∙ c.loop-at.invariant.places.same_size
+shape_of-places-then-large-lt2048 c = length-set c.loop-at.places c.loop-at.n _ ∙ c.loop-at.invariant.places.same_size
 
 pub shape_of-values-then-large-lt2048 : goal.shape_of-values-then-large-lt2048
 shape_of-values-then-large-lt2048 c = length-set c.loop-at.values c.loop-at.n 0 ∙ c.loop-at.invariant.values.same_size
@@ -125,7 +125,7 @@ pub shape_of-kinds : goal.shape_of-kinds
 shape_of-kinds c = length-set c.loop-at.kinds c.loop-at.n 0 ∙ c.loop-at.invariant.kinds.same_size
 
 pub shape_of-places : goal.shape_of-places
-shape_of-places c = length-set c.loop-at.places c.loop-at.n c.loop-at.at ∙ c.loop-at.invariant.places.same_size
+shape_of-places c = length-set c.loop-at.places c.loop-at.n _ ∙ c.loop-at.invariant.places.same_size
 
 pub shape_of-values : goal.shape_of-values
 shape_of-values c = length-set c.loop-at.values c.loop-at.n 0 ∙ c.loop-at.invariant.values.same_size
