@@ -11,8 +11,6 @@ use Rattle.lexer.specs.Lex.{Token}
 use Rattle.lexer.proofs.Theorems.{Ascending, no_more, above}
 use Rattle.syntax.specs.Tree.{Tree, prog, fun, onto, width, numbered}
 use Rattle.syntax.specs.Tree as T
-use Rattle.syntax.specs.Ast.{Ast}
-use Rattle.syntax.specs.Ast as A
 use Rattle.syntax.specs.Abstract.{ast}
 use Rattle.events.specs.Event.{events}
 use Rattle.events.proofs.Widths.{onto-length}

@@ -1,6 +1,6 @@
 -- The answer, from what the analysis and the writing say.
 use Prim.Native.Nat.{ℕ, ◌≤◌, ◌<◌}
-use mathlib.Core.Path.{◌≡◌, refl, sym, ap, ◌∙◌}
+use mathlib.Core.Path.{◌≡◌, sym, ap, ◌∙◌}
 use mathlib.Core.Bool.{Bool, cond}
 use mathlib.Core.List.{List, ◌++◌}
 use native.Mathlib.Omega.{arith}
@@ -25,9 +25,8 @@ use Rattle.checker.specs.Analysis.{Known, Analyses}
 use Rattle.checker.specs.Analysis as N
 use Rattle.checker.specs.declared.Analysed.TheVariants as A
 use Rattle.checker.proofs.Analysing.{Into, few-tokens, stored-values}
-use Rattle.remarks.specs.Remarks.{offsets_in, offsets_of, Reply, refused, counted, Left, left, answering, remarks_of, leaves}
+use Rattle.remarks.specs.Remarks.{offsets_in, offsets_of, refused, counted, left, answering, remarks_of, leaves}
 use Rattle.remarks.specs.Steps.{Fair, WroteOffsets, offsets_by}
-use Rattle.remarks.specs.declared.Answer.{Answer}
 use Rattle.remarks.specs.declared.Answer.TheVariants.{Refused, Count}
 use Rattle.remarks.proofs.Places.{as-many-functions, fair}
 

@@ -1,5 +1,5 @@
 -- Remarks (document 01, with slip 4 of document 02): what it answers, and every word of the lent slice at exit, for every text and every slice. Words says the same without computing it, and proofs/Exactly that the two agree.
-use Rattle.std.specs.Prelude.{ℕ, zero, suc, ◌-◌, Bool, true, false, cond, not, ◌&&◌, ◌||◌, List, [], ◌∷◌, ◌++◌, map, length, get_or, drop, eqb, ltb}
+use Rattle.std.specs.Prelude.{ℕ, zero, suc, ◌-◌, Bool, true, false, cond, not, ◌&&◌, ◌||◌, List, [], ◌∷◌, ◌++◌, length, get_or, drop, eqb, ltb}
 use Rattle.std.proofs.Math.Option.{Option, none, some}
 use Rattle.lexer.specs.Lex as L
 use Rattle.lexer.specs.Lex.{lexed}

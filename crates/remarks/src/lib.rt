@@ -1,4 +1,6 @@
 // Remarks: the functions that main never leads to.
+#![tactic(auto)]
+
 ghost use Rattle.std.specs.Prelude.{◌≡◌, ℕ, ◌-◌, ◌*◌, ◌≤◌, ◌<◌, length, get_or, set};
 ghost use Rattle.text_rules.specs.Spelling.{same_name};
 ghost use Rattle.events.specs.Read.{as_event};
