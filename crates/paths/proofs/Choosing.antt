@@ -10,7 +10,7 @@ use native.Mathlib.Numerals.{add-one}
 use native.Mathlib.Omega.{arith}
 use lib.ListN.{length, get_or}
 use Rattle.semantics.specs.Int.{Cmp}
-use Rattle.semantics.specs.Search.{Value, as_test, narrowed, decided}
+use Rattle.semantics.specs.Search.{as_test, narrowed, decided}
 use Rattle.simulation.specs.Path.{state, later, holding}
 use Rattle.simulation.specs.Nodes.{Node, Noted, meaning, ranges, range_in, test_of}
 use Rattle.intervals.proofs.Undecided.{undecided-negated}

@@ -1,7 +1,7 @@
 -- The first nodes, tests and outcomes and the words of the checkpoints stay.
 use mathlib.Core.Path.{◌≡◌, refl, sym, ap, ◌∙◌, subst}
 use mathlib.Core.List.{List}
-use Prim.Native.Nat.{ℕ, ◌≤◌, ◌<◌}
+use Prim.Native.Nat.{ℕ, ◌≤◌}
 use native.Mathlib.Omega.{arith}
 use Rattle.machine.specs.Layout.{range_low, range_end}
 use Rattle.machine.specs.Terms.{Other, Kept}

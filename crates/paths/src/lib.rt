@@ -1,4 +1,6 @@
 // A path of the search, over lent memory, turn by turn.
+#![tactic(auto)]
+
 ghost use Rattle.std.specs.Prelude.{◌≡◌, true, List, ◌+◌, ◌-◌, ◌*◌, ◌<◌, ◌≤◌, length, get_or};
 ghost use Rattle.semantics.specs.Int.{Cmp};
 ghost use Rattle.semantics.specs.Program.{Window as WindowS};
@@ -24,7 +26,7 @@ use narrowing::Side;
 use ranges::Decided;
 
 // Where a path stands, beside the memory: the machine's run, the steps that may still be made, how many windows and choices there are, and how many forced outcomes are still to come.
-#[derive(Drop)]
+#[derive(Clone, Copy)]
 pub struct Point {
     pub run: Run,
     pub steps: usize,
