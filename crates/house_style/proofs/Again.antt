@@ -14,7 +14,6 @@ use Rattle.syntax.specs.Ast.{Ast, bit, low_number, high_number}
 use Rattle.syntax.specs.Abstract.{ast, sort_of}
 use Rattle.events.proofs.Widths.{onto-length}
 use Rattle.printing.specs.Decimal.{natural}
-use Rattle.house_style.specs.Named as N
 use Rattle.house_style.specs.Named.{Named, strip}
 use Rattle.house_style.specs.House.{Piece, word, the, blank, signed, within, laid}
 use Rattle.house_style.proofs.Lexing.{Spells, Spelt}

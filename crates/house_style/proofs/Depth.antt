@@ -9,7 +9,6 @@ use lib.Dec.{ltb}
 use lib.ListN.{length}
 use Rattle.syntax.specs.Tree as T
 use Rattle.syntax.specs.Tree.{Cat, Tree, width, numbered}
-use Rattle.syntax.specs.Ast as A
 use Rattle.syntax.specs.Abstract.{ast}
 use Rattle.events.specs.Event.{Event, function, parameter, thing, opens, closes, declares, uses, calls, ends, first, closing, stops, events_at}
 use Rattle.text_rules.specs.Scan.{on, when}

@@ -27,15 +27,15 @@ use Rattle.house_style.proofs.Rules.{empty-first, empty-rest, joined, sm, sm', S
 each-unmarked : {P : Scope → Event → Type 0} (s : Scope) (es : List Event) → Each P s es → Each P s (unmarked es)
 unfolding unmarked entered
 each-unmarked s [] w = done
-each-unmarked s (function i ∷ es) (also h w) = also h (each-unmarked _ es w)
-each-unmarked s (parameter i ∷ es) (also h w) = also h (each-unmarked _ es w)
+each-unmarked s (function i ∷ es) (also h w) = also h (each-unmarked (entered s (function i)) es w)
+each-unmarked s (parameter i ∷ es) (also h w) = also h (each-unmarked (entered s (parameter i)) es w)
 each-unmarked s (thing d i ∷ es) (also h w) = each-unmarked s es w
-each-unmarked s (opens ∷ es) (also h w) = also h (each-unmarked _ es w)
-each-unmarked s (closes ∷ es) (also h w) = also h (each-unmarked _ es w)
-each-unmarked s (declares i ∷ es) (also h w) = also h (each-unmarked _ es w)
-each-unmarked s (uses i ∷ es) (also h w) = also h (each-unmarked _ es w)
-each-unmarked s (calls i n ∷ es) (also h w) = also h (each-unmarked _ es w)
-each-unmarked s (ends i b ∷ es) (also h w) = also h (each-unmarked _ es w)
+each-unmarked s (opens ∷ es) (also h w) = also h (each-unmarked (entered s opens) es w)
+each-unmarked s (closes ∷ es) (also h w) = also h (each-unmarked (entered s closes) es w)
+each-unmarked s (declares i ∷ es) (also h w) = also h (each-unmarked (entered s (declares i)) es w)
+each-unmarked s (uses i ∷ es) (also h w) = also h (each-unmarked (entered s (uses i)) es w)
+each-unmarked s (calls i n ∷ es) (also h w) = also h (each-unmarked (entered s (calls i n)) es w)
+each-unmarked s (ends i b ∷ es) (also h w) = also h (each-unmarked (entered s (ends i b)) es w)
 
 abbrev pub Known : ℕ → ℕ → Type 0
 Known i j = Unit {0}

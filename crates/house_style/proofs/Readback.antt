@@ -5,7 +5,7 @@ use mathlib.Core.List.{List, [], ◌∷◌, ◌++◌}
 use mathlib.Core.Logic.{◌↔◌}
 use mathlib.Core.Option.{none, some}
 use native.Mathlib.Omega.{arith}
-use lib.ListN.{get_or, length}
+use lib.ListN.{get_or}
 use Rattle.syntax.specs.Token.{k_end}
 use Rattle.syntax.specs.Tree as T
 use Rattle.syntax.specs.Tree.{Tree, onto, numbered}

@@ -8,7 +8,6 @@ use native.Mathlib.Omega.{arith}
 use lib.Dec.{eqb, leb, ltb}
 use lib.ListN.{length, length-append}
 use Rattle.syntax.specs.Ast.{Ast, fun, prog}
-use Rattle.syntax.specs.Ast as A
 use Rattle.lexer.specs.Lex.{same, bytes}
 use Rattle.events.specs.Event.{Event, function, parameter, thing, opens, closes, declares, uses, calls, ends}
 use Rattle.text_rules.specs.Scan.{scan, on, when}

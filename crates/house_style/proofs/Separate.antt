@@ -13,9 +13,8 @@ use Rattle.house_style.specs.Named as N
 use Rattle.house_style.specs.Named.{Named}
 use Rattle.house_style.specs.House.{Piece, flat, the, blank, newline, indent, margin, mul_sign, cmp_sign, round, signed, within, laid}
 -- not used here: so that texts whose house style was written by hand are looked at before anything is proved of it
-use Rattle.house_style.proofs.Examples.{right}
 use Rattle.house_style.proofs.Lexing.{Apart, blanks}
-use Rattle.house_style.proofs.Words.{Clear, end, other, letter-token, name-token, number-token, single, solid, double}
+use Rattle.house_style.proofs.Words.{Clear, other, letter-token, name-token, number-token, single, solid, double}
 use Rattle.house_style.proofs.Leaves.{Leaves}
 
 abbrev pub IsName : List ℕ → Type 0

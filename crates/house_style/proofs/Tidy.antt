@@ -11,7 +11,6 @@ use Rattle.syntax.specs.Ast as A
 use Rattle.syntax.specs.Ast.{Ast}
 use Rattle.syntax.specs.Abstract.{ast, sort_of}
 use Rattle.lexer.specs.Lex.{all, same, kind_in, kind_of, bytes}
-use Rattle.house_style.specs.Named as N
 use Rattle.house_style.specs.Named.{Named, strip}
 use Rattle.house_style.specs.House.{Piece, the, blank, newline, mul_sign, cmp_sign, round, after_args, after_params, signed, within, laid}
 use Rattle.house_style.proofs.Lexing.{kinds_of}

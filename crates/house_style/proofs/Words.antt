@@ -9,14 +9,14 @@ use lib.Dec.{eqb, leb}
 use borrow.Author.Tests.{eqb-true, leb-true, le-leb}
 use native.Mathlib.Decide.{dec_lt}
 use Rattle.syntax.specs.Token.{k_end, k_name, k_number}
-use Rattle.lexer.specs.Lex.{is_blank, is_word, is_digit, is_letter, is_underscore, all, kind_in, words, marks, kind_of, grouped, value_of, decimal, digits_of, longest, bytes}
+use Rattle.lexer.specs.Lex.{is_blank, is_word, is_digit, is_letter, is_underscore, all, kind_in, words, marks, kind_of, grouped, value_of, decimal, digits_of}
 use Rattle.lexer.specs.Parts.{span}
 use Rattle.lexer.proofs.Longest.{name-longest, number-longest, pair_of, pair-longest, single-longest, number-kind}
 use Rattle.lexer.proofs.Numbers.{more}
 use Rattle.lexer.proofs.Bytes.{kind_in-has, digit-bounds}
 use Rattle.printing.specs.Decimal.{natural}
 use Rattle.printing.proofs.Numbers.{natural-one, natural-more}
-use Rattle.house_style.specs.House.{Piece, word, flat, the}
+use Rattle.house_style.specs.House.{Piece, word, flat}
 use Rattle.house_style.proofs.Lexing.{Apart, token}
 
 -- no name or number goes on with these bytes
