@@ -57,9 +57,9 @@ static int refused(const uint32_t *answer) {
 }
 
 /* What was printed is written, or the program ends. */
-static void flush(void) {
+static void flush(const char *what) {
     if (fflush(stdout) != 0 || ferror(stdout)) {
-        fprintf(stderr, "call: can't write the output\n");
+        fprintf(stderr, "call: can't write the %s\n", what);
         exit(2);
     }
 }
@@ -70,7 +70,7 @@ static int house(const char *path) {
     plans_write(text, read_rule(path, text), out, sizeof out, answer, PLANS_WRITE_WORDS);
     if (answer[0] != 0) return refused(answer);
     fwrite(out, 1, answer[2], stdout);
-    flush();
+    flush("rule");
     return 0;
 }
 
@@ -103,6 +103,6 @@ int main(int count, char **arguments) {
         listed += answer[3];
     } while (answer[2] == PLANS_FULL);
     if (!sheet) printf("%s %u rows %u moves\n", endings[answer[2]], (unsigned)listed, (unsigned)answer[4]);
-    flush();
+    flush("list");
     return answer[2] == PLANS_WHOLE ? 0 : 3;
 }

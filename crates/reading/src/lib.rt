@@ -1,8 +1,10 @@
 // The input of the programs that list: a job line and a text, read no further than the answer needs.
+#![tactic(auto)]
+
 ghost use Rattle.std.specs.Prelude.{◌≤◌, length};
 ghost use Rattle.reading.specs.Input.{bytes_in};
 
-use libc::STDIN_FILENO;
+use std::io::Read;
 
 // 2,089 bytes settle what is printed: 40 of a job line, and 2,049 of a text.
 pub const ENOUGH: usize = 2089;
@@ -15,7 +17,7 @@ pub enum Input {
 }
 
 // Reads until no further input changes what is printed, or the input ends.
-pub fn read_input(buffer: &mut [u8]) -> Input
+pub fn read_input(input: &mut impl Read, buffer: &mut [u8]) -> Input
     ensures { bytes_in result ≤ length buffer.new }
 {
     let mut n = 0;
@@ -23,11 +25,9 @@ pub fn read_input(buffer: &mut [u8]) -> Input
         if respond::is_enough(&buffer[..n]) {
             return Input::Bytes(n);
         }
-        let got = libc::read(STDIN_FILENO, &mut buffer[n..]);
-        if got < 0 {
+        let Ok(more) = input.read(&mut buffer[n..]) else {
             return Input::Failed;
-        }
-        let more = io::count(got, &buffer[n..]);
+        };
         if more == 0 {
             return Input::Bytes(n);
         }

@@ -1,22 +1,23 @@
 // The plan lister on pages: reads a job line and a text, and prints the sheet of the job's plan list or a refusal. What it prints is respond's `posted` of what it reads.
-use libc::{STDERR_FILENO, STDOUT_FILENO};
+#![tactic(auto)]
+
 use reading::Input;
 
-fn print_output(input: &[u8]) {
+fn print_output(rt: &(impl Print + Eprint), input: &[u8]) {
     let mut out = [0u8; respond::SHEET];
     let n = respond::post(input, &mut out);
-    if io::write_all(STDOUT_FILENO, &out[..n]) {
+    if rt.write_all(&out[..n]).is_ok() {
         return;
     }
-    io::write_all(STDERR_FILENO, b"sheet: cannot write the output\n");
+    let _ = eprintln!(rt; "sheet: cannot write the output");
 }
 
-fn main() {
+fn main(rt: HostRuntime) {
     let mut buffer = [0u8; reading::ENOUGH];
-    match reading::read_input(&mut buffer) {
-        Input::Bytes(n) => print_output(&buffer[..n]),
+    match reading::read_input(&mut rt.stdin(), &mut buffer) {
+        Input::Bytes(n) => print_output(&rt, &buffer[..n]),
         Input::Failed => {
-            io::write_all(STDERR_FILENO, b"sheet: cannot read the input\n");
+            let _ = eprintln!(rt; "sheet: cannot read the input");
         }
     }
 }
