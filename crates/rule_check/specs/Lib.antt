@@ -1,0 +1,2 @@
+-- What the program knows of what it reads.
+pub mod Input
