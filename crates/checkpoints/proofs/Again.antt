@@ -7,27 +7,25 @@ use native.Mathlib.Omega.{arith}
 use lib.ListN.{length, get_or, take}
 use mir.Syntax.{w32}
 use mir.Val.{to_z}
-use lib.IntN.{ℤ}
 use Rattle.semantics.specs.Program.{Window}
 use Rattle.simulation.specs.Machine.{machine}
 use Rattle.simulation.specs.Path.{state}
-use Rattle.simulation.specs.Resume.{forcing}
-use Rattle.simulation.specs.Nodes.{Cell, Node, Noted, meaning, Within, test_of, ranges}
+use Rattle.simulation.specs.Nodes.{Cell, Node, meaning, Within, test_of, ranges}
 use Rattle.intervals.specs.Meaning.{of_pair, of_pairs}
-use Rattle.window_memory.specs.Memory.{pair_at, pairs_at}
-use Rattle.machine.specs.Layout.{frame_words, frame_place, variable_place, callers_place, windows_place, starts_place, temp_place, node_place, node_end, test_place, outcome_place, index_end}
-use Rattle.machine.specs.Memory.{node_at, nodes_in, machine_at, windows_in, starts_in, ranges_in, test_at, tests_in, outcomes_in}
+use Rattle.window_memory.specs.Memory.{pairs_at}
+use Rattle.machine.specs.Layout.{frame_words, frame_place, variable_place, callers_place, windows_place, temp_place, node_place, node_end, test_place, outcome_place, index_end}
+use Rattle.machine.specs.Memory.{node_at, nodes_in, machine_at, windows_in, starts_in, test_at, tests_in, outcomes_in}
 use Rattle.machine.specs.Terms.{Room, Ready}
 use Rattle.machine.proofs.Tables.{Same, stacked-same, frame_same, temps-same, callers-same, room-same}
 use Rattle.machine.proofs.Stays.{held_stays, framed-stays}
 use Rattle.paths.specs.declared.Point.{Point}
 use Rattle.paths.specs.Table.{Windows, Anew}
-use Rattle.paths.specs.Choice.{Named, Tables}
-use Rattle.paths.specs.Point.{state_at, Tested, Standing, Going, Stays}
+use Rattle.paths.specs.Choice.{Named}
+use Rattle.paths.specs.Point.{Tested, Standing}
 use Rattle.paths.proofs.Table.{starts-same, node-same, nodes-same}
 use Rattle.paths.proofs.Choice.{outcomes-same}
 use Rattle.paths.proofs.Choosing.{test-same, tests_same}
-use Rattle.checkpoints.specs.Live.{live_pairs, number_count, size_of, HasLive, Unused}
+use Rattle.checkpoints.specs.Live.{number_count, size_of, HasLive, Unused}
 use Rattle.checkpoints.specs.Words.{point_at, Alive, Back, Saved, Agrees, forced, Restored, EndsBefore}
 use Rattle.checkpoints.proofs.Places.{in_pairs}
 

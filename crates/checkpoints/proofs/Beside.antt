@@ -2,18 +2,18 @@
 use mathlib.Core.Path.{◌≡◌, refl, sym, ap, ap₂, ◌∙◌, subst}
 use mathlib.Core.Bool.{Bool, true, false}
 use mathlib.Core.List.{List, map}
-use Prim.Native.Nat.{ℕ, ◌+◌, ◌-◌, ◌*◌, ◌≤◌, ◌<◌}
+use Prim.Native.Nat.{ℕ, ◌+◌, ◌-◌, ◌≤◌, ◌<◌}
 use native.Mathlib.Omega.{arith}
 use lib.ListN.{length, get_or}
 use Rattle.simulation.specs.Path.{state}
 use Rattle.simulation.specs.Nodes.{test_of, ranges}
 use Rattle.machine.specs.Layout.{outcome_place, outcome_end, index_end, range_low, range_high, mark_place, mark_number}
-use Rattle.machine.specs.Memory.{node_at, nodes_in, windows_in, starts_in, ranges_in, test_at, tests_in, outcome_as, outcomes_in}
+use Rattle.machine.specs.Memory.{node_at, nodes_in, windows_in, test_at, outcome_as, outcomes_in}
 use Rattle.machine.proofs.Tables.{room-same}
 use Rattle.paths.specs.declared.Point.{Point}
 use Rattle.paths.specs.Table.{Windows}
 use Rattle.paths.specs.Choice.{Named}
-use Rattle.paths.specs.Point.{state_at, Tested, Standing, Machinery, Going}
+use Rattle.paths.specs.Point.{state_at, Tested, Machinery, Going}
 use Rattle.paths.proofs.Table.{windows-same, starts-same, node-same, nodes-same, ranges-same}
 use Rattle.paths.proofs.Choice.{outcomes-same}
 use Rattle.paths.proofs.Choosing.{test-same, tests_same}

@@ -3,13 +3,13 @@ use mathlib.Core.Path.{◌≡◌, refl, sym, ap, ◌∙◌, subst}
 use mathlib.Core.Bool.{Bool, true, false}
 use mathlib.Core.Logic.{⊎_elim}
 use mathlib.Core.List.{List}
-use Prim.Native.Nat.{ℕ, ◌+◌, ◌-◌, ◌*◌, ◌≤◌, ◌<◌}
+use Prim.Native.Nat.{ℕ, ◌+◌, ◌*◌, ◌≤◌, ◌<◌}
 use native.Mathlib.Omega.{arith}
 use lib.ListN.{length, get_or, set, length-set}
 use lib.Seq.{get_or-set_same, get_or-set_other}
 use Rattle.machine.specs.Layout.{frame_place, variable_place, mark_place, mark_number, index_end}
 use Rattle.machine.proofs.Stays.{three}
-use Rattle.checkpoints.specs.Live.{framed, Row, Marking, RowSaved, RowBack, FramesSaved, FramesBack, Cleared}
+use Rattle.checkpoints.specs.Live.{framed, Row, RowSaved, RowBack, FramesSaved, FramesBack, Cleared}
 use Rattle.checkpoints.specs.Words.{Numbered}
 use Rattle.checkpoints.proofs.Places.{times-on, either}
 

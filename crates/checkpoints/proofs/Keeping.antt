@@ -1,13 +1,13 @@
 -- All that is live is copied to marks, and back.
-use mathlib.Core.Path.{◌≡◌, refl, sym, ◌∙◌, subst}
+use mathlib.Core.Path.{◌≡◌, ◌∙◌, subst}
 use mathlib.Core.List.{List}
-use Prim.Native.Nat.{ℕ, ◌+◌, ◌-◌, ◌*◌, ◌≤◌, ◌<◌}
+use Prim.Native.Nat.{ℕ, ◌+◌, ◌*◌, ◌≤◌, ◌<◌}
 use native.Mathlib.Omega.{arith}
 use lib.ListN.{get_or}
 use Rattle.machine.specs.Layout.{frame_words, variable_place, callers_place, caller_place, windows_place, window_low, tables_place, stride, temp_place, mark_place}
 use Rattle.paths.specs.declared.Point.{Point}
 use Rattle.checkpoints.specs.Live.{framed, called, windowed, live_pairs, Marking, RowSaved, RowBack, FramesSaved, FramesBack, Cleared}
-use Rattle.checkpoints.specs.Words.{Lives, Alive, Back}
+use Rattle.checkpoints.specs.Words.{Lives, Back}
 use Rattle.checkpoints.proofs.Places.{times-on}
 
 module _ (n : ℕ) (p : Point) (w : ℕ) (few : n ≤ 16) (deep : p.run.depth ≤ 32) (eight : p.windows ≤ 8) where

@@ -5,9 +5,9 @@ use Prim.Native.Nat.{ℕ, zero, suc, ◌+◌, ◌-◌, ◌*◌, ◌/◌, ◌%◌
 use native.Mathlib.Nat.{mul-le-mul_left, mul-le-mul_right}
 use native.Mathlib.Omega.{arith}
 use lib.ListN.{length, get_or}
-use Rattle.machine.specs.Layout.{frame_words, tables_place, stride, callers_place, windows_place, mark_place, index_end}
+use Rattle.machine.specs.Layout.{tables_place, stride, index_end}
 use Rattle.machine.specs.Terms.{Room}
-use Rattle.checkpoints.specs.Live.{framed, Row}
+use Rattle.checkpoints.specs.Live.{Row}
 
 -- ---- products
 

@@ -3,10 +3,9 @@ use Rattle.std.specs.Prelude.{ℕ, ◌+◌, ◌-◌, ◌≤◌, ◌<◌, ◌≡�
 use Rattle.simulation.specs.Resume.{forcing}
 use Rattle.machine.specs.Layout.{variable_place, caller_place, window_low, setting_place, temp_place, node_place, node_end, test_place, outcome_end, mark_place, mark_number}
 use Rattle.machine.specs.Memory.{machine_at, starts_in, outcome_as, outcomes_in}
-use Rattle.machine.specs.declared.Run.{Run}
 use Rattle.paths.specs.declared.Point.{Point}
 use Rattle.paths.specs.Point.{state_at, Going, Stays}
-use Rattle.checkpoints.specs.Live.{framed, called, windowed, live_pairs, number_count, size_of, Small, Unused, Marking}
+use Rattle.checkpoints.specs.Live.{framed, called, windowed, number_count, size_of, Small, Unused}
 
 -- ---- the numbers of a point
 

@@ -1,4 +1,6 @@
 // Checkpoints: what is live at a point of a path is kept, so that a search can come back to it without working the path again.
+#![tactic(auto)]
+
 ghost use Rattle.std.specs.Prelude.{◌≡◌, List, ℕ, ◌+◌, ◌-◌, ◌*◌, ◌<◌, ◌≤◌, length};
 ghost use Rattle.machine.specs.Layout.{frame_cells, tables_place};
 ghost use Rattle.machine.specs.Terms.{Room};
