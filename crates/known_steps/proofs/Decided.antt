@@ -1,7 +1,7 @@
 -- A comparison of two numbers is decided: it has the outcome that it has of them.
 use mathlib.Core.Path.{◌≡◌, refl, sym, ap, subst, ◌∙◌}
 use mathlib.Core.Bool.{Bool, true, false, not}
-use mathlib.Core.Option.{Option, some}
+use mathlib.Core.Option.{some}
 use lib.Dec.{T}
 use lib.IntN.{ℤ}
 use native.Mathlib.Omega.{arith}

@@ -1,9 +1,8 @@
 -- One turn: what an entry did that makes no node is a turn of the path, within the limits.
-use mathlib.Core.Path.{◌≡◌, refl, sym, ap, ap₂, ◌∙◌, subst}
-use mathlib.Core.Bool.{Bool, true, false}
+use mathlib.Core.Path.{◌≡◌, refl, sym, subst}
+use mathlib.Core.Bool.{Bool, false}
 use mathlib.Core.List.{List}
-use mathlib.Core.Option.{some}
-use Prim.Native.Nat.{ℕ, suc, ◌+◌, ◌-◌, ◌≤◌, ◌<◌}
+use Prim.Native.Nat.{ℕ, ◌+◌, ◌-◌, ◌≤◌}
 use native.Mathlib.Omega.{arith}
 use lib.Dec.{eqb}
 use lib.IntN.{ℤ}
@@ -12,12 +11,11 @@ use Rattle.semantics.specs.Int.{holds}
 use Rattle.semantics.specs.Program.{Window}
 use Rattle.semantics.specs.Search.{Value, known, work, all32, in_use}
 use Rattle.simulation.specs.Code.{Code}
-use Rattle.simulation.specs.Machine.{Machine, Doing, advance}
+use Rattle.simulation.specs.Machine.{Doing, advance}
 use Rattle.simulation.specs.Path.{turn}
 use Rattle.ints.specs.Numbers.{comparison}
 use Rattle.machine.specs.Memory.{machine_at}
 use Rattle.machine.specs.Terms.{Goes, Tested, flagged}
-use Rattle.machine.specs.declared.Value as code
 use Rattle.machine.specs.declared.Value.TheVariants.{Known}
 use Rattle.machine.specs.declared.Run.{Run}
 use Rattle.paths.specs.declared.Point.{Point}

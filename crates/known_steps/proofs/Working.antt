@@ -12,13 +12,11 @@ use mir.Facts.{to_z-of_z, sfits_to_z}
 use Rattle.semantics.specs.Int as int
 use Rattle.semantics.specs.Program.{slot}
 use Rattle.simulation.specs.Code.{Code, Act}
-use Rattle.simulation.specs.Machine.{Doing}
-use Rattle.simulation.specs.Nodes.{Cell}
 use Rattle.simulation.specs.Words.{code_in}
 use Rattle.ints.specs.Numbers.{operation, comparison}
 use Rattle.machine.specs.Layout.{variable_place, temp_place}
 use Rattle.machine.specs.Memory.{cell_read_as, cell_at}
-use Rattle.machine.specs.Terms.{Put, Taking, Paired, Tested, acts, flagged}
+use Rattle.machine.specs.Terms.{Put, Taking, Paired, Tested, acts}
 use Rattle.machine.specs.declared.Value.TheVariants.{Known}
 use Rattle.machine.specs.declared.Run.{Run}
 use Rattle.machine.proofs.Operands.{worked-both, popped-one, taking-other}
