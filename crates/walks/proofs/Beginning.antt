@@ -1,13 +1,13 @@
 -- Where a path begins: at the start of main, or at a checkpoint, to which the path with these outcomes forced comes without a move.
-use mathlib.Core.Path.{◌≡◌, refl, sym, ap, ap₂, ◌∙◌, subst}
+use mathlib.Core.Path.{◌≡◌, refl, sym, ap, ◌∙◌, subst}
 use mathlib.Core.Bool.{Bool}
 use mathlib.Core.Logic.{⊎_elim}
-use mathlib.Core.List.{List, [], ◌∷◌, ◌++◌}
-use Prim.Native.Nat.{ℕ, zero, suc, ◌+◌, ◌-◌, ◌*◌, ◌≤◌, ◌<◌}
+use mathlib.Core.List.{List, ◌∷◌, ◌++◌}
+use Prim.Native.Nat.{ℕ, zero, suc, ◌+◌, ◌-◌, ◌≤◌, ◌<◌}
 use native.Mathlib.Omega.{arith}
 use lib.ListN.{length, get_or}
 use Rattle.semantics.specs.Program.{Window}
-use Rattle.semantics.specs.Search.{Value, known, work, spent, all32, in_use}
+use Rattle.semantics.specs.Search.{Value, known, work, all32, in_use}
 use Rattle.semantics.proofs.Order.{up, down}
 use Rattle.simulation.specs.Code.{Code}
 use Rattle.simulation.specs.Machine.{Machine, start}
@@ -31,14 +31,14 @@ use Rattle.machine.proofs.Capacity.{tops-le}
 use Rattle.machine.proofs.Stays.{three, is-or-not}
 use Rattle.paths.specs.declared.Point.{Point}
 use Rattle.paths.specs.Choice.{Tables}
-use Rattle.paths.specs.Point.{state_at, Going}
+use Rattle.paths.specs.Point.{state_at}
 use Rattle.paths.proofs.Choice.{outcomes-same}
 use Rattle.checkpoints.specs.Live.{size_of, number_count}
 use Rattle.checkpoints.specs.Words.{Agrees, forced, Restored, EndsBefore}
 use Rattle.walks.specs.declared.Stack.{Stack}
 use Rattle.walks.specs.declared.Walked.{Walked}
 use Rattle.walks.specs.declared.Walked.TheVariants.{Spent, Returned, Failed, Cut}
-use Rattle.walks.specs.Checkpoints.{ComesTo, Checkpoints, none, more, StackHolds, Dropped}
+use Rattle.walks.specs.Checkpoints.{ComesTo, Checkpoints, none, more, Dropped}
 use Rattle.walks.specs.Walk.{at_start, Stands, Walks, Walking, FromMain, Begins}
 use Rattle.walks.specs.Walk as walk
 use Rattle.walks.proofs.Checkpoints.{alike-stays, checkpoints-fit, checkpoints-stay}

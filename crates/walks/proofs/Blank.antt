@@ -6,19 +6,18 @@ use mathlib.Core.List.{List}
 use Prim.Native.Nat.{ℕ, zero, suc, ◌+◌, ◌-◌, ◌*◌, ◌/◌, ◌%◌, ◌^◌, ◌≤◌, ◌<◌}
 use native.Mathlib.Omega.{arith}
 use lib.ListN.{length, get_or}
-use lib.IntN.{ℤ, pos, negsuc}
+use lib.IntN.{pos, negsuc}
 use lib.Dec.{ltb}
-use mir.Syntax.{w32}
-use mir.Val.{to_z, sel}
+use mir.Val.{sel}
 use Rattle.semantics.specs.Program.{Window}
-use Rattle.semantics.specs.Search.{Value, known, in_use}
+use Rattle.semantics.specs.Search.{Value, known}
 use Rattle.simulation.specs.Code.{Code}
-use Rattle.simulation.specs.Nodes.{Cell, Known, Open, Node, meaning, values, Within}
+use Rattle.simulation.specs.Nodes.{Cell, Node, meaning, Within}
 use Rattle.simulation.specs.Cells.{Uses, Blank, Blanks, CallsMain, BlankStart}
 use Rattle.simulation.proofs.Nodes.{IsOpen, meaning-open}
 use Rattle.simulation.proofs.Cells.{spares-comes, start-comes}
-use Rattle.machine.specs.Layout.{frame_cells, cell_words, frame_words, frame_place, variable_place, cell_place}
-use Rattle.machine.specs.Memory.{cell_read_as, cell_at, nodes_in, cells, frame_at, callers, machine_at}
+use Rattle.machine.specs.Layout.{frame_cells, cell_words, frame_place, variable_place, cell_place, caller_place}
+use Rattle.machine.specs.Memory.{cell_read_as, cell_at, nodes_in, cells, frame_at, callers}
 use Rattle.machine.specs.Terms.{Ready}
 use Rattle.machine.proofs.Tables.{nodes-length}
 use Rattle.machine.proofs.Stays.{three}
@@ -54,7 +53,7 @@ blanks_at f m n (suc d) top h j l = ⊎_elim (λ e. subst (λ (j : ℕ). Blank n
 start-at : (f : Cell → Value) (m : List ℕ) (i d top : ℕ) → BlankStart i (frame_at f m d) (callers f m d top) → Blank 0 (frame_at f m 0)
 unfolding callers
 start-at f m i zero top h = h.1
-start-at f m i (suc d) top h = start-at f m _ d _ h
+start-at f m i (suc d) top h = start-at f m (get_or m (caller_place d) 0) d _ h
 
 -- ---- words
 

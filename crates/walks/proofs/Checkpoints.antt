@@ -1,14 +1,13 @@
 -- The checkpoints of a search: they are paid for, and they stay where what they rest on does; one more is added.
-use mathlib.Core.Path.{◌≡◌, refl, sym, ap, ap₂, ◌∙◌, subst}
+use mathlib.Core.Path.{◌≡◌, refl, sym, ap, ◌∙◌, subst}
 use mathlib.Core.List.{List}
-use Prim.Native.Nat.{ℕ, ◌+◌, ◌-◌, ◌*◌, ◌≤◌, ◌<◌}
+use Prim.Native.Nat.{ℕ, ◌≤◌, ◌<◌}
 use native.Mathlib.Omega.{arith}
 use lib.ListN.{length, get_or}
 use Rattle.semantics.specs.Program.{Window}
 use Rattle.semantics.specs.Search.{Value, in_use}
 use Rattle.simulation.specs.Code.{Code}
 use Rattle.simulation.specs.Machine.{Machine}
-use Rattle.simulation.specs.Path.{State}
 use Rattle.simulation.specs.Resume.{Comes}
 use Rattle.machine.specs.Layout.{node_place, node_end, test_place, outcome_end, mark_place, index_end}
 use Rattle.machine.specs.Memory.{machine_at, starts_in}
@@ -17,11 +16,11 @@ use Rattle.paths.specs.declared.Point.{Point}
 use Rattle.paths.specs.Point.{state_at, Going, Stays}
 use Rattle.paths.proofs.Machinery.{machine-stays}
 use Rattle.paths.proofs.Table.{starts-same}
-use Rattle.checkpoints.specs.Live.{size_of, Small, Marking}
-use Rattle.checkpoints.specs.Words.{WordSized, Saved, Agrees}
+use Rattle.checkpoints.specs.Live.{size_of, Small}
+use Rattle.checkpoints.specs.Words.{WordSized}
 use Rattle.checkpoints.proofs.Beside.{off, machinery-is, state-is, going-is, saved-stays}
 use Rattle.walks.specs.declared.Stack.{Stack}
-use Rattle.walks.specs.Checkpoints.{ComesTo, Checkpoint, Checkpoints, none, more, StackHolds, Due, added, Keeping, passed, kept}
+use Rattle.walks.specs.Checkpoints.{ComesTo, Checkpoints, none, more, added, Keeping, passed, kept}
 use Rattle.walks.specs.Walk.{Stands}
 
 -- the numbers of a point fit into words

@@ -5,7 +5,7 @@ use mathlib.Core.Logic.{⊎_elim}
 use Prim.Native.Nat.{ℕ, zero, suc, ◌+◌, ◌*◌, ◌/◌, ◌%◌, ◌≤◌, ◌<◌}
 use native.Mathlib.Omega.{arith}
 use native.Mathlib.Decide.{dec_lt}
-use lib.ListN.{length, get_or, get_or-eq_default}
+use lib.ListN.{get_or, get_or-eq_default}
 use Rattle.simulation.specs.Code.{Entry, act, Act}
 use Rattle.simulation.specs.Words.{kinds, entry_of, entries_in, code_in}
 use Rattle.simulation.specs.Cells.{Fills, Uses, CallsMain}

@@ -10,7 +10,7 @@ use Rattle.simulation.specs.Code.{Code}
 use Rattle.paths.specs.declared.Point.{Point}
 use Rattle.checkpoints.specs.Live.{size_of}
 use Rattle.walks.specs.declared.Stack.{Stack}
-use Rattle.walks.specs.Checkpoints.{Checkpoints, none, more, steps_there, Compares, MainFirst, Due, added, Keeping, passed, kept}
+use Rattle.walks.specs.Checkpoints.{Checkpoints, none, more, steps_there, Compares, MainFirst, added, Keeping, passed, kept}
 
 module _ (c : Code) (job : Window) (limit cells : ℕ) (m : List ℕ) (upto : ℕ) where
   paid : {n t u w : ℕ} (ms : Checkpoints c job limit cells m upto n t u w) → 3 * w + 2 * steps_there ms ≤ 3 * limit

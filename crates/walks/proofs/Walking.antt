@@ -2,7 +2,7 @@
 use mathlib.Core.Path.{◌≡◌, refl, sym, ap, ap₂, ◌∙◌, subst}
 use mathlib.Core.Bool.{Bool, true, false}
 use mathlib.Core.List.{List}
-use Prim.Native.Nat.{ℕ, zero, suc, ◌+◌, ◌-◌, ◌*◌, ◌≤◌, ◌<◌}
+use Prim.Native.Nat.{ℕ, zero, suc, ◌+◌, ◌-◌, ◌≤◌, ◌<◌}
 use native.Mathlib.Omega.{arith}
 use lib.Dec.{eqb}
 use lib.ListN.{length}
@@ -13,12 +13,12 @@ use Rattle.simulation.specs.Code.{Code}
 use Rattle.simulation.specs.Machine.{Machine}
 use Rattle.simulation.specs.Path.{State, Turn, End, on, ended, still, turn}
 use Rattle.simulation.specs.Cells.{CallsMain}
-use Rattle.simulation.specs.Lister.{Tally, tally, Next, go, over, then, closed, charge, charged, finish, Start, back, path}
+use Rattle.simulation.specs.Lister.{Tally, tally, Next, go, over, then, closed, charge, charged, Start, path}
 use Rattle.simulation.specs.Measure.{turns_left}
 use Rattle.simulation.proofs.Resume.{after, path-turn, comes-on}
 use Rattle.simulation.proofs.Cells.{Extends, starts-on, starts-end}
 use Rattle.machine.specs.Layout.{frame_cells}
-use Rattle.machine.specs.Memory.{machine_at, outcomes_in, starts_in}
+use Rattle.machine.specs.Memory.{machine_at, starts_in}
 use Rattle.machine.specs.Terms.{Room}
 use Rattle.machine.proofs.Tables.{room-same, room-less}
 use Rattle.paths.specs.declared.Point.{Point}
@@ -209,16 +209,16 @@ module _ (c : Code) (job : Window) (limit : ℕ) where
       }
 
     -- turns on known values, for which the budget pays
-    pub reaches-turns : (m m' : List ℕ) (p q : Point) (s : Stack) (left : ℕ) → WalkedTo budget x y m p s left → Turns c m p m' q → moves p.forced (p.steps - q.steps) ≤ left
+    pub reaches-turns : (m : List ℕ) (p : Point) (m' : List ℕ) (q : Point) (s : Stack) (left : ℕ) → WalkedTo budget x y m p s left → Turns c m p m' q → moves p.forced (p.steps - q.steps) ≤ left
         → WalkedTo budget x y m' q s (left - moves p.forced (p.steps - q.steps))
-    reaches-turns m m' p q s left r (none e f) l =
+    reaches-turns m p m' q s left r (none e f) l =
         let z : left ≡ left - moves p.forced (p.steps - q.steps) = omega (arith, moves-none p.forced p.steps q.steps (ap (λ (q : Point). q.steps) f)) in
         subst (WalkedTo budget x y m' q s) z (subst (λ (q : Point). WalkedTo budget x y m' q s left) (sym f) (subst (λ (m : List ℕ). WalkedTo budget x y m p s left) (sym e) r))
-    reaches-turns m m' p q s left r (more m₁ p₁ ts h) l =
+    reaches-turns m p m' q s left r (more m₁ p₁ ts h) l =
         let g = r.stands.going in
         let k : moves p.forced (p.steps - p₁.steps) ≤ left = omega (arith, l, moves-less p.forced p.steps q.steps p₁.steps (paced p₁ q h.move h.paces)) in
-        reaches-on m₁ m' p₁ s (left - moves p.forced (p.steps - p₁.steps)) (reaches-turns m m₁ p p₁ s left r ts k) q h.move (left - moves p.forced (p.steps - q.steps)) (h.is job) h.going h.stays h.len
+        reaches-on m₁ m' p₁ s (left - moves p.forced (p.steps - p₁.steps)) (reaches-turns m p m₁ p₁ s left r ts k) q h.move (left - moves p.forced (p.steps - q.steps)) (h.is job) h.going h.stays h.len
         (omega (arith, r.rest)) (pays-turn budget left p.forced p.steps p₁ q h.move (turns-forced c m p g m₁ p₁ ts) (turns-fewer c m p g m₁ p₁ ts) h.paces l r.rest)
 
     pub reaches-passed : (m m' : List ℕ) (p q : Point) (s : Stack) (left left' : ℕ) → WalkedTo budget x y m p s left → Passes c m m' p left q left' → WalkedTo budget x y m' q s left'
-    reaches-passed m m' p q s left left' r h = subst (WalkedTo budget x y m' q s) (sym h.rest) (reaches-turns m m' p q s left r h.turns h.covers)
+    reaches-passed m m' p q s left left' r h = subst (WalkedTo budget x y m' q s) (sym h.rest) (reaches-turns m p m' q s left r h.turns h.covers)

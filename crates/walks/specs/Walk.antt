@@ -1,5 +1,5 @@
 -- One path of the search up to its end: what `path` of `simulation` (Lister) says of it, before `finish`.
-use Rattle.std.specs.Prelude.{◌≡◌, Bool, List, ℕ, suc, ◌+◌, ◌-◌, ◌*◌, ◌≤◌, ◌<◌, length}
+use Rattle.std.specs.Prelude.{◌≡◌, Bool, List, ℕ, ◌+◌, ◌-◌, ◌≤◌, ◌<◌}
 use Rattle.semantics.specs.Program.{Window}
 use Rattle.semantics.specs.Search.{Value, known, work, spent, in_use}
 use Rattle.simulation.specs.Code.{Code}
@@ -7,8 +7,8 @@ use Rattle.simulation.specs.Machine.{Machine, start}
 use Rattle.simulation.specs.Path.{State, begins, End, returned, failed, cut}
 use Rattle.simulation.specs.Lister.{Tally, tally, Next, over, then, closed, finish, Start, back, path}
 use Rattle.simulation.specs.Measure.{turns_left}
-use Rattle.machine.specs.Memory.{machine_at, outcomes_in}
-use Rattle.machine.specs.Terms.{meant, Room}
+use Rattle.machine.specs.Memory.{outcomes_in}
+use Rattle.machine.specs.Terms.{meant}
 use Rattle.machine.specs.declared.Run.{Run}
 use Rattle.paths.specs.declared.Point.{Point}
 use Rattle.paths.specs.Point.{state_at, Standing, Usable, Going}

@@ -1,4 +1,6 @@
 // One path of the search, from the start of main or from a checkpoint up to its end.
+#![tactic(auto)]
+
 ghost use Rattle.std.specs.Prelude.{◌≡◌, true, false, ◌+◌, ◌*◌, ◌<◌, ◌≤◌, length};
 ghost use Rattle.simulation.specs.Words.{code_in};
 ghost use Rattle.simulation.specs.Cells.{CallsMain};
@@ -19,7 +21,7 @@ use paths::{Point, Turned};
 pub mod cells;
 
 // The checkpoints of a search: how many marks they have, the limit of steps, which is also that of the marks, and how many cells of a frame the code uses.
-#[derive(Drop)]
+#[derive(Clone, Copy)]
 pub struct Stack {
     pub height: usize,
     pub limit: usize,
