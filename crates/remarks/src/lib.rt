@@ -43,6 +43,7 @@ fn begin(f: usize, event: Event) -> usize
 }
 
 // The callee, if the present function is reached and the callee is not.
+#[tactic(auto, unfolding(crate::specs::Steps::fresh))]
 fn unless_reached(reached: &[u32], f: usize, callee: Found) -> Found
     ensures { found result ≡ fresh reached.now (call_to f (found callee)) }
 {
