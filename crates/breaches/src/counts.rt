@@ -51,6 +51,7 @@ fn count(tally: Tally, event: Event) -> Tally
 }
 
 // What breaks the rule at one event, after those of the tally, with what was found before.
+#[tactic(auto, unfolding(text_rules::specs::Rules::over, text_rules::specs::Answers::least_with))]
 fn exceeds(tally: Tally, event: Event, best: Broken) -> Broken
     ensures { place result ≡ least_with (over (tallied tally) (as_event event)) (place best) }
 {

@@ -13,6 +13,7 @@ use text_rules::broken::{Broken, lesser};
 const DEPTH: usize = 24;
 
 // What breaks the rule at one event, with what was found before.
+#[tactic(auto, unfolding(text_rules::specs::Rules::deep, text_rules::specs::Answers::least_with))]
 fn deeper(event: Event, best: Broken) -> Broken
     ensures { place result ≡ least_with (deep (as_event event)) (place best) }
 {

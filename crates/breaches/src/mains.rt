@@ -11,6 +11,7 @@ use text_rules::mains::main_number;
 use text_rules::spelling::{is_main, word};
 
 // What breaks the rule at one function, with what was found before.
+#[tactic(auto, unfolding(text_rules::specs::Rules::mains, text_rules::specs::Rules::with_parameters, text_rules::specs::Answers::least_with))]
 fn main_with(
     text: &[u8],
     places: &[u32],

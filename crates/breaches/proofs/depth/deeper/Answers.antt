@@ -1,8 +1,6 @@
 use Prim.Native.Nat.{ℕ}
 use mathlib.Core.Path.{◌≡◌, refl}
 use mathlib.Core.List.{[]}
-use native.Mathlib.Omega.{arith}
-use borrow.Author.Tests.{lt-ltb, le-ltb}
 use Rattle.events.specs.declared.event.Event.{Event}
 use Rattle.events.specs.declared.event.Event.TheVariants.{Function, Parameter, Thing, Opens, Closes, Declares, Uses, Calls, Ends}
 use Rattle.text_rules.specs.Rules.{deep}
@@ -22,14 +20,6 @@ other (Declares i) h = refl
 other (Uses i) h = refl
 other (Calls i n) h = refl
 other (Ends i b) h = refl
-
-pub returns-then-depth-gt-DEPTH : goal.returns-then-depth-gt-DEPTH
-unfolding deep least_with
-returns-then-depth-gt-DEPTH c = rw (c.in-Thing.is, lt-ltb 24 c.in-Thing.depth (omega (arith, c.if-depth-gt-DEPTH.true))) c.lesser.ensures
-
-pub returns-else-depth-gt-DEPTH : goal.returns-else-depth-gt-DEPTH
-unfolding deep least_with
-returns-else-depth-gt-DEPTH c = rw (c.in-Thing.is, le-ltb 24 c.in-Thing.depth (omega (arith, c.if-depth-gt-DEPTH.false)))
 
 pub returns-in_default : goal.returns-in_default
 unfolding least_with
