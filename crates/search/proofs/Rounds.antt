@@ -1,5 +1,5 @@
 -- One path and its end, as the loop over the paths takes them.
-use Prim.Native.Nat.{ℕ, ◌+◌, ◌-◌, ◌/◌, ◌≤◌, ◌<◌}
+use Prim.Native.Nat.{ℕ, ◌+◌, ◌-◌, ◌≤◌, ◌<◌}
 use native.Mathlib.Omega.{arith}
 use mathlib.Core.Path.{◌≡◌, refl, sym, ap, ◌∙◌, subst}
 use mathlib.Core.Bool.{Bool}
@@ -29,7 +29,7 @@ use Rattle.walks.specs.declared.Walked.{Walked}
 use Rattle.walks.specs.Checkpoints.{none, StackHolds}
 use Rattle.walks.specs.Walk.{paid, Walks, Ends, FromMain, Begins}
 use Rattle.walks.proofs.Checkpoints.{Alike, checkpoints-stay}
-use Rattle.search.specs.Loop.{closes, paying, Backtracks, BacktracksBy, Finished, Round, Resumes}
+use Rattle.search.specs.Loop.{closes, paying, BacktracksBy, Finished, Round, Resumes}
 use Rattle.search.specs.declared.Ending.TheVariants as ending
 use Rattle.search.specs.declared.Answered.{Answered}
 use Rattle.search.specs.declared.Then.{Then}

@@ -1,4 +1,6 @@
 // The search: path after path, up to its answer.
+#![tactic(auto)]
+
 ghost use Rattle.std.specs.Prelude.{◌≡◌, List, ◌+◌, ◌*◌, ◌<◌, ◌≤◌, ◌/◌, length, ℤ};
 ghost use Rattle.simulation.specs.Path as path;
 ghost use Rattle.simulation.specs.Words.{code_in};
