@@ -1,15 +1,14 @@
 -- The bytes of a part by those of its parts, in the order in which they are put.
-use Prim.Native.Nat.{ℕ, zero, suc, ◌+◌, ◌*◌}
+use Prim.Native.Nat.{ℕ, zero, suc, ◌*◌}
 use mathlib.Core.Path.{◌≡◌, refl, sym, ap, ◌∙◌}
-use mathlib.Core.Bool.{Bool, true, false, cond}
+use mathlib.Core.Bool.{Bool, true, false}
 use mathlib.Core.List.{List, [], ◌∷◌, ◌++◌, append_assoc, append-nil}
 use native.Mathlib.Omega.{arith}
 use lib.ListN.{replicate}
 use Rattle.syntax.specs.Ast.{Sort}
-use Rattle.lexer.specs.Lex.{bytes}
 use Rattle.printing.specs.Written.{blanks}
 use Rattle.house_style.specs.Named.{Named}
-use Rattle.house_style.specs.House.{Piece, flat, indent, within, laid, the, round}
+use Rattle.house_style.specs.House.{Piece, flat, indent, within, laid, the}
 use Rattle.house_style.proofs.Adding.{Adds, flat_append, flat-laid}
 use Rattle.writer.specs.Parts.{if_so}
 

@@ -1,6 +1,6 @@
 -- What the kind of a node says of the bytes of the tree that stands there: those of its parts, in the order in which they are put.
 use Prim.Native.Nat.{ℕ, suc, ◌+◌, ◌<◌}
-use mathlib.Core.Path.{◌≡◌, refl, sym, ap, ap₂, ◌∙◌}
+use mathlib.Core.Path.{◌≡◌, refl, sym, ap, ◌∙◌}
 use mathlib.Core.List.{List, [], ◌∷◌, ◌++◌, append_assoc, append-nil}
 use native.Mathlib.Numerals.{add-one}
 use native.Mathlib.Omega.{arith}
@@ -9,13 +9,13 @@ use Rattle.syntax.specs.Table.{At, Holds, n_call, n_bracket, n_more_args, n_assi
 use Rattle.syntax.specs.Fetch.{Fetched}
 use Rattle.syntax.specs.declared.Node.{Node}
 use Rattle.lexer.specs.Lex.{bytes}
-use Rattle.events.specs.Walk.{Below, Rooted}
+use Rattle.events.specs.Walk.{Below}
 use Rattle.events.specs.Visit.{level}
 use Rattle.events.proofs.Nodes.{at-kind}
 use Rattle.events.proofs.Laws.{rooted-child}
 use Rattle.house_style.specs.Named as N
 use Rattle.house_style.specs.Named.{Named, strip}
-use Rattle.house_style.specs.House.{Piece, flat, indent, laid, the, blank, newline, margin, word}
+use Rattle.house_style.specs.House.{flat, indent, laid, the, blank, newline, margin, word}
 use Rattle.house_style.proofs.Adding.{flat-laid}
 use Rattle.writer.specs.Parts.{Part, comma_after, line_bytes}
 use Rattle.writer.proofs.Sides.{shown, moved}

@@ -1,13 +1,12 @@
 -- A node with two sides and a sign between: its bytes are those of its sides, as `expression` puts them.
 use Prim.Native.Nat.{ℕ, ◌<◌}
 use mathlib.Core.Path.{◌≡◌, refl, sym, ap, ◌∙◌, subst}
-use mathlib.Core.Bool.{Bool, true, false}
+use mathlib.Core.Bool.{Bool}
 use mathlib.Core.List.{List, [], ◌∷◌, ◌++◌, append-nil}
 use native.Mathlib.Omega.{arith}
 use lib.Dec.{ltb}
-use Rattle.syntax.specs.Tree.{Mul, product, Cmp, less, less_eq, greater, greater_eq, equal, unequal}
-use Rattle.syntax.specs.Ast.{Sort, Ast, expr, cond}
-use Rattle.syntax.specs.Ast as A
+use Rattle.syntax.specs.Tree.{product, Cmp, less, less_eq, greater, greater_eq, equal, unequal}
+use Rattle.syntax.specs.Ast.{Sort, Ast}
 use Rattle.syntax.specs.Table.{At, Row, Holds, cmp_number, at-times, at-plus, at-minus, at-compare, at_both, at-either}
 use Rattle.syntax.specs.Fetch.{Fetched}
 use Rattle.syntax.specs.declared.Node.{Node}
@@ -15,8 +14,8 @@ use Rattle.lexer.specs.Lex.{bytes}
 use Rattle.events.specs.Walk.{Below}
 use Rattle.events.specs.Visit.{level}
 use Rattle.events.proofs.Nodes.{Joint, times, plus, minus, compare, both, either, at-kind}
-use Rattle.house_style.specs.Named.{Named, strip}
-use Rattle.house_style.specs.House.{Piece, flat, within, laid, round, mul_sign, cmp_sign}
+use Rattle.house_style.specs.Named.{strip}
+use Rattle.house_style.specs.House.{Piece, flat, within, laid, round, cmp_sign}
 use Rattle.house_style.proofs.Adding.{Adds, before, then, laid-adds}
 use Rattle.writer.specs.Parts.{bracketed, left_rank, right_rank, if_so, comparison_sign, sign_of}
 use Rattle.writer.proofs.Bytes.{bracket-bytes, two_bytes, in_order}

@@ -1,5 +1,5 @@
 -- What the functions of the writer promise each other, of a node of the table.
-use Rattle.std.specs.Prelude.{ℕ, ◌+◌, ◌<◌, ◌≡◌, Bool, true, false, cond, List, [], ◌∷◌, ◌++◌, eqb, ltb, length}
+use Rattle.std.specs.Prelude.{ℕ, ◌+◌, ◌<◌, ◌≡◌, Bool, false, cond, List, [], ◌++◌, eqb, ltb, length}
 use Rattle.syntax.specs.Ast.{Sort, Ast, prog}
 use Rattle.syntax.specs.Table.{Holds, n_number, n_negative, n_name, n_times, n_plus, n_minus, n_more_args, n_always, n_never, n_both, n_either, n_empty, n_declare, n_declare_free, n_fail, n_more_params}
 use Rattle.lexer.specs.Lex.{bytes}

@@ -1,4 +1,6 @@
 // The writer (document 02, slip 7): a text in house style, into a slice that is lent.
+#![tactic(auto)]
+
 ghost use Rattle.std.specs.Prelude.{List, [], ◌∷◌, ◌++◌, ◌≡◌, ℕ, ◌+◌, ◌*◌, ◌≤◌, ◌<◌, length, get_or};
 ghost use Rattle.text_rules.specs.Spelling.{spelled};
 ghost use Rattle.printing.specs.Written.{Put, Wrote};
