@@ -1,13 +1,13 @@
 -- What remarks answers, as the line that is printed.
 use Prim.Native.Nat.{ℕ, ◌+◌, ◌*◌, ◌<◌, ◌≤◌}
 use native.Mathlib.Omega.{arith}
-use mathlib.Core.Path.{◌≡◌, refl, sym, ap, ◌∙◌}
-use mathlib.Core.List.{List, ◌++◌}
+use mathlib.Core.Path.{◌≡◌, sym, ap, ◌∙◌}
+use mathlib.Core.List.{List}
 use lib.ListN.{length, take, drop, replicate}
 use lib.Seq.{take_at}
 use Rattle.checker.specs.Check as C
 use Rattle.checker.specs.Check.{Verdict, accepted, checked}
-use Rattle.remarks.specs.Remarks.{Reply, refused, counted, Left, left, offsets_of, answering, remarks_of}
+use Rattle.remarks.specs.Remarks.{refused, counted, Left, left, offsets_of, answering, remarks_of}
 use Rattle.lines.specs.Print.{refusal, acceptance}
 use Rattle.printing.specs.Written.{Put, Wrote}
 use Rattle.printing.proofs.Puts.{put_whole}

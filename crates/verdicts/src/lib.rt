@@ -1,4 +1,6 @@
 // What is said of a text that is only checked, as a line of bytes.
+#![tactic(auto)]
+
 ghost use Rattle.printing.specs.Written.{Wrote};
 ghost use Rattle.verdicts.specs.Line.{line_of};
 
