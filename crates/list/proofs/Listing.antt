@@ -10,7 +10,6 @@ use lib.Dec.{ltb, eqb}
 use lib.IntN.{ℤ, pos, negsuc}
 use lib.Signed.{le_z, lt_z}
 use borrow.Author.Tests.{ltb-false, le-leb}
-use Rattle.checker.specs.Check as C
 use Rattle.checker.specs.Check.{Verdict, checked}
 use Rattle.semantics.specs.Run.{numbers}
 use Rattle.semantics.specs.Search as S
@@ -20,7 +19,6 @@ use Rattle.list.specs.Parts.{leaves}
 use Rattle.list.specs.Code.{Codes, Translates, refuses, has, Searches}
 use Rattle.list.proofs.Values.{neither}
 use Rattle.list.proofs.Sure.{never_stuck}
-use Rattle.list.specs.declared.Listed.{Listed}
 use Rattle.list.specs.declared.Listed.TheVariants as L
 use Rattle.list.specs.declared.Coded.TheVariants.{Refused, Entries}
 

@@ -1,4 +1,6 @@
 // List: its refusals, the code of the text's program, the search on it, and what is answered and left.
+#![tactic(auto)]
+
 ghost use Rattle.std.specs.Prelude.{◌≡◌, ◌+◌, ◌*◌, ◌≤◌, ◌<◌, ltb, true, ◌-ℤ◌, length, replicate};
 ghost use Rattle.std.proofs.Math.Option.{none};
 ghost use Rattle.std.specs.Int.Signed.{le_z};
