@@ -1,3 +1,4 @@
+use native.Mathlib.Omega.{arith}
 use Rattle.writer.proofs.Whole.{refuses-short, puts_whole}
 use Rattle.writer.proofs.put_whole.Goals as goal
 
@@ -11,4 +12,4 @@ pub program-written-requires : goal.program-written-requires
 program-written-requires c = c.requires
 
 pub returns : goal.returns
-returns c = puts_whole c.program-length.ensures c.if-out-length.false c.program-written.ensures
+returns c = puts_whole c.program-length.ensures (omega arith) c.program-written.ensures
