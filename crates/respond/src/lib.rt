@@ -1,4 +1,6 @@
 // The programs but for their reading and writing: what they print, as functions of the input.
+#![tactic(auto)]
+
 ghost use Rattle.std.specs.Prelude.{◌≡◌, ◌+◌, ◌*◌, ◌≤◌, ◌<◌, ◌||◌, ltb, length};
 ghost use Rattle.printing.specs.Written.{Put, Wrote};
 ghost use Rattle.lines.specs.Written.{ending_at};
