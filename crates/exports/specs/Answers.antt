@@ -1,5 +1,5 @@
 -- The words of an answer.
-use Rattle.std.specs.Prelude.{ℕ, ◌≤◌, ◌<◌, cond, List, length, set, ltb, ℤ}
+use Rattle.std.specs.Prelude.{ℕ, ◌<◌, cond, List, length, set, ltb, ℤ}
 use Rattle.semantics.specs.Search.{Close, whole, cuts, full, spent}
 use Rattle.list.specs.List as S
 use Rattle.list.specs.List.{list}

@@ -1,4 +1,6 @@
 // The operations of the lister, for Rust and C. A slice passes as a pointer and then a length.
+#![tactic(auto)]
+
 ghost use Rattle.std.specs.Prelude.{◌≡◌, ◌/◌, ◌≤◌, min, length};
 ghost use Rattle.checker.specs.Check.{checked};
 ghost use Rattle.list.specs.Parts.{answer_of};
