@@ -6,6 +6,8 @@ ghost use Rattle.syntax.specs.Table.{node_words, row};
 ghost use Rattle.syntax.specs.Fetch.{Fetched};
 
 pub mod kind;
+pub mod refusal;
+pub mod source;
 pub mod token;
 
 // The words of a node: its kind, a token and three more.
