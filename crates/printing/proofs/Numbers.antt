@@ -1,5 +1,5 @@
 -- Digits: one at a time, and how many.
-use Prim.Native.Nat.{ℕ, zero, suc, ◌+◌, ◌-◌, ◌*◌, ◌/◌, ◌%◌, ◌^◌, ◌≤◌, ◌<◌}
+use Prim.Native.Nat.{ℕ, zero, suc, ◌+◌, ◌*◌, ◌/◌, ◌%◌, ◌^◌, ◌≤◌, ◌<◌}
 use native.Mathlib.Omega.{arith}
 use native.Mathlib.Nat.{pow-suc}
 use mathlib.Core.Path.{◌≡◌, refl, sym, ◌∙◌, ap}
@@ -7,10 +7,11 @@ use mathlib.Core.Bool.{Bool, true, false}
 use mathlib.Core.List.{List, [], ◌∷◌, ◌++◌}
 use lib.ListN.{length, length-append}
 use lib.Dec.{ltb}
-use lib.IntN.{ℤ, pos, negsuc}
+use lib.IntN.{ℤ, pos, negsuc, nat_abs}
+use lib.Signed.{◌≤ℤ◌, ◌<ℤ◌}
+use Rattle.std.proofs.lemmas.Int.{ints}
 use mir.Syntax.{w32}
-use mir.Val.{to_z, SFits}
-use mir.Facts.{to_z-of_z}
+use mir.Val.{SFits}
 use borrow.Author.Tests.{lt-ltb, le-ltb, ltb-true, ltb-false}
 use Rattle.lexer.specs.Lex.{bytes}
 use Rattle.printing.specs.Decimal.{digits, natural, integer}
@@ -63,17 +64,13 @@ put_one n d h e p = put_as (ap (λ (x : ℕ). x ∷ []) e ∙ sym (natural-one n
 pub put_last : {l m k : List ℕ} {at p r : ℕ} (n d : ℕ) → 10 ≤ n → d ≡ 48 + n % 10 → Put l at (natural (n / 10)) m p → Put m p (d ∷ []) k r → Put l at (natural n) k r
 put_last n d h e x y = put_as (ap (λ (x : ℕ). natural (n / 10) ++ x ∷ []) e ∙ sym (natural-more n h)) (and_then x y)
 
--- the bits of a number, printed
-pub integer-plain : (w : ℕ) → w < 2147483648 → integer (to_z w32 w) ≡ natural w
+-- a number by its absolute value
+pub integer-plain : (z : ℤ) → pos 0 ≤ℤ z → natural (nat_abs z) ≡ integer z
 unfolding integer
-integer-plain w h =
-    let f : SFits w32 (pos w) = record { sfits = h } in
-    ap integer (to_z-of_z f)
+integer-plain (pos n) h = refl
+integer-plain (negsuc n) h = absurd (omega (arith, ints))
 
-pub integer-minus : (w : ℕ) → 2147483648 ≤ w → w < 4294967296 → integer (to_z w32 w) ≡ bytes "-" ++ natural (4294967296 - w)
+pub integer-minus : (z : ℤ) → z <ℤ pos 0 → bytes "-" ++ natural (nat_abs z) ≡ integer z
 unfolding integer
-integer-minus w h k =
-    let f : SFits w32 (negsuc (4294967296 - suc w)) = record { sfits = omega arith } in
-    let e : 4294967296 - suc (4294967296 - suc w) ≡ w = omega arith in
-    let n : suc (4294967296 - suc w) ≡ 4294967296 - w = omega arith in
-    ap (λ (x : ℕ). integer (to_z w32 x)) (sym e) ∙ ap integer (to_z-of_z f) ∙ ap (λ (x : ℕ). bytes "-" ++ natural x) n
+integer-minus (pos n) h = absurd (omega (arith, ints))
+integer-minus (negsuc n) h = refl
