@@ -7,4 +7,5 @@ pub mod Tree
 pub mod Ast
 pub mod Abstract
 pub mod Table
+pub mod NodeKinds
 pub mod Fetch
