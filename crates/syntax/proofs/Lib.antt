@@ -1,3 +1,4 @@
 -- Laws of the table.
 pub mod Rows
 pub mod Words
+pub mod SameKinds
