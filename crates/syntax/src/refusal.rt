@@ -47,12 +47,12 @@ pub enum Reason {
     ShortOutput,
 }
 
-impl Reason {
-    // The number that the operations answer for it.
-    pub fn number(self) -> u32
-        ensures { result ≡ number_of self }
-    {
-        match self {
+// The number that the operations answer for it.
+impl From<Reason> for u32 {
+    ghost from_gives = { λ reason number. number ≡ number_of reason };
+
+    fn from(reason: Reason) -> u32 {
+        match reason {
             Reason::TooLong => 1,
             Reason::NoToken => 2,
             Reason::TooLarge => 3,
