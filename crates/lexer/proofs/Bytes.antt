@@ -1,18 +1,20 @@
 -- Laws of byte classes, of spans, of equal bytes and of a table's kinds.
-use Prim.Native.Nat.{ℕ, zero, suc, ◌+◌, ◌-◌, ◌≤◌, ◌<◌}
-use mathlib.Core.Path.{◌≡◌, refl, sym, ap, subst}
+use Prim.Native.Nat.{ℕ, zero, suc, ◌+◌, ◌≤◌, ◌<◌}
+use mathlib.Core.Path.{◌≡◌, refl, sym, ap, subst, ◌∙◌}
 use mathlib.Core.Bool.{Bool, true, false, ◌&&◌, ◌||◌, beq}
 use mathlib.Core.List.{List, [], ◌∷◌}
 use native.Mathlib.Omega.{arith}
 use native.Mathlib.Numerals.{add-one}
 use native.Mathlib.Decide.{dec_lt}
 use lib.ListN.{length, get_or, take, drop, drop_of_length-le}
+use Rattle.std.specs.Cmp.Lexicographic.{pointwise}
 use lib.Seq.{drop-cons}
-use lib.Dec.{T, eqb, leb, ltb, eqb→eq}
-use borrow.Author.Tests.{eq-eqb, ne_eqb, eqb-true, leb-true}
-use Rattle.syntax.specs.Token.{k_name, k_number}
+use lib.Dec.{T, eqb, leb}
+use borrow.Author.Tests.{eqb-true, leb-true}
 use Rattle.lexer.specs.Lex.{is_word, is_digit, is_letter, is_underscore, is_blank, all, same, kind_in}
-use Rattle.lexer.specs.Parts.{class_of, span, large_as}
+use Rattle.lexer.specs.Parts.{class_number, class_of, span}
+use Rattle.lexer.specs.declared.Class.{Class}
+use Rattle.lexer.specs.declared.Class.TheVariants.{Blank, Underscore, Letter, Digit, Other}
 
 abbrev pub both : Bool → Bool → Bool
 both true b = b
@@ -69,6 +71,25 @@ word-class b = go (is_digit b) (is_letter b) (eqb b 95) (is_blank b)
     go false false false true = refl
     go false false false false = refl
 
+-- two classes of one number are the same
+of_number : ℕ → Class
+of_number zero = Other
+of_number (suc zero) = Blank
+of_number (suc (suc zero)) = Underscore
+of_number (suc (suc (suc zero))) = Letter
+of_number (suc (suc (suc (suc n)))) = Digit
+
+number-of : (k : Class) → of_number (class_number k) ≡ k
+unfolding of_number
+number-of Blank = refl
+number-of Underscore = refl
+number-of Letter = refl
+number-of Digit = refl
+number-of Other = refl
+
+pub same-class : (j k : Class) → class_number j ≡ class_number k → j ≡ k
+same-class j k e = sym (number-of j) ∙ ap of_number e ∙ number-of k
+
 pub span_more : (p : ℕ → Bool) (l : List ℕ) (i : ℕ) → i < length l → p (get_or l i 0) ≡ true → span p (drop i l) ≡ suc (span p (drop (i + 1) l))
 unfolding span
 span_more p l i h e = rw (drop-cons l i 0 h, add-one) (rw (e, span))
@@ -110,30 +131,17 @@ all_past p (b ∷ bs) (suc n) h k = go (p b) refl h (λ f. all_past p bs n f (om
     go true e h f = rw (e, all) (f (omega arith))
     go false e h f = rw (e, all)
 
--- the same bytes
-module _ (a b : List ℕ) (i : ℕ) (h : i < length a) (k : i < length b) where
-  pub same_more : get_or a i 0 ≡ get_or b i 0 → same (drop i a) (drop i b) ≡ same (drop (i + 1) a) (drop (i + 1) b)
-  unfolding same
-  same_more e = rw (drop-cons a i 0 h, drop-cons b i 0 k) (rw (eq-eqb _ _ e, same) (rw add-one))
-
-  pub same_not : (get_or a i 0 ≡ get_or b i 0 → ⊥) → same (drop i a) (drop i b) ≡ false
-  unfolding same
-  same_not e = rw (drop-cons a i 0 h, drop-cons b i 0 k) (rw (ne_eqb _ _ e, same))
-
-pub same_end : (a b : List ℕ) (i : ℕ) → length a ≤ i → length b ≤ i → same (drop i a) (drop i b) ≡ true
+-- `==` on slices is `same`
+pub same-pointwise : (a b : List ℕ) → pointwise eqb a b ≡ same a b
 unfolding same
-same_end a b i h k = rw (drop_of_length-le a {i = i} h, drop_of_length-le b {i = i} k)
+same-pointwise [] [] = refl
+same-pointwise [] (y ∷ ys) = refl
+same-pointwise (x ∷ xs) [] = refl
+same-pointwise (x ∷ xs) (y ∷ ys) = ap (λ t. eqb x y && t) (same-pointwise xs ys)
 
 pub and-false : (t : Bool) → t && false ≡ false
 and-false true = refl
 and-false false = refl
-
-pub same-sizes : (a b : List ℕ) → (length a ≡ length b → ⊥) → same a b ≡ false
-unfolding same
-same-sizes [] [] h = absurd (h refl)
-same-sizes [] (y ∷ ys) h = refl
-same-sizes (x ∷ xs) [] h = refl
-same-sizes (x ∷ xs) (y ∷ ys) h = rw (same-sizes xs ys (λ e. h (ap suc e))) (and-false (eqb x y))
 
 -- `same` is equality
 pub same-eq : (a b : List ℕ) → same a b ≡ true → a ≡ b
@@ -187,40 +195,3 @@ digit-bounds b e = go (leb 48 b) refl e
     go : (t : Bool) → leb 48 b ≡ t → t && leb b 57 ≡ true → (48 ≤ b) × (b ≤ 57)
     go true f g = (leb-true 48 b f, leb-true b 57 g)
     go false f g = absurd (subst (λ (x : Bool). T x) (sym g) tt)
-
--- which kinds and values are large
-pub large-name : (v : ℕ) → large_as k_name v ≡ ltb 16 v
-large-name v = or-false (ltb 16 v)
-  where
-    or-false : (t : Bool) → t || false ≡ t
-    or-false true = refl
-    or-false false = refl
-
-pub large-number : (v : ℕ) → large_as k_number v ≡ ltb 2147483647 v
-large-number v = refl
-
-pub large-other : (k v : ℕ) → (k ≡ k_name → ⊥) → (k ≡ k_number → ⊥) → large_as k v ≡ false
-large-other k v p q = simp (ne_eqb k k_name p, ne_eqb k k_number q)
-
-pub class-four : (b : ℕ) → class_of b ≤ 4
-class-four b = go (is_digit b) (is_letter b) (eqb b 95) (is_blank b)
-  where
-    go : (d l u w : Bool) → elim d [ true ↦ 4 | false ↦ elim l [ true ↦ 3 | false ↦ elim u [ true ↦ 2 | false ↦ elim w [ true ↦ 1 | false ↦ 0 ] ] ] ] ≤ 4
-    go true l u w = omega arith
-    go false true u w = omega arith
-    go false false true w = omega arith
-    go false false false true = omega arith
-    go false false false false = omega arith
-
--- the class of the bytes of a range, by one test that antt computes
-pub class-range : (lo n v b : ℕ) → T (upto n (λ k. eqb (class_of (lo + k)) v)) → lo ≤ b → b < lo + n → v ≡ class_of b
-class-range lo n v b t h k =
-    let z : lo + (b - lo) ≡ b = omega arith in
-    sym (subst (λ (x : ℕ). class_of x ≡ v) z (eqb→eq _ _ (upto-at n (λ k. eqb (class_of (lo + k)) v) t (b - lo) (omega arith))))
-
-pub class_low : (b : ℕ) → b < 48 → is_blank b ≡ false → 0 ≡ class_of b
-class_low b h e = go (is_blank b) e (upto-at 48 (λ k. elim (is_blank k) [ true ↦ true | false ↦ eqb (class_of k) 0 ]) tt b h)
-  where
-    go : (t : Bool) → t ≡ false → T (elim t [ true ↦ true | false ↦ eqb (class_of b) 0 ]) → 0 ≡ class_of b
-    go true q r = absurd (subst (λ (x : Bool). T x) q tt)
-    go false q r = sym (eqb→eq _ _ r)

@@ -9,9 +9,8 @@ use lib.ListN.{length, take, drop, get_or, length-drop, drop_of_length-le}
 use lib.Seq.{drop-cons, length-take-le}
 use lib.Dec.{eqb}
 use Rattle.syntax.specs.Token.{k_end, k_name, k_number}
-use Rattle.lexer.specs.Lex.{is_word, is_digit, is_letter, is_blank, words, marks, kind_in, kind_of, longest, decimal, digits_of, value_of, front, nothing, token}
-use Rattle.lexer.specs.Parts.{class_of, span, limit, held, piece_of}
-use Rattle.lexer.specs.declared.Piece.TheVariants.{Blank, Nothing, Token}
+use Rattle.lexer.specs.Lex.{is_word, is_digit, is_letter, is_blank, words, marks, kind_in, kind_of, longest, decimal, digits_of, value_of, blank, front, nothing, token}
+use Rattle.lexer.specs.Parts.{class_of, span, limit, held, held_front}
 use borrow.Author.Tests.{eq-eqb, ne_eqb, eqb-true}
 use Rattle.lexer.proofs.Bytes.{span-le, all-span, class-blank, class-letter, class-digit}
 use Rattle.lexer.proofs.Numbers.{more, grouped-more, end_of, end-start}
@@ -45,7 +44,7 @@ held_number : (v : ℕ) → held k_number v ≡ min v limit
 unfolding held
 held_number v = refl
 
-pub front-blank : (b : ℕ) (bs : List ℕ) → is_blank b ≡ true → piece_of (front (b ∷ bs)) ≡ Blank
+pub front-blank : (b : ℕ) (bs : List ℕ) → is_blank b ≡ true → held_front (front (b ∷ bs)) ≡ blank
 unfolding front
 front-blank b bs e = rw (e, front)
 
@@ -59,38 +58,38 @@ module _ (b : ℕ) (bs : List ℕ) (e : is_blank b ≡ false) where
   front-nothing h = rw (e, front) (rw h)
 
   -- a token that is no number holds its size
-  sized : (n : ℕ) → n ≤ length bs → longest (b ∷ bs) ≡ suc n → eqb (kind_of (b ∷ take n bs)) k_number ≡ false → piece_of (front (b ∷ bs)) ≡ Token (kind_of (b ∷ take n bs)) (suc n) (suc n)
+  sized : (n : ℕ) → n ≤ length bs → longest (b ∷ bs) ≡ suc n → eqb (kind_of (b ∷ take n bs)) k_number ≡ false → held_front (front (b ∷ bs)) ≡ token (kind_of (b ∷ take n bs)) (suc n) (suc n)
   sized n s h k =
-      ap piece_of (front-token n h)
-      ∙ ap (Token (kind_of (b ∷ take n bs)) (suc n)) (held-size (kind_of (b ∷ take n bs)) (value_of (b ∷ take n bs)) k ∙ size-value (b ∷ take n bs) k ∙ ap suc (length-take-le n bs s))
+      ap held_front (front-token n h)
+      ∙ ap (token (kind_of (b ∷ take n bs)) (suc n)) (held-size (kind_of (b ∷ take n bs)) (value_of (b ∷ take n bs)) k ∙ size-value (b ∷ take n bs) k ∙ ap suc (length-take-le n bs s))
 
-  pub front-name : is_letter b ≡ true → piece_of (front (b ∷ bs)) ≡ Token (kind_in words k_name (b ∷ take (span is_word bs) bs)) (suc (span is_word bs)) (suc (span is_word bs))
+  pub front-name : is_letter b ≡ true → held_front (front (b ∷ bs)) ≡ token (kind_in words k_name (b ∷ take (span is_word bs) bs)) (suc (span is_word bs)) (suc (span is_word bs))
   front-name f =
       let k = name-kind b (take (span is_word bs) bs) f (all-span is_word bs) in
       sized (span is_word bs) (span-le is_word bs) (name-longest b bs f) (rw k (word-no-number (b ∷ take (span is_word bs) bs)))
-      ∙ ap (λ (x : ℕ). Token x (suc (span is_word bs)) (suc (span is_word bs))) k
+      ∙ ap (λ (x : ℕ). token x (suc (span is_word bs)) (suc (span is_word bs))) k
 
-  pub front-number : is_letter b ≡ false → is_digit b ≡ true → piece_of (front (b ∷ bs)) ≡ Token k_number (suc (more bs)) (min (decimal 0 (digits_of (b ∷ take (more bs) bs))) limit)
+  pub front-number : is_letter b ≡ false → is_digit b ≡ true → held_front (front (b ∷ bs)) ≡ token k_number (suc (more bs)) (min (decimal 0 (digits_of (b ∷ take (more bs) bs))) limit)
   front-number f g =
       let k = number-kind b (take (more bs) bs) f g (grouped-more bs) in
-      ap piece_of (front-token (more bs) (number-longest b bs f g))
-      ∙ ap (λ (x : ℕ). Token x (suc (more bs)) (held x (value_of (b ∷ take (more bs) bs)))) k
-      ∙ ap (Token k_number (suc (more bs))) (held_number (value_of (b ∷ take (more bs) bs)) ∙ ap (λ (x : ℕ). min x limit) (number-value (b ∷ take (more bs) bs) k))
+      ap held_front (front-token (more bs) (number-longest b bs f g))
+      ∙ ap (λ (x : ℕ). token x (suc (more bs)) (held x (value_of (b ∷ take (more bs) bs)))) k
+      ∙ ap (token k_number (suc (more bs))) (held_number (value_of (b ∷ take (more bs) bs)) ∙ ap (λ (x : ℕ). min x limit) (number-value (b ∷ take (more bs) bs) k))
 
   module _ (f : is_letter b ≡ false) (g : is_digit b ≡ false) where
-    pub front-pair : eqb (pair_of b bs) k_end ≡ false → 1 ≤ length bs → piece_of (front (b ∷ bs)) ≡ Token (pair_of b bs) 2 2
+    pub front-pair : eqb (pair_of b bs) k_end ≡ false → 1 ≤ length bs → held_front (front (b ∷ bs)) ≡ token (pair_of b bs) 2 2
     front-pair h s =
         let p = pair-longest b f g bs h in
         sized 1 s p.0 (rw (mark-kind b (take 1 bs) f g) (mark-no-number (b ∷ take 1 bs)))
-        ∙ ap (λ (x : ℕ). Token x 2 2) p.1
+        ∙ ap (λ (x : ℕ). token x 2 2) p.1
 
-    pub front-single : pair_of b bs ≡ k_end → eqb (kind_in marks k_end (b ∷ [])) k_end ≡ false → piece_of (front (b ∷ bs)) ≡ Token (kind_in marks k_end (b ∷ [])) 1 1
+    pub front-single : pair_of b bs ≡ k_end → eqb (kind_in marks k_end (b ∷ [])) k_end ≡ false → held_front (front (b ∷ bs)) ≡ token (kind_in marks k_end (b ∷ [])) 1 1
     front-single h k =
         sized 0 (omega arith) (single-longest b f g bs h k) (rw (mark-kind b [] f g) (mark-no-number (b ∷ [])))
-        ∙ ap (λ (x : ℕ). Token x 1 1) (mark-kind b [] f g)
+        ∙ ap (λ (x : ℕ). token x 1 1) (mark-kind b [] f g)
 
-    pub front-none : pair_of b bs ≡ k_end → kind_in marks k_end (b ∷ []) ≡ k_end → piece_of (front (b ∷ bs)) ≡ Nothing
-    front-none h k = ap piece_of (front-nothing (nothing-longest b f g bs h k))
+    pub front-none : pair_of b bs ≡ k_end → kind_in marks k_end (b ∷ []) ≡ k_end → held_front (front (b ∷ bs)) ≡ nothing
+    front-none h k = ap held_front (front-nothing (nothing-longest b f g bs h k))
 
 pub pair-here : (b : ℕ) (l : List ℕ) (i : ℕ) → i < length l → pair_of b (drop i l) ≡ kind_in marks k_end (b ∷ get_or l i 0 ∷ [])
 unfolding pair_of
@@ -111,16 +110,16 @@ module _ (l : List ℕ) (i : ℕ) (h : i < length l) (small : get_or l i 0 < 256
   abbrev bs : List ℕ
   bs = drop (i + 1) l
 
-  pub blank-piece : class_of b ≡ 1 → Blank ≡ piece_of (front (drop i l))
-  blank-piece e = sym (ap (λ (x : List ℕ). piece_of (front x)) (at_drop l i h) ∙ front-blank b bs (class-blank b small ∙ eq-eqb _ _ e))
+  pub blank-piece : class_of b ≡ 1 → blank ≡ held_front (front (drop i l))
+  blank-piece e = sym (ap (λ (x : List ℕ). held_front (front x)) (at_drop l i h) ∙ front-blank b bs (class-blank b small ∙ eq-eqb _ _ e))
 
-  pub name-piece : (e k : ℕ) → is_letter b ≡ true → e ≡ i + 1 + span is_word bs → k ≡ kind_in words k_name (take (e - i) (drop i l)) → Token k (e - i) (e - i) ≡ piece_of (front (drop i l))
+  pub name-piece : (e k : ℕ) → is_letter b ≡ true → e ≡ i + 1 + span is_word bs → k ≡ kind_in words k_name (take (e - i) (drop i l)) → token k (e - i) (e - i) ≡ held_front (front (drop i l))
   name-piece e k f q r =
       let n : e - i ≡ suc (span is_word bs) = omega arith in
       let c : class_of b ≡ 3 = eqb-true _ _ (sym (class-letter b small) ∙ f) in
-      ap (λ (x : ℕ). Token x (e - i) (e - i)) (r ∙ ap (λ (x : List ℕ). kind_in words k_name (take (e - i) x)) (at_drop l i h))
-      ∙ ap (λ (x : ℕ). Token (kind_in words k_name (take x (b ∷ bs))) x x) n
-      ∙ sym (ap (λ (x : List ℕ). piece_of (front x)) (at_drop l i h) ∙ front-name b bs (class-blank b small ∙ rw c) f)
+      ap (λ (x : ℕ). token x (e - i) (e - i)) (r ∙ ap (λ (x : List ℕ). kind_in words k_name (take (e - i) x)) (at_drop l i h))
+      ∙ ap (λ (x : ℕ). token (kind_in words k_name (take x (b ∷ bs))) x x) n
+      ∙ sym (ap (λ (x : List ℕ). held_front (front x)) (at_drop l i h) ∙ front-name b bs (class-blank b small ∙ rw c) f)
 
   module _ (f : is_digit b ≡ true) where
     four : class_of b ≡ 4
@@ -133,12 +132,12 @@ module _ (l : List ℕ) (i : ℕ) (h : i < length l) (small : get_or l i 0 < 256
     pub number-start : i + longest (drop i l) ≡ end_of (i + 1) (i + 1) (more bs)
     number-start = omega (arith, number_size, end-start (i + 1) (more bs))
 
-    pub number-piece : (e v : ℕ) → e ≡ i + longest (drop i l) → v ≡ min (decimal 0 (digits_of (take (e - i) (drop i l)))) limit → Token k_number (e - i) v ≡ piece_of (front (drop i l))
+    pub number-piece : (e v : ℕ) → e ≡ i + longest (drop i l) → v ≡ min (decimal 0 (digits_of (take (e - i) (drop i l)))) limit → token k_number (e - i) v ≡ held_front (front (drop i l))
     number-piece e v q r =
         let n : e - i ≡ suc (more bs) = omega (arith, number_size) in
-        ap (Token k_number (e - i)) (r ∙ ap (λ (x : List ℕ). min (decimal 0 (digits_of (take (e - i) x))) limit) (at_drop l i h))
-        ∙ ap (λ (x : ℕ). Token k_number x (min (decimal 0 (digits_of (take x (b ∷ bs)))) limit)) n
-        ∙ sym (ap (λ (x : List ℕ). piece_of (front x)) (at_drop l i h) ∙ front-number b bs (class-blank b small ∙ rw four) (class-letter b small ∙ rw four) f)
+        ap (token k_number (e - i)) (r ∙ ap (λ (x : List ℕ). min (decimal 0 (digits_of (take (e - i) x))) limit) (at_drop l i h))
+        ∙ ap (λ (x : ℕ). token k_number x (min (decimal 0 (digits_of (take x (b ∷ bs)))) limit)) n
+        ∙ sym (ap (λ (x : List ℕ). held_front (front x)) (at_drop l i h) ∙ front-number b bs (class-blank b small ∙ rw four) (class-letter b small ∙ rw four) f)
 
   -- neither blank, letter nor digit
   module _ (low : class_of b ≤ 2) (full : class_of b ≡ 1 → ⊥) where
@@ -151,17 +150,17 @@ module _ (l : List ℕ) (i : ℕ) (h : i < length l) (small : get_or l i 0 < 256
     no_digit : is_digit b ≡ false
     no_digit = class-digit b small ∙ ne_eqb (class_of b) 4 (λ e. omega arith)
 
-    pub pair-piece : (k : ℕ) → i + 1 < length l → k ≡ kind_in marks k_end (b ∷ get_or l (i + 1) 0 ∷ []) → (k ≡ k_end → ⊥) → Token k 2 2 ≡ piece_of (front (drop i l))
+    pub pair-piece : (k : ℕ) → i + 1 < length l → k ≡ kind_in marks k_end (b ∷ get_or l (i + 1) 0 ∷ []) → (k ≡ k_end → ⊥) → token k 2 2 ≡ held_front (front (drop i l))
     pair-piece k s q r =
         let p : k ≡ pair_of b bs = q ∙ sym (pair-here b l (i + 1) s) in
-        ap (λ (x : ℕ). Token x 2 2) p
-        ∙ sym (ap (λ (x : List ℕ). piece_of (front x)) (at_drop l i h)
+        ap (λ (x : ℕ). token x 2 2) p
+        ∙ sym (ap (λ (x : List ℕ). held_front (front x)) (at_drop l i h)
         ∙ front-pair b bs no-blank no-letter no_digit (ne_eqb _ _ (λ e. r (p ∙ e))) (omega (arith, length-drop (i + 1) l)))
 
-    pub single-piece : (k : ℕ) → pair_of b bs ≡ k_end → k ≡ kind_in marks k_end (b ∷ []) → (k ≡ k_end → ⊥) → Token k 1 1 ≡ piece_of (front (drop i l))
+    pub single-piece : (k : ℕ) → pair_of b bs ≡ k_end → k ≡ kind_in marks k_end (b ∷ []) → (k ≡ k_end → ⊥) → token k 1 1 ≡ held_front (front (drop i l))
     single-piece k p q r =
-        ap (λ (x : ℕ). Token x 1 1) q
-        ∙ sym (ap (λ (x : List ℕ). piece_of (front x)) (at_drop l i h) ∙ front-single b bs no-blank no-letter no_digit p (ne_eqb _ _ (λ e. r (q ∙ e))))
+        ap (λ (x : ℕ). token x 1 1) q
+        ∙ sym (ap (λ (x : List ℕ). held_front (front x)) (at_drop l i h) ∙ front-single b bs no-blank no-letter no_digit p (ne_eqb _ _ (λ e. r (q ∙ e))))
 
-    pub no-piece : (k : ℕ) → pair_of b bs ≡ k_end → k ≡ kind_in marks k_end (b ∷ []) → k ≡ k_end → Nothing ≡ piece_of (front (drop i l))
-    no-piece k p q r = sym (ap (λ (x : List ℕ). piece_of (front x)) (at_drop l i h) ∙ front-none b bs no-blank no-letter no_digit p (sym q ∙ r))
+    pub no-piece : pair_of b bs ≡ k_end → kind_in marks k_end (b ∷ []) ≡ k_end → nothing ≡ held_front (front (drop i l))
+    no-piece p q = sym (ap (λ (x : List ℕ). held_front (front x)) (at_drop l i h) ∙ front-none b bs no-blank no-letter no_digit p q)

@@ -10,6 +10,9 @@ use native.Mathlib.Decide.{dec_lt}
 use lib.ListN.{length, take, drop, set, length-drop}
 use lib.Seq.{drop-cons, get_or-set_same, get_or-set_other}
 use lib.Dec.{eqb, ltb}
+use Rattle.std.specs.Bool.{then_some}
+use Rattle.std.specs.Option.{option_or}
+use Rattle.std.specs.Prelude.{Option, None, Some}
 use borrow.Author.Tests.{eqb-true, lt-ltb, le-ltb, ltb-false}
 use Rattle.syntax.specs.Token.{k_end, k_number}
 use Rattle.lexer.specs.Lex.{
@@ -35,8 +38,7 @@ use Rattle.lexer.specs.Lex.{
   lexed,
 }
 use Rattle.lexer.specs.Tokens.{Longest}
-use Rattle.lexer.specs.Parts.{limit, held, piece_of, large_as, first_large, stored}
-use Rattle.lexer.specs.declared.Piece.TheVariants as piece
+use Rattle.lexer.specs.Parts.{limit, held, held_front, large_as, stored}
 
 longest-le : (n : ℕ) (l : List ℕ) → longest_within n l ≤ n
 unfolding longest_within
@@ -107,17 +109,17 @@ module _ (l : List ℕ) (i : ℕ) (h : i < length l) where
       ap (before (record { kind = k; place = i; value = v })) (rest l (m - 1) (suc i) (omega (arith, z.0, z.1)) ∙ ap (λ (j : ℕ). scan j 0 (drop j l)) q)))
 
 -- what a piece says of the front that it stands for
-pub piece-blank : (f : Front) → piece_of f ≡ piece.Blank → f ≡ blank
+pub piece-blank : (f : Front) → held_front f ≡ blank → f ≡ blank
 piece-blank blank e = refl
 piece-blank nothing e = absurd (let z : ◌≡◌ {A = ℕ} 0 1 = cc in omega arith)
 piece-blank (token k m v) e = absurd (let z : ◌≡◌ {A = ℕ} 0 1 = cc in omega arith)
 
-pub piece-nothing : (f : Front) → piece_of f ≡ piece.Nothing → f ≡ nothing
+pub piece-nothing : (f : Front) → held_front f ≡ nothing → f ≡ nothing
 piece-nothing blank e = absurd (let z : ◌≡◌ {A = ℕ} 0 1 = cc in omega arith)
 piece-nothing nothing e = refl
 piece-nothing (token k m v) e = absurd (let z : ◌≡◌ {A = ℕ} 0 1 = cc in omega arith)
 
-pub piece-token : (f : Front) (k m w : ℕ) → piece_of f ≡ piece.Token k m w → (v : ℕ) × (f ≡ token k m v) × (w ≡ held k v)
+pub piece-token : (f : Front) (k m w : ℕ) → held_front f ≡ token k m w → (v : ℕ) × (f ≡ token k m v) × (w ≡ held k v)
 piece-token blank k m w e = absurd (let z : ◌≡◌ {A = ℕ} 0 1 = cc in omega arith)
 piece-token nothing k m w e = absurd (let z : ◌≡◌ {A = ℕ} 0 1 = cc in omega arith)
 piece-token (token j n v) k m w e =
@@ -154,34 +156,34 @@ held_small k v s = go (eqb k k_number) refl
     go false e = refl
 
 -- what the answer is, from the tokens stored, the first large one and what is still to be scanned
-unfoldable pub outcome : List Token → ℕ → Scanned → Lexing
+unfoldable pub outcome : List Token → Option ℕ → Scanned → Lexing
 outcome pre large (stray ts p) = refused 2 p
-outcome pre large (found ts) = elim (ltb large 2048) [ true ↦ refused 3 large | false ↦ none_large (pre ++ ts) ts ]
+outcome pre large (found ts) = elim large [ Some p ↦ refused 3 p | None ↦ none_large (pre ++ ts) ts ]
 
 pub lexed-long : (l : List ℕ) → 2048 < length l → lexed l ≡ refused 1 2048
 unfolding lexed
 lexed-long l h = rw (lt-ltb 2048 (length l) h, lexed)
 
-pub lexed-start : (l : List ℕ) → length l ≤ 2048 → lexed l ≡ outcome [] 2048 (scan 0 0 l)
+pub lexed-start : (l : List ℕ) → length l ≤ 2048 → lexed l ≡ outcome [] None (scan 0 0 l)
 unfolding lexed outcome
 lexed-start l h = rw (le-ltb 2048 (length l) h, lexed) (go (scan 0 0 l))
   where
-    go : (s : Scanned) → elim s [ stray ts p ↦ refused 2 p | found ts ↦ none_large ts ts ] ≡ outcome [] 2048 s
+    go : (s : Scanned) → elim s [ stray ts p ↦ refused 2 p | found ts ↦ none_large ts ts ] ≡ outcome [] None s
     go (stray ts p) = refl
     go (found ts) = refl
 
-pub outcome-token : (pre : List Token) (g k p v : ℕ) (s : Scanned) → p < 2048
-    → outcome pre g (before (record { kind = k; place = p; value = v }) s) ≡ outcome (pre ++ (record { kind = k; place = p; value = held k v } ∷ [])) (first_large g p (large_as k (held k v))) s
-unfolding outcome first_large none_large
-outcome-token pre g k p v (stray ts q) h = refl
-outcome-token pre g k p v (found ts) h = go (ltb g 2048) refl (large_as k v) refl
+pub outcome-token : (pre : List Token) (g : Option ℕ) (k p v : ℕ) (s : Scanned)
+    → outcome pre g (before (record { kind = k; place = p; value = v }) s) ≡ outcome (pre ++ (record { kind = k; place = p; value = held k v } ∷ [])) (option_or g (then_some (large_as k (held k v)) p)) s
+unfolding outcome none_large
+outcome-token pre g k p v (stray ts q) = refl
+outcome-token pre (Some large) k p v (found ts) = refl
+outcome-token pre None k p v (found ts) = go (large_as k v) refl
   where
-    go : (t : Bool) → ltb g 2048 ≡ t → (u : Bool) → large_as k v ≡ u
-        → elim t [ true ↦ refused 3 g | false ↦ none_large (pre ++ (record { kind = k; place = p; value = v } ∷ ts)) (record { kind = k; place = p; value = v } ∷ ts) ]
-        ≡ outcome (pre ++ (record { kind = k; place = p; value = held k v } ∷ [])) (elim t [ true ↦ g | false ↦ elim (large_as k (held k v)) [ true ↦ p | false ↦ 2048 ] ]) (found ts)
-    go true e u f = rw (e, outcome)
-    go false e true f = rw (held-large k v) (rw f (rw (lt-ltb p 2048 h, outcome) (rw (f, none_large))))
-    go false e false f = rw (held-large k v) (rw f (rw (f, none_large) (rw (held_small k v f, append_assoc))))
+    go : (u : Bool) → large_as k v ≡ u
+        → none_large (pre ++ (record { kind = k; place = p; value = v } ∷ ts)) (record { kind = k; place = p; value = v } ∷ ts)
+        ≡ outcome (pre ++ (record { kind = k; place = p; value = held k v } ∷ [])) (then_some (large_as k (held k v)) p) (found ts)
+    go true f = rw (held-large k v) (rw f (rw (f, none_large)))
+    go false f = rw (held-large k v) (rw f (rw (f, none_large) (rw (held_small k v f, append_assoc))))
 
 stored-set : (n j k p v : ℕ) (ks ps vs : List ℕ) → n ≤ j → stored n (set ks j k) (set ps j p) (set vs j v) ≡ stored n ks ps vs
 unfolding stored

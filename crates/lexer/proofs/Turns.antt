@@ -7,10 +7,12 @@ use native.Mathlib.Numerals.{add-one}
 use lib.ListN.{length, drop, set, length-set, drop_of_length-le}
 use lib.Seq.{sets}
 use borrow.Author.Tests.{lt-ltb, le-ltb}
+use Rattle.std.specs.Bool.{then_some}
+use Rattle.std.specs.Option.{option_or}
+use Rattle.std.specs.Prelude.{Option, None, Some, Ok, Err}
+use Rattle.syntax.specs.declared.refusal.Reason.TheVariants as reason
 use Rattle.lexer.specs.Lex.{Token, blank, nothing, token, front, Scanned, found, stray, before, scan, tokens, none_large, lexed}
-use Rattle.lexer.specs.Parts.{held, piece_of, large_as, first_large, stored, passed, written, Lexes}
-use Rattle.lexer.specs.declared.Piece.TheVariants as piece
-use Rattle.lexer.specs.declared.Lexed.TheVariants.{Tokens, Refused}
+use Rattle.lexer.specs.Parts.{held, held_front, large_as, stored, passed, written, Lexes}
 use Rattle.lexer.proofs.Loop.{at-blank, at-nothing, at_size, at-token, piece-blank, piece-nothing, piece-token, outcome, lexed-long, lexed-start, outcome-token, stored_more}
 
 -- the words of one slice, each f of its token: what it will hold in the end is what it holds now with the rest written from n on
@@ -55,7 +57,7 @@ module _ {f : Token → ℕ} {l ws₀ ws : List ℕ} {i n : ℕ} (w : Writing f 
   write-end h x r = sym (w.goal ∙ rw (drop_of_length-le l {i = i} h, r))
 
 -- at a turn, n tokens are stored and the text is scanned up to `at`
-pub record Turn (text ks₀ ps₀ vs₀ ks ps vs : List ℕ) (at n large : ℕ) : Type 0 where
+pub record Turn (text ks₀ ps₀ vs₀ ks ps vs : List ℕ) (at n : ℕ) (large : Option ℕ) : Type 0 where
   pub inside : at ≤ length text
   pub few : n ≤ at
   pub answer : lexed text ≡ outcome (stored n ks ps vs) large (scan at 0 (drop at text))
@@ -63,7 +65,7 @@ pub record Turn (text ks₀ ps₀ vs₀ ks ps vs : List ℕ) (at n large : ℕ) 
   pub places : Writing (λ (t : Token). t.place) text ps₀ ps at n
   pub values : Writing (λ (t : Token). held t.kind t.value) text vs₀ vs at n
 
-pub turn-start : (l ks ps vs : List ℕ) → length l ≤ 2048 → Turn l ks ps vs ks ps vs 0 0 2048
+pub turn-start : (l ks ps vs : List ℕ) → length l ≤ 2048 → Turn l ks ps vs ks ps vs 0 0 None
 unfolding stored
 turn-start l ks ps vs h =
     record {
@@ -75,7 +77,7 @@ turn-start l ks ps vs h =
       values = write-start (λ (t : Token). held t.kind t.value) l vs h;
     }
 
-pub too_long : (l ks ps vs : List ℕ) → 2048 < length l → Lexes l ks ps vs ks ps vs (Refused 1 2048)
+pub too_long : (l ks ps vs : List ℕ) → 2048 < length l → Lexes l ks ps vs ks ps vs (Err (record { reason = reason.TooLong; place = 2048 }))
 too_long l ks ps vs h =
     record {
       answer = lexed-long l h;
@@ -84,8 +86,8 @@ too_long l ks ps vs h =
       values = write-none (λ (t : Token). held t.kind t.value) l vs h;
     }
 
-module _ {l ks₀ ps₀ vs₀ ks ps vs : List ℕ} {i n g : ℕ} (t : Turn l ks₀ ps₀ vs₀ ks ps vs i n g) where
-  pub turn-blank : i < length l → piece_of (front (drop i l)) ≡ piece.Blank → Turn l ks₀ ps₀ vs₀ ks ps vs (i + 1) n g
+module _ {l ks₀ ps₀ vs₀ ks ps vs : List ℕ} {i n : ℕ} {g : Option ℕ} (t : Turn l ks₀ ps₀ vs₀ ks ps vs i n g) where
+  pub turn-blank : i < length l → held_front (front (drop i l)) ≡ blank → Turn l ks₀ ps₀ vs₀ ks ps vs (i + 1) n g
   turn-blank h e =
       let f = piece-blank (front (drop i l)) e in
       record {
@@ -97,7 +99,7 @@ module _ {l ks₀ ps₀ vs₀ ks ps vs : List ℕ} {i n g : ℕ} (t : Turn l ks�
         values = write-blank t.values h f;
       }
 
-  pub turn-nothing : i < length l → piece_of (front (drop i l)) ≡ piece.Nothing → Lexes l ks₀ ps₀ vs₀ ks ps vs (Refused 2 i)
+  pub turn-nothing : i < length l → held_front (front (drop i l)) ≡ nothing → Lexes l ks₀ ps₀ vs₀ ks ps vs (Err (record { reason = reason.NoToken; place = i }))
   unfolding outcome
   turn-nothing h e =
       let f = piece-nothing (front (drop i l)) e in
@@ -108,12 +110,12 @@ module _ {l ks₀ ps₀ vs₀ ks ps vs : List ℕ} {i n g : ℕ} (t : Turn l ks�
         values = write-nothing t.values h f;
       }
 
-  module _ (k m w : ℕ) (h : i < length l) (e : piece_of (front (drop i l)) ≡ piece.Token k m w) where
+  module _ (k m w : ℕ) (h : i < length l) (e : held_front (front (drop i l)) ≡ token k m w) where
     pub turn-size : (1 ≤ m) × (i + m ≤ length l)
     turn-size = let v = piece-token (front (drop i l)) k m w e in at_size l i h k m v.0 v.1
 
-    pub turn-token : (r : ℕ) → i < 2048 → n < length ks → n < length ps → n < length vs → r ≡ first_large g i (large_as k w) → Turn l ks₀ ps₀ vs₀ (set ks n k) (set ps n i) (set vs n w) (i + m) (n + 1) r
-    turn-token r s a b c q =
+    pub turn-token : (r : Option ℕ) → n < length ks → n < length ps → n < length vs → r ≡ option_or g (then_some (large_as k w) i) → Turn l ks₀ ps₀ vs₀ (set ks n k) (set ps n i) (set vs n w) (i + m) (n + 1) r
+    turn-token r a b c q =
         let x = piece-token (front (drop i l)) k m w e in
         let z = turn-size in
         let rest = scan (i + m) 0 (drop (i + m) l) in
@@ -121,9 +123,9 @@ module _ {l ks₀ ps₀ vs₀ ks ps vs : List ℕ} {i n g : ℕ} (t : Turn l ks�
           inside = z.1;
           few = omega (arith, z.0, t.few);
           answer =
-              t.answer ∙ ap (outcome (stored n ks ps vs) g) (at-token l i h k m x.0 x.1) ∙ outcome-token (stored n ks ps vs) g k i x.0 rest s
-              ∙ ap (λ (y : ℕ). outcome (stored n ks ps vs ++ (record { kind = k; place = i; value = y } ∷ [])) (first_large g i (large_as k y)) rest) (sym x.2)
-              ∙ ap (λ (y : ℕ). outcome (stored n ks ps vs ++ (record { kind = k; place = i; value = w } ∷ [])) y rest) (sym q)
+              t.answer ∙ ap (outcome (stored n ks ps vs) g) (at-token l i h k m x.0 x.1) ∙ outcome-token (stored n ks ps vs) g k i x.0 rest
+              ∙ ap (λ (y : ℕ). outcome (stored n ks ps vs ++ (record { kind = k; place = i; value = y } ∷ [])) (option_or g (then_some (large_as k y) i)) rest) (sym x.2)
+              ∙ ap (λ (y : Option ℕ). outcome (stored n ks ps vs ++ (record { kind = k; place = i; value = w } ∷ [])) y rest) (sym q)
               ∙ ap (λ ts. outcome ts r rest) (sym (stored_more n k i w ks ps vs a b c));
           kinds = write-token t.kinds h k m x.0 k x.1 refl;
           places = write-token t.places h k m x.0 i x.1 refl;
@@ -131,21 +133,21 @@ module _ {l ks₀ ps₀ vs₀ ks ps vs : List ℕ} {i n g : ℕ} (t : Turn l ks�
         }
 
   module _ (h : length l ≤ i) where
-    pub turn-large : g < 2048 → Lexes l ks₀ ps₀ vs₀ (set ks n 0) (set ps n i) (set vs n 0) (Refused 3 g)
+    pub turn-large : (p : ℕ) → g ≡ Some p → Lexes l ks₀ ps₀ vs₀ (set ks n 0) (set ps n i) (set vs n 0) (Err (record { reason = reason.TooLarge; place = p }))
     unfolding scan outcome held
-    turn-large s =
+    turn-large p s =
         record {
-          answer = t.answer ∙ rw (drop_of_length-le l {i = i} h) (rw (lt-ltb g 2048 s, outcome));
+          answer = t.answer ∙ rw (drop_of_length-le l {i = i} h) (rw (s, outcome));
           kinds = write-end t.kinds h 0 refl;
           places = write-end t.places h i refl;
           values = write-end t.values h 0 refl;
         }
 
-    pub turn-tokens : 2048 ≤ g → n < length ks → n < length ps → n < length vs → Lexes l ks₀ ps₀ vs₀ (set ks n 0) (set ps n i) (set vs n 0) (Tokens (n + 1))
+    pub turn-tokens : g ≡ None → n < length ks → n < length ps → n < length vs → Lexes l ks₀ ps₀ vs₀ (set ks n 0) (set ps n i) (set vs n 0) (Ok (n + 1))
     unfolding scan outcome none_large held
     turn-tokens s a b c =
         record {
-          answer = t.answer ∙ rw (drop_of_length-le l {i = i} h) (rw (le-ltb g 2048 s, outcome) (ap tokens (sym (stored_more n 0 i 0 ks ps vs a b c))));
+          answer = t.answer ∙ rw (drop_of_length-le l {i = i} h) (rw (s, outcome) (ap tokens (sym (stored_more n 0 i 0 ks ps vs a b c))));
           kinds = write-end t.kinds h 0 refl;
           places = write-end t.places h i refl;
           values = write-end t.values h 0 refl;

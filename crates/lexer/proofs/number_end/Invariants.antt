@@ -1,13 +1,10 @@
-use Prim.Native.Nat.{◌+◌, ◌-◌, ◌≤◌}
+use Prim.Native.Nat.{◌+◌, ◌≤◌}
 use mathlib.Core.Path.{◌≡◌}
-use lib.ListN.{length, drop}
+use lib.ListN.{drop}
 use Rattle.lexer.specs.Lex.{longest}
 use Rattle.lexer.proofs.Numbers.{more, end_of}
 use Rattle.lexer.proofs.number_end.Given as goal
 
 -- the bytes before i are read, and `end` is after the last digit of them
 abbrev pub invariant-loop-i : goal.invariant-loop-i
-invariant-loop-i l = (l.i ≤ length l.text) × (l.end ≤ l.i) × (l.at + longest (drop l.at l.text) ≡ end_of l.end l.i (more (drop l.i l.text)))
-
-abbrev pub decreases-loop-i : goal.decreases-loop-i
-decreases-loop-i l = length l.text - l.i
+invariant-loop-i l = (l.end ≤ l.i) × (l.at + longest (drop l.at l.text) ≡ end_of l.end l.i (more (drop l.i l.text)))

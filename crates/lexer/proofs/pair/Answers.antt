@@ -1,4 +1,5 @@
-use mathlib.Core.Path.{sym, ◌∙◌}
+use native.Mathlib.Omega.{arith}
+use mathlib.Core.Path.{◌∙◌}
 use mathlib.Core.List.{[], ◌∷◌}
 use borrow.Author.Tests.{ne_eqb}
 use Rattle.lexer.specs.Lex.{same, marks, kind_in}
@@ -6,50 +7,62 @@ use Rattle.lexer.proofs.Bytes.{and-false, kind_in-chain}
 use Rattle.syntax.specs.Token.{k_end}
 use Rattle.lexer.proofs.pair.Goals as goal
 
-pub returns-in-60 : goal.returns-in-60
+pub returns-in-60-eq61 : goal.returns-in-60-eq61
 unfolding kind_in same
-returns-in-60 c = rw (c.if-c-eq61.true, c.in-60.is)
+returns-in-60-eq61 c = (rw (c.in-60-eq61.is-0, c.in-60-eq61.is-1), λ e. omega arith)
 
-pub returns-in-62 : goal.returns-in-62
+pub returns-in-62-eq61 : goal.returns-in-62-eq61
 unfolding kind_in same
-returns-in-62 c = rw (c.if-c-eq61.true, c.in-62.is)
+returns-in-62-eq61 c = (rw (c.in-62-eq61.is-0, c.in-62-eq61.is-1), λ e. omega arith)
 
-pub returns-in-61 : goal.returns-in-61
+pub returns-in-61-eq61 : goal.returns-in-61-eq61
 unfolding kind_in same
-returns-in-61 c = rw (c.if-c-eq61.true, c.in-61.is)
+returns-in-61-eq61 c = (rw (c.in-61-eq61.is-0, c.in-61-eq61.is-1), λ e. omega arith)
 
-pub returns-in-33 : goal.returns-in-33
+pub returns-in-33-eq61 : goal.returns-in-33-eq61
 unfolding kind_in same
-returns-in-33 c = rw (c.if-c-eq61.true, c.in-33.is)
+returns-in-33-eq61 c = (rw (c.in-33-eq61.is-0, c.in-33-eq61.is-1), λ e. omega arith)
+
+pub returns-in-38-eq38 : goal.returns-in-38-eq38
+unfolding kind_in same
+returns-in-38-eq38 c = (rw (c.in-38-eq38.is-0, c.in-38-eq38.is-1), λ e. omega arith)
+
+pub returns-in-124-eq124 : goal.returns-in-124-eq124
+unfolding kind_in same
+returns-in-124-eq124 c = (rw (c.in-124-eq124.is-0, c.in-124-eq124.is-1), λ e. omega arith)
+
+pub returns-in-46-eq46 : goal.returns-in-46-eq46
+unfolding kind_in same
+returns-in-46-eq46 c = (rw (c.in-46-eq46.is-0, c.in-46-eq46.is-1), λ e. omega arith)
 
 pub returns-in_default : goal.returns-in_default
 unfolding same
-returns-in_default c = sym (kind_in-chain marks k_end (c.args.b ∷ c.args.c ∷ []) ∙ rw c.if-c-eq61.true (simp (and-false, ne_eqb _ _ c.in_default.in_default-own.rest.0.0.0.1, ne_eqb _ _ c.in_default.in_default-own.rest.0.0.1, ne_eqb _ _ c.in_default.in_default-own.rest.0.1, ne_eqb _ _ c.in_default.in_default-own.rest.1)))
+returns-in_default c = kind_in-chain marks k_end (c.args.b ∷ c.args.c ∷ []) ∙ rw c.in_default.is-0 (simp (ne_eqb _ _ c.in_default.is-1.1))
 
-pub returns-then-c-eq38 : goal.returns-then-c-eq38
-unfolding kind_in same
-returns-then-c-eq38 c = rw (c.if-b-eq38.true, c.if-c-eq38.true)
-
-pub returns-then-b-eq38 : goal.returns-then-b-eq38
+pub returns-in_default-2 : goal.returns-in_default-2
 unfolding same
-returns-then-b-eq38 c = sym (kind_in-chain marks k_end (c.args.b ∷ c.args.c ∷ []) ∙ rw c.if-b-eq38.true (simp (ne_eqb _ _ c.if-c-eq38.false)))
+returns-in_default-2 c = kind_in-chain marks k_end (c.args.b ∷ c.args.c ∷ []) ∙ rw c.in_default.is-0 (simp (ne_eqb _ _ c.in_default.is-1.1))
 
-pub returns-then-c-eq124 : goal.returns-then-c-eq124
-unfolding kind_in same
-returns-then-c-eq124 c = rw (c.if-b-eq124.true, c.if-c-eq124.true)
-
-pub returns-then-b-eq124 : goal.returns-then-b-eq124
+pub returns-in_default-3 : goal.returns-in_default-3
 unfolding same
-returns-then-b-eq124 c = sym (kind_in-chain marks k_end (c.args.b ∷ c.args.c ∷ []) ∙ rw c.if-b-eq124.true (simp (ne_eqb _ _ c.if-c-eq124.false)))
+returns-in_default-3 c = kind_in-chain marks k_end (c.args.b ∷ c.args.c ∷ []) ∙ rw c.in_default.is-0 (simp (ne_eqb _ _ c.in_default.is-1.1))
 
-pub returns-then-c-eq46 : goal.returns-then-c-eq46
-unfolding kind_in same
-returns-then-c-eq46 c = rw (c.if-b-eq46.true, c.if-c-eq46.true)
-
-pub returns-then-b-eq46 : goal.returns-then-b-eq46
+pub returns-in_default-4 : goal.returns-in_default-4
 unfolding same
-returns-then-b-eq46 c = sym (kind_in-chain marks k_end (c.args.b ∷ c.args.c ∷ []) ∙ rw c.if-b-eq46.true (simp (ne_eqb _ _ c.if-c-eq46.false)))
+returns-in_default-4 c = kind_in-chain marks k_end (c.args.b ∷ c.args.c ∷ []) ∙ rw c.in_default.is-0 (simp (ne_eqb _ _ c.in_default.is-1.1))
 
-pub returns : goal.returns
+pub returns-in_default-5 : goal.returns-in_default-5
 unfolding same
-returns c = sym (kind_in-chain marks k_end (c.args.b ∷ c.args.c ∷ []) ∙ simp (and-false, ne_eqb _ _ c.if-c-eq61.false, ne_eqb _ _ c.if-b-eq38.false, ne_eqb _ _ c.if-b-eq124.false, ne_eqb _ _ c.if-b-eq46.false))
+returns-in_default-5 c = kind_in-chain marks k_end (c.args.b ∷ c.args.c ∷ []) ∙ rw c.in_default.is-0 (simp (ne_eqb _ _ c.in_default.is-1.1))
+
+pub returns-in_default-6 : goal.returns-in_default-6
+unfolding same
+returns-in_default-6 c = kind_in-chain marks k_end (c.args.b ∷ c.args.c ∷ []) ∙ rw c.in_default.is-0 (simp (ne_eqb _ _ c.in_default.is-1.1))
+
+pub returns-in_default-7 : goal.returns-in_default-7
+unfolding same
+returns-in_default-7 c = kind_in-chain marks k_end (c.args.b ∷ c.args.c ∷ []) ∙ rw c.in_default.is-0 (simp (ne_eqb _ _ c.in_default.is-1.1))
+
+pub returns-in_default-8 : goal.returns-in_default-8
+unfolding same
+returns-in_default-8 c = kind_in-chain marks k_end (c.args.b ∷ c.args.c ∷ []) ∙ simp (and-false, ne_eqb _ _ c.in_default.is-0.0.0.0.0.0.0.1, ne_eqb _ _ c.in_default.is-0.0.0.0.0.0.1, ne_eqb _ _ c.in_default.is-0.0.0.0.0.1, ne_eqb _ _ c.in_default.is-0.0.0.0.1, ne_eqb _ _ c.in_default.is-0.0.0.1, ne_eqb _ _ c.in_default.is-0.0.1, ne_eqb _ _ c.in_default.is-0.1)
