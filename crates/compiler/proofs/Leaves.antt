@@ -1,7 +1,7 @@
 -- The number that is written for a negated one; the count of a program's functions; the kind of a comparison.
 use Rattle.std.proofs.Common.{◌≡◌, ℕ, zero, suc, ◌+◌, ◌-◌, ◌%◌, ◌^◌, ◌<◌, Bool, true, false, cond, List, pos, negsuc, ◌-ℤ◌, sym, refl, ap, ◌∙◌, arith, lt-ltb, ne_eqb}
 use Rattle.semantics.specs.Int.{low32}
-use Rattle.syntax.specs.declared.Node.{Node}
+use Rattle.syntax.specs.declared.node.Node.{Node}
 use Rattle.syntax.specs.Fetch.{Fetched}
 use Rattle.syntax.specs.Ast.{Ast, prog, bit}
 use Rattle.text_rules.specs.Own.{signed}

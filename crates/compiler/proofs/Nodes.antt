@@ -1,15 +1,19 @@
 -- What the kind of a node says of the tree that stands there, and of its code: expressions, conditions and arguments.
-use Rattle.std.proofs.Common.{◌≡◌, ℕ, ◌+◌, ◌<◌, ◌≤◌, true, false, ◌⊎◌, List, [], ◌∷◌, ◌++◌, length, pos, ◌-ℤ◌, refl, ◌∙◌, inl, inr, zero-add, arith}
+use Rattle.std.proofs.Common.{◌≡◌, ℕ, ◌+◌, ◌<◌, ◌≤◌, true, false, List, [], ◌∷◌, ◌++◌, length, pos, ◌-ℤ◌, ◌⊎◌, inl, inr, sym, refl, ap, subst, ◌∙◌, zero-add, arith}
 use Rattle.semantics.specs.Int.{add, sub, mul}
 use Rattle.semantics.specs.Program.{slot, Exprs}
-use Rattle.syntax.specs.declared.Node.{Node}
+use Rattle.syntax.specs.declared.node.Node.{Node}
+use Rattle.syntax.specs.declared.node.NodeKind.{NodeKind}
+use Rattle.syntax.specs.declared.node.NodeKind.TheVariants as kind
+use Rattle.syntax.specs.NodeKinds.{node_number}
+use Rattle.syntax.proofs.SameKinds.{same-node}
 use Rattle.syntax.specs.Fetch.{Fetched}
 use Rattle.syntax.specs.Tree as T
 use Rattle.syntax.specs.Ast.{Sort, Ast, expr, args, cond}
-use Rattle.syntax.specs.Table.{At, Holds, cmp_number, n_number, n_negative, n_name, n_call, n_bracket, n_times, n_plus, n_minus, n_no_args, n_more_args, n_always, n_never, n_compare, n_both, n_either, n_empty, at-number, at-negative, at_name, at_call, at_bracket, at-times, at-plus, at-minus, at_no_args, at-more-args, at-always, at-never, at-compare, at_both, at-either, at-empty, at-declare, at-declare-free, at-declare-own, at-assign, at-eval, at_block, at-if-else, at-while, at_return, at-fail, at-no-stmts, at-more-stmts, at-braced, at-no-params, at-more-params, at-function, at-no-funs, at-more-funs}
+use Rattle.syntax.specs.Table.{At, Holds, cmp_number, n_number, n_negative, n_name, n_call, n_bracket, n_times, n_plus, n_minus, n_no_args, n_more_args, n_always, n_never, n_compare, n_both, n_either, at-number, at-negative, at_name, at_call, at_bracket, at-times, at-plus, at-minus, at_no_args, at-more-args, at-always, at-never, at-compare, at_both, at-either, at-empty, at-declare, at-declare-free, at-declare-own, at-assign, at-eval, at_block, at-if-else, at-while, at_return, at-fail, at-no-stmts, at-more-stmts, at-braced, at-no-params, at-more-params, at-function, at-no-funs, at-more-funs}
 use Rattle.events.specs.Event.{count}
 use Rattle.events.specs.Visit.{level}
-use Rattle.events.proofs.Nodes.{at-kind, moved, two-of}
+use Rattle.events.proofs.Nodes.{at-kind, moved}
 use Rattle.text_rules.specs.Resolve.{part, comparison}
 use Rattle.simulation.specs.Code.{Entry, number, name, operate, compare, call, constant, jump, leaf, argument, act, code_e, code_c}
 use Rattle.simulation.specs.Code as Code
@@ -69,43 +73,43 @@ module _ (value means : ℕ → ℕ) (m : ℕ) where
   unfolding part code_e Sound
   number_at f (at-number r) = record { code = rw (f.token ∙ r.token); own = λ b. rw (f.token ∙ r.token) b }
 
-  pub number-node : {l : List ℕ} {s : Sort} {i : ℕ} {n : Node} {t : Ast s} → Fetched l i n → n.kind ≡ n_number → Holds l i t → None t (leaf (number (pos (value n.token))) ∷ []) ((n.token < m) × (value n.token < 2147483648))
-  number-node f e h = number_at f (at-kind n_number f e h)
+  pub number-node : {l : List ℕ} {s : Sort} {i : ℕ} {n : Node} {t : Ast s} → Fetched l i n → n.kind ≡ kind.Number → Holds l i t → None t (leaf (number (pos (value n.token))) ∷ []) ((n.token < m) × (value n.token < 2147483648))
+  number-node f e h = number_at f (at-kind n_number f (ap node_number e) h)
 
   negative-at : {l : List ℕ} {s : Sort} {i : ℕ} {n : Node} {t : Ast s} → Fetched l i n → At l s i n_negative t → None t (leaf (number (pos 0 -ℤ pos (value (n.token + 1)))) ∷ []) (n.token + 1 < m)
   unfolding part code_e Sound
   negative-at f (at-negative r) = record { code = rw (f.token ∙ r.token); own = λ b. rw (f.token ∙ r.token) b.0 }
 
-  pub negative-node : {l : List ℕ} {s : Sort} {i : ℕ} {n : Node} {t : Ast s} → Fetched l i n → n.kind ≡ n_negative → Holds l i t → None t (leaf (number (pos 0 -ℤ pos (value (n.token + 1)))) ∷ []) (n.token + 1 < m)
-  negative-node f e h = negative-at f (at-kind n_negative f e h)
+  pub negative-node : {l : List ℕ} {s : Sort} {i : ℕ} {n : Node} {t : Ast s} → Fetched l i n → n.kind ≡ kind.Negative → Holds l i t → None t (leaf (number (pos 0 -ℤ pos (value (n.token + 1)))) ∷ []) (n.token + 1 < m)
+  negative-node f e h = negative-at f (at-kind n_negative f (ap node_number e) h)
 
   name-at : {l : List ℕ} {s : Sort} {i : ℕ} {n : Node} {t : Ast s} → Fetched l i n → At l s i n_name t → None t (leaf (name (slot (means n.token))) ∷ []) (n.token < m)
   unfolding part code_e Sound
   name-at f (at_name r) = record { code = rw (f.token ∙ r.token); own = λ b. rw (f.token ∙ r.token) b.0 }
 
-  pub name-node : {l : List ℕ} {s : Sort} {i : ℕ} {n : Node} {t : Ast s} → Fetched l i n → n.kind ≡ n_name → Holds l i t → None t (leaf (name (slot (means n.token))) ∷ []) (n.token < m)
-  name-node f e h = name-at f (at-kind n_name f e h)
+  pub name-node : {l : List ℕ} {s : Sort} {i : ℕ} {n : Node} {t : Ast s} → Fetched l i n → n.kind ≡ kind.Name → Holds l i t → None t (leaf (name (slot (means n.token))) ∷ []) (n.token < m)
+  name-node f e h = name-at f (at-kind n_name f (ap node_number e) h)
 
   no-args-at : {l : List ℕ} {s : Sort} {i : ℕ} {t : Ast s} → At l s i n_no_args t → coded value means t ≡ []
   unfolding part code_e
   no-args-at (at_no_args r) = refl
 
-  pub no-args-node : {l : List ℕ} {s : Sort} {i : ℕ} {n : Node} {t : Ast s} → Fetched l i n → n.kind ≡ n_no_args → Holds l i t → coded value means t ≡ []
-  no-args-node f e h = no-args-at (at-kind n_no_args f e h)
+  pub no-args-node : {l : List ℕ} {s : Sort} {i : ℕ} {n : Node} {t : Ast s} → Fetched l i n → n.kind ≡ kind.NoArgs → Holds l i t → coded value means t ≡ []
+  no-args-node f e h = no-args-at (at-kind n_no_args f (ap node_number e) h)
 
   always-at : {l : List ℕ} {s : Sort} {i : ℕ} {t : Ast s} → At l s i n_always t → coded value means t ≡ act (constant true) ∷ []
   unfolding part code_c
   always-at (at-always r) = refl
 
-  pub always-node : {l : List ℕ} {s : Sort} {i : ℕ} {n : Node} {t : Ast s} → Fetched l i n → n.kind ≡ n_always → Holds l i t → coded value means t ≡ act (constant true) ∷ []
-  always-node f e h = always-at (at-kind n_always f e h)
+  pub always-node : {l : List ℕ} {s : Sort} {i : ℕ} {n : Node} {t : Ast s} → Fetched l i n → n.kind ≡ kind.Always → Holds l i t → coded value means t ≡ act (constant true) ∷ []
+  always-node f e h = always-at (at-kind n_always f (ap node_number e) h)
 
   never-at : {l : List ℕ} {s : Sort} {i : ℕ} {t : Ast s} → At l s i n_never t → coded value means t ≡ act (constant false) ∷ []
   unfolding part code_c
   never-at (at-never r) = refl
 
-  pub never-node : {l : List ℕ} {s : Sort} {i : ℕ} {n : Node} {t : Ast s} → Fetched l i n → n.kind ≡ n_never → Holds l i t → coded value means t ≡ act (constant false) ∷ []
-  never-node f e h = never-at (at-kind n_never f e h)
+  pub never-node : {l : List ℕ} {s : Sort} {i : ℕ} {n : Node} {t : Ast s} → Fetched l i n → n.kind ≡ kind.Never → Holds l i t → coded value means t ≡ act (constant false) ∷ []
+  never-node f e h = never-at (at-kind n_never f (ap node_number e) h)
 
   -- ---- one child
 
@@ -121,15 +125,15 @@ module _ (value means : ℕ → ℕ) (m : ℕ) where
     own = λ b. rw (f.token ∙ r.token) (b.0, b.1, b.2);
   }
 
-  pub call-node : {l : List ℕ} {s : Sort} {i : ℕ} {n : Node} {t : Ast s} → Fetched l i n → n.kind ≡ n_call → Holds l i t → One l i n.first t args (λ x. coded value means x ++ act (call (means n.token) (count x)) ∷ []) (λ x. (n.token < m) × (means n.token < 16) × (count x ≤ 4))
-  call-node f e h = call_at f (at-kind n_call f e h)
+  pub call-node : {l : List ℕ} {s : Sort} {i : ℕ} {n : Node} {t : Ast s} → Fetched l i n → n.kind ≡ kind.Call → Holds l i t → One l i n.first t args (λ x. coded value means x ++ act (call (means n.token) (count x)) ∷ []) (λ x. (n.token < m) × (means n.token < 16) × (count x ≤ 4))
+  call-node f e h = call_at f (at-kind n_call f (ap node_number e) h)
 
   bracket-at : {l : List ℕ} {s : Sort} {i : ℕ} {n : Node} {t : Ast s} → Fetched l i n → At l s i n_bracket t → One l i n.first t expr (λ x. coded value means x) (λ x. Unit)
   unfolding part Sound
   bracket-at f (at_bracket {x = x} r p c) = record { x = x; falls = omega (arith, f.first, r.first); holds = moved (f.first ∙ r.first) c; code = refl; sound = λ b. b; own = λ b. tt }
 
-  pub bracket-node : {l : List ℕ} {s : Sort} {i : ℕ} {n : Node} {t : Ast s} → Fetched l i n → n.kind ≡ n_bracket → Holds l i t → One l i n.first t expr (λ x. coded value means x) (λ x. Unit)
-  bracket-node f e h = bracket-at f (at-kind n_bracket f e h)
+  pub bracket-node : {l : List ℕ} {s : Sort} {i : ℕ} {n : Node} {t : Ast s} → Fetched l i n → n.kind ≡ kind.Bracket → Holds l i t → One l i n.first t expr (λ x. coded value means x) (λ x. Unit)
+  bracket-node f e h = bracket-at f (at-kind n_bracket f (ap node_number e) h)
 
   -- ---- `&&` and `||`
 
@@ -159,8 +163,8 @@ module _ (value means : ℕ → ℕ) (m : ℕ) where
     two = record { x = x; y = y; falls = omega (arith, f.first, r.first); falls₂ = omega (arith, f.second, r.second); holds = moved (f.first ∙ r.first) c; holds₂ = moved (f.second ∙ r.second) e; code = refl; sound = λ b. b.0; sound₂ = λ b. b.1 };
   }
 
-  pub junction-node : {l : List ℕ} {s : Sort} {i : ℕ} {n : Node} {t : Ast s} → Junction n.kind → Fetched l i n → Holds l i t → Joined l i n.first n.second n.kind t
-  junction-node {n = n} j f h = junction-at j f (at-kind n.kind f refl h)
+  pub junction-node : {l : List ℕ} {s : Sort} {i : ℕ} {n : Node} {t : Ast s} → Junction (node_number n.kind) → Fetched l i n → Holds l i t → Joined l i n.first n.second (node_number n.kind) t
+  junction-node {n = n} j f h = junction-at j f (at-kind (node_number n.kind) f refl h)
 
   -- ---- two operands, or one argument more
 
@@ -257,17 +261,16 @@ module _ (value means : ℕ → ℕ) (m : ℕ) where
     two = record { x = x; y = y; falls = omega (arith, f.first, r.first); falls₂ = omega (arith, f.second, r.second); holds = moved (f.first ∙ r.first) c; holds₂ = moved (f.second ∙ r.second) e; code = refl; sound = λ b. b.0; sound₂ = λ b. b.1 };
   }
 
-  pub operated-node : {l : List ℕ} {s : Sort} {i : ℕ} {n : Node} {t : Ast s} → Operation n.kind → Fetched l i n → Holds l i t → Operated l i n.first n.second n.kind n.third t
-  operated-node {n = n} j f h = operated-at j f (at-kind n.kind f refl h)
+  pub operated-node : {l : List ℕ} {s : Sort} {i : ℕ} {n : Node} {t : Ast s} → Operation (node_number n.kind) → Fetched l i n → Holds l i t → Operated l i n.first n.second (node_number n.kind) n.third t
+  operated-node {n = n} j f h = operated-at j f (at-kind (node_number n.kind) f refl h)
 
-  pub junction : {k : ℕ} → n_both ≤ k → k < n_empty → Junction k
-  junction {k} lo hi = two-of Junction n_both k lo hi both either
+  pub junction : {k : NodeKind} → (k ≡ kind.Both) ⊎ (k ≡ kind.Either) → Junction (node_number k)
+  junction (inl e) = subst Junction (sym (ap node_number e)) both
+  junction (inr e) = subst Junction (sym (ap node_number e)) either
 
-  pub not-junction : {k : ℕ} → (k < n_both) ⊎ (n_empty ≤ k) → Junction k → ⊥
-  not-junction (inl h) both = omega arith
-  not-junction (inl h) either = omega arith
-  not-junction (inr h) both = omega arith
-  not-junction (inr h) either = omega arith
+  pub not-junction : {k : ℕ} → (k ≡ n_both → ⊥) → (k ≡ n_either → ⊥) → Junction k → ⊥
+  not-junction a b both = a refl
+  not-junction a b either = b refl
 
   -- the kinds that are left
   pub operation-left : {l : List ℕ} {s : Sort} {i k : ℕ} {t : Ast s} → level s ≡ 0 → At l s i k t → (k ≡ n_number → ⊥) → (k ≡ n_negative → ⊥) → (k ≡ n_name → ⊥) → (k ≡ n_call → ⊥) → (k ≡ n_bracket → ⊥) → (k ≡ n_no_args → ⊥) → (k ≡ n_always → ⊥) → (k ≡ n_never → ⊥) → (Junction k → ⊥) → Operation k
@@ -305,3 +308,7 @@ module _ (value means : ℕ → ℕ) (m : ℕ) where
   operation-left h (at-function r p q x y) _ _ _ _ _ _ _ _ _ = absurd (omega (arith, h))
   operation-left h (at-no-funs r) _ _ _ _ _ _ _ _ _ = absurd (omega (arith, h))
   operation-left h (at-more-funs r p q x y) _ _ _ _ _ _ _ _ _ = absurd (omega (arith, h))
+
+  -- the kind of a node, by the arms that it is none of
+  pub operation-node : {l : List ℕ} {s : Sort} {i : ℕ} {n : Node} {t : Ast s} → level s ≡ 0 → Fetched l i n → Holds l i t → (n.kind ≡ kind.Number → ⊥) → (n.kind ≡ kind.Negative → ⊥) → (n.kind ≡ kind.Name → ⊥) → (n.kind ≡ kind.Call → ⊥) → (n.kind ≡ kind.Bracket → ⊥) → (n.kind ≡ kind.NoArgs → ⊥) → (n.kind ≡ kind.Always → ⊥) → (n.kind ≡ kind.Never → ⊥) → (n.kind ≡ kind.Both → ⊥) → (n.kind ≡ kind.Either → ⊥) → Operation (node_number n.kind)
+  operation-node {n = n} v fetched w a b c d e f g h j k = operation-left v (at-kind (node_number n.kind) fetched refl w) (λ q. a (same-node q)) (λ q. b (same-node q)) (λ q. c (same-node q)) (λ q. d (same-node q)) (λ q. e (same-node q)) (λ q. f (same-node q)) (λ q. g (same-node q)) (λ q. h (same-node q)) (not-junction (λ q. j (same-node q)) (λ q. k (same-node q)))

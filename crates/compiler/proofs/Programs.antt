@@ -1,7 +1,10 @@
 -- What the kind of a node says of the tree that stands there, and of its code: functions.
-use Rattle.std.proofs.Common.{◌≡◌, ℕ, zero, suc, ◌+◌, ◌<◌, ◌≤◌, List, [], ◌∷◌, ◌++◌, length, get_or, take, set, replicate, sym, refl, ap, ◌∙◌, subst, zero-add, add-one, arith, length-take, take-suc}
+use Rattle.std.proofs.Common.{◌≡◌, ℕ, zero, suc, ◌+◌, ◌<◌, ◌≤◌, List, [], ◌∷◌, ◌++◌, length, set, replicate, sym, refl, ap, ◌∙◌, subst, zero-add, arith}
 use lib.Seq.{sets, length-sets}
-use Rattle.syntax.specs.declared.Node.{Node}
+use Rattle.syntax.specs.declared.node.Node.{Node}
+use Rattle.syntax.specs.declared.node.NodeKind.TheVariants as kind
+use Rattle.syntax.specs.NodeKinds.{node_number}
+use Rattle.syntax.proofs.SameKinds.{same-node}
 use Rattle.syntax.specs.Fetch.{Fetched}
 use Rattle.syntax.specs.Ast.{Ast, prog, fun, body, more_funs}
 use Rattle.syntax.specs.Table.{At, Holds, n_more_funs, at-function, at-no-funs, at-more-funs}
@@ -46,8 +49,8 @@ module _ (value means : ℕ → ℕ) (m : ℕ) where
     sound₂ = λ b. b.1;
   }
 
-  pub funs-node : {l : List ℕ} {i : ℕ} {n : Node} {t : Ast prog} → Fetched l i n → n.kind ≡ n_more_funs → Holds l i t → Funs l i n.first n.second t
-  funs-node f e h = funs-at f (at-kind n_more_funs f e h)
+  pub funs-node : {l : List ℕ} {i : ℕ} {n : Node} {t : Ast prog} → Fetched l i n → n.kind ≡ kind.MoreFuns → Holds l i t → Funs l i n.first n.second t
+  funs-node f e h = funs-at f (at-kind n_more_funs f (ap node_number e) h)
 
   -- no function
   none-at : {l : List ℕ} {i k : ℕ} {t : Ast prog} → (k ≡ n_more_funs → ⊥) → At l prog i k t → part value means t [] ≡ []
@@ -55,8 +58,8 @@ module _ (value means : ℕ → ℕ) (m : ℕ) where
   none-at never (at-no-funs r) = refl
   none-at never (at-more-funs r p q x y) = absurd (never refl)
 
-  pub none-node : {l : List ℕ} {i : ℕ} {n : Node} {t : Ast prog} → Fetched l i n → (n.kind ≡ n_more_funs → ⊥) → Holds l i t → part value means t [] ≡ []
-  none-node {n = n} f never h = none-at never (at-kind n.kind f refl h)
+  pub none-node : {l : List ℕ} {i : ℕ} {n : Node} {t : Ast prog} → Fetched l i n → (n.kind ≡ kind.MoreFuns → ⊥) → Holds l i t → part value means t [] ≡ []
+  none-node {n = n} f never h = none-at (λ e. never (same-node e)) (at-kind (node_number n.kind) f refl h)
 
   -- a function's body
   function-at : {l : List ℕ} {i k : ℕ} {n : Node} {t : Ast fun} → Fetched l i n → At l fun i k t → One value means m l i n.second t body (λ x. coded value means x ++ act fail ∷ []) (λ x. Unit)
@@ -81,23 +84,6 @@ filled d zero [] h = refl
 filled d zero (v ∷ vs) h = absurd (omega arith)
 filled d (suc n) [] h = ap (λ (r : List ℕ). d ∷ r) (filled d n [] (omega arith))
 filled d (suc n) (v ∷ vs) h = sets-cons v (replicate n d) 0 vs ∙ ap (λ (r : List ℕ). v ∷ r) (filled d n vs (omega arith))
-
--- ---- words copied
-
-pub copied : (l ws : List ℕ) (i j : ℕ) → j < length ws → set (sets l i (take j ws)) (i + j) (get_or ws j 0) ≡ sets l i (take (j + 1) ws)
-copied l ws i j h =
-    let a = get_or ws j 0 in
-    let n : length (take j ws) ≡ j = simp length-take (omega arith) in
-    let e : i + j ≡ i + length (take j ws) = omega arith in
-    ap (λ (k : ℕ). set (sets l i (take j ws)) k a) e
-    ∙ sym (sets-append l i (take j ws) (a ∷ []))
-    ∙ ap (λ (vs : List ℕ). sets l i vs) (sym (take-suc ws j 0 h) ∙ ap (λ (k : ℕ). take k ws) (sym (add-one j)))
-
-pub whole : (ws : List ℕ) (j : ℕ) → length ws ≤ j → take j ws ≡ ws
-whole [] zero h = refl
-whole [] (suc j) h = refl
-whole (w ∷ ws) zero h = absurd (omega arith)
-whole (w ∷ ws) (suc j) h = ap (λ (r : List ℕ). w ∷ r) (whole ws j (omega arith))
 
 -- the words of where functions begin are as many as before
 pub built-size : {l : List ℕ} {i : ℕ} {values slots before after : List ℕ} {n r : ℕ} {table table' : List ℕ} → Built l i values slots before after n r table table' → (p : Ast prog) → Holds l i p → length table' ≡ length table

@@ -15,6 +15,12 @@ use Rattle.compiler.specs.Coded.{word, coded}
 use Rattle.compiler.specs.Sound.{Sound}
 use Rattle.compiler.specs.Compile.{Tokens}
 
+-- the nodes of a resolved program, the values of its tokens, and what they mean
+pub record Resolved : Type 0 where
+  pub nodes : List ℕ
+  pub values : List ℕ
+  pub slots : List ℕ
+
 -- there is room in code for these entries after n
 pub record Due (code : List ℕ) (n : ℕ) (es : List Entry) : Type 0 where
   pub few : n + length es < 65536

@@ -1,22 +1,23 @@
 use Rattle.compiler.specs.Pass.{operation_of}
 use Rattle.compiler.proofs.Leaves.{compared}
 use Rattle.compiler.proofs.operation.Goals as goal
+use Rattle.syntax.proofs.SameKinds.{same-node}
 
-pub returns-in-6 : goal.returns-in-6
+pub returns-in-Times : goal.returns-in-Times
 unfolding operation_of
-returns-in-6 c = rw c.in-6.is
+returns-in-Times c = rw c.in-Times.is
 
-pub returns-in-7 : goal.returns-in-7
+pub returns-in-Plus : goal.returns-in-Plus
 unfolding operation_of
-returns-in-7 c = rw c.in-7.is
+returns-in-Plus c = rw c.in-Plus.is
 
-pub returns-in-8 : goal.returns-in-8
+pub returns-in-Minus : goal.returns-in-Minus
 unfolding operation_of
-returns-in-8 c = rw c.in-8.is
+returns-in-Minus c = rw c.in-Minus.is
 
-pub returns-in-10 : goal.returns-in-10
+pub returns-in-MoreArgs : goal.returns-in-MoreArgs
 unfolding operation_of
-returns-in-10 c = rw c.in-10.is
+returns-in-MoreArgs c = rw c.in-MoreArgs.is
 
 pub returns-in_default : goal.returns-in_default
-returns-in_default c = compared c.args.c c.in_default.in_default-own.rest.0.0.0.1 c.in_default.in_default-own.rest.0.0.1 c.in_default.in_default-own.rest.0.1 c.in_default.in_default-own.rest.1
+returns-in_default c = compared c.args.c (λ e. c.in_default.not-Times (same-node e)) (λ e. c.in_default.not-Plus (same-node e)) (λ e. c.in_default.not-Minus (same-node e)) (λ e. c.in_default.not-MoreArgs (same-node e))

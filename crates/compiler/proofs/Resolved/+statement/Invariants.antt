@@ -1,4 +1,4 @@
-use Rattle.compiler.proofs.+statement.Given as goal
+use Rattle.compiler.proofs.Resolved.+statement.Given as goal
 
 abbrev pub decreases-statement : goal.decreases-statement
 decreases-statement l = l.i

@@ -1,4 +1,4 @@
-use Rattle.compiler.proofs.+program.Given as goal
+use Rattle.compiler.proofs.Resolved.+program.Given as goal
 
 abbrev pub decreases-program : goal.decreases-program
 decreases-program l = l.i

@@ -1,4 +1,4 @@
-use Rattle.compiler.proofs.+expression.Given as goal
+use Rattle.compiler.proofs.Resolved.+expression.Given as goal
 
 abbrev pub decreases-expression : goal.decreases-expression
 decreases-expression l = l.i
