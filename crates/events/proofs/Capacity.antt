@@ -10,7 +10,6 @@ use Rattle.syntax.specs.Tree.{Cat, Tree, onto, width}
 use Rattle.syntax.specs.Tree as T
 use Rattle.syntax.specs.Abstract.{ast}
 use Rattle.events.specs.Event.{Event, function, parameter, thing, opens, closes, ends, first, stops, closing, events_at, events}
-use Rattle.events.specs.Stored.{event_words}
 
 -- an expression has one event fewer
 abbrev slack : Cat → ℕ
@@ -89,7 +88,7 @@ fits d (T.more_funs p f) ks = omega (arith, fits d p (onto f ks), fits d f ks, l
 pub capacity : {c : Cat} (d : ℕ) (t : Tree c) → length (events_at d (ast t)) ≤ 2 * width t
 capacity d t = omega (arith, fits d t [])
 
--- so the events of a text of 2,048 tokens fit into 12,288 words
-pub program-fits : (p : Tree T.prog) → width p ≤ 2048 → event_words * length (events (ast p)) ≤ 12288
+-- so a text of 2,048 tokens has at most 4,096 events
+pub program-fits : (p : Tree T.prog) → width p ≤ 2048 → length (events (ast p)) ≤ 4096
 unfolding events
 program-fits p h = omega (arith, capacity 1 p)

@@ -3,7 +3,8 @@ use Prim.Native.Nat.{ℕ, ◌+◌, ◌<◌}
 use mathlib.Core.Path.{◌≡◌, refl}
 use mathlib.Core.List.{List}
 use native.Mathlib.Omega.{arith}
-use Rattle.syntax.specs.declared.Node.{Node}
+use Rattle.syntax.specs.declared.node.Node.{Node}
+use Rattle.syntax.specs.NodeKinds.{node_number}
 use Rattle.syntax.specs.Fetch.{Fetched}
 use Rattle.syntax.specs.Ast.{Sort, Ast}
 use Rattle.syntax.specs.Table.{At, Holds}
@@ -22,10 +23,10 @@ module _ {s : Sort} (count : Ast s → ℕ) where
     pub empty : {l : List ℕ} {j k : ℕ} {a : Ast s} → (k ≡ more → ⊥) → At l s j k a → count a ≡ 0
 
 module _ {s : Sort} {count : Ast s → ℕ} {more : ℕ} (counts : Counts count more) where
-  pub rest-step : {l : List ℕ} {j c : ℕ} {n : Node} {a : Ast s} → n.kind ≡ more → Fetched l j n → Rest count l j c a → (n.first < j) × Rest count l n.first (c + 1) a
+  pub rest-step : {l : List ℕ} {j c : ℕ} {n : Node} {a : Ast s} → node_number n.kind ≡ more → Fetched l j n → Rest count l j c a → (n.first < j) × Rest count l n.first (c + 1) a
   rest-step e f v =
       let w = counts.shorter f (at-kind more f e v.holds) in
       (w.0, record { tree = w.1.tree; holds = w.1.holds; same = omega (arith, v.same, w.1.same) })
 
-  pub rest-none : {l : List ℕ} {j c : ℕ} {n : Node} {a : Ast s} → (n.kind ≡ more → ⊥) → Fetched l j n → Rest count l j c a → c ≡ count a
-  rest-none {n = n} other f v = omega (arith, v.same, counts.empty other (at-kind n.kind f refl v.holds))
+  pub rest-none : {l : List ℕ} {j c : ℕ} {n : Node} {a : Ast s} → (node_number n.kind ≡ more → ⊥) → Fetched l j n → Rest count l j c a → c ≡ count a
+  rest-none {n = n} other f v = omega (arith, v.same, counts.empty other (at-kind (node_number n.kind) f refl v.holds))

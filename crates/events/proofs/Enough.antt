@@ -13,9 +13,9 @@ use Rattle.events.proofs.Capacity.{program-fits}
 use Rattle.events.proofs.Tokens.{numbered_below}
 
 -- t is the tree of the text, with its tokens' numbers from 0 on
-pub ready : {l : List ℕ} {i : ℕ} {out : List ℕ} (t : Tree T.prog) → width t ≤ 2048 → Holds l i (ast (numbered 0 t)) → node_words * i + node_words ≤ length l → i < 65536 → 12288 ≤ length out → Ready l i out
-ready t h at room few space = record {
+pub ready : {l : List ℕ} {i : ℕ} (t : Tree T.prog) → width t ≤ 2048 → Holds l i (ast (numbered 0 t)) → node_words * i + node_words ≤ length l → i < 65536 → Ready l i
+ready t h at room few = record {
   rooted = record { tree = ast (numbered 0 t); holds = at; room = room; few = few };
   tokens = numbered_below 0 65536 t (omega (arith, h));
-  space = omega (arith, space, program-fits (numbered 0 t) (omega (arith, h, width-numbered 0 t)));
+  space = program-fits (numbered 0 t) (omega (arith, h, width-numbered 0 t));
 }

@@ -8,11 +8,15 @@ use native.Mathlib.Nat.{eq-or-lt_of_le}
 use native.Mathlib.Numerals.{add-one}
 use native.Mathlib.Omega.{arith}
 use lib.ListN.{get_or}
-use Rattle.syntax.specs.declared.Node.{Node}
+use Rattle.syntax.specs.declared.node.Node.{Node}
+use Rattle.syntax.specs.NodeKinds.{node_number}
+use Rattle.syntax.specs.declared.node.NodeKind.{NodeKind}
+use Rattle.syntax.specs.declared.node.NodeKind.TheVariants as kind
+use Rattle.syntax.proofs.SameKinds.{same-node}
 use Rattle.syntax.specs.Fetch.{Fetched}
 use Rattle.syntax.specs.Ast.{Sort, Ast, expr, args, cond, stmt, stmts, body, params}
 use Rattle.syntax.specs.Ast as A
-use Rattle.syntax.specs.Table.{n_empty, n_no_args, n_both, n_compare, n_either, n_minus, n_name, n_plus, n_times, node_token, node_words, At, Holds, n_call, n_bracket, n_more_args, n_assign, n_eval, n_block, n_if_else, n_while, n_return, n_more_stmts, n_braced, n_more_params, n_function, n_more_funs, at-number, at-negative, at_name, at_call, at_bracket, at-times, at-plus, at-minus, at_no_args, at-more-args, at-always, at-never, at-compare, at_both, at-either, at-empty, at-declare, at-declare-free, at-declare-own, at-assign, at-eval, at_block, at-if-else, at-while, at_return, at-fail, at-no-stmts, at-more-stmts, at-braced, at-no-params, at-more-params, at-function, at-no-funs, at-more-funs}
+use Rattle.syntax.specs.Table.{n_both, n_compare, n_either, n_minus, n_plus, n_times, node_token, node_words, At, Holds, n_call, n_bracket, n_more_args, n_assign, n_eval, n_block, n_if_else, n_while, n_return, n_more_stmts, n_braced, n_more_params, n_function, n_more_funs, at-number, at-negative, at_name, at_call, at_bracket, at-times, at-plus, at-minus, at_no_args, at-more-args, at-always, at-never, at-compare, at_both, at-either, at-empty, at-declare, at-declare-free, at-declare-own, at-assign, at-eval, at_block, at-if-else, at-while, at_return, at-fail, at-no-stmts, at-more-stmts, at-braced, at-no-params, at-more-params, at-function, at-no-funs, at-more-funs}
 use Rattle.events.specs.Event.{Event, function, parameter, thing, opens, closes, uses, calls, ends, first, count, stops, closing, events_at}
 use Rattle.events.specs.Walk.{Below}
 use Rattle.events.specs.Visit.{level}
@@ -60,8 +64,12 @@ kind-of (at-function r p q x y) = r.kind
 kind-of (at-no-funs r) = r.kind
 kind-of (at-more-funs r p q x y) = r.kind
 
+-- what a kind that isn't k says of its number
+pub other : {j k : NodeKind} → (j ≡ k → ⊥) → node_number j ≡ node_number k → ⊥
+other f e = f (same-node e)
+
 -- the tree at a node whose kind is k
-pub at-kind : {l : List ℕ} {s : Sort} {i : ℕ} {n : Node} {t : Ast s} (k : ℕ) → Fetched l i n → n.kind ≡ k → Holds l i t → At l s i k t
+pub at-kind : {l : List ℕ} {s : Sort} {i : ℕ} {n : Node} {t : Ast s} (k : ℕ) → Fetched l i n → node_number n.kind ≡ k → Holds l i t → At l s i k t
 at-kind {l} {s} {i} {n} {t} k f e h = subst (λ (j : ℕ). At l s i j t) (sym (kind-of h.at) ∙ sym f.kind ∙ e) h.at
 
 -- the tokens that a tree below m names
@@ -167,78 +175,78 @@ call-child : {l : List ℕ} {s : Sort} {i : ℕ} {n : Node} {t : Ast s} → Fetc
 unfolding events_at Below
 call-child f (at_call {x = x} r p c) = record { x = x; falls = omega (arith, f.first, r.first); holds = moved (f.first ∙ r.first) c; events = λ d. rw (f.token ∙ r.token, add-one); below = λ b. b.1 }
 
-pub call-node : {l : List ℕ} {s : Sort} {i : ℕ} {n : Node} {t : Ast s} → Fetched l i n → n.kind ≡ n_call → Holds l i t → One l i n.first t args (λ d x. calls n.token (count x) ∷ events_at (d + 1) x)
-call-node f e h = call-child f (at-kind n_call f e h)
+pub call-node : {l : List ℕ} {s : Sort} {i : ℕ} {n : Node} {t : Ast s} → Fetched l i n → n.kind ≡ kind.Call → Holds l i t → One l i n.first t args (λ d x. calls n.token (count x) ∷ events_at (d + 1) x)
+call-node f e h = call-child f (at-kind n_call f (ap node_number e) h)
 
 bracket-child : {l : List ℕ} {s : Sort} {i : ℕ} {n : Node} {t : Ast s} → Fetched l i n → At l s i n_bracket t → One l i n.first t expr (λ d x. thing (d + 1) (first x) ∷ events_at (d + 1) x)
 unfolding events_at Below
 bracket-child f (at_bracket {x = x} r p c) = record { x = x; falls = omega (arith, f.first, r.first); holds = moved (f.first ∙ r.first) c; events = λ d. rw (add-one); below = λ b. b.1 }
 
-pub bracket-node : {l : List ℕ} {s : Sort} {i : ℕ} {n : Node} {t : Ast s} → Fetched l i n → n.kind ≡ n_bracket → Holds l i t → One l i n.first t expr (λ d x. thing (d + 1) (first x) ∷ events_at (d + 1) x)
-bracket-node f e h = bracket-child f (at-kind n_bracket f e h)
+pub bracket-node : {l : List ℕ} {s : Sort} {i : ℕ} {n : Node} {t : Ast s} → Fetched l i n → n.kind ≡ kind.Bracket → Holds l i t → One l i n.first t expr (λ d x. thing (d + 1) (first x) ∷ events_at (d + 1) x)
+bracket-node f e h = bracket-child f (at-kind n_bracket f (ap node_number e) h)
 
 more-args-child : {l : List ℕ} {s : Sort} {i : ℕ} {n : Node} {t : Ast s} → Fetched l i n → At l s i n_more_args t → Two l i n.first n.second t args expr (λ d x y. events_at d x ++ (thing d (first y) ∷ events_at d y))
 unfolding events_at Below
 more-args-child f (at-more-args {x = x} {y = y} r p q c e) = record { x = x; y = y; falls = omega (arith, f.first, r.first); falls₂ = omega (arith, f.second, r.second); holds = moved (f.first ∙ r.first) c; holds₂ = moved (f.second ∙ r.second) e; events = λ d. refl; below = λ b. b.0; below₂ = λ b. b.1 }
 
-pub more-args-node : {l : List ℕ} {s : Sort} {i : ℕ} {n : Node} {t : Ast s} → Fetched l i n → n.kind ≡ n_more_args → Holds l i t → Two l i n.first n.second t args expr (λ d x y. events_at d x ++ (thing d (first y) ∷ events_at d y))
-more-args-node f e h = more-args-child f (at-kind n_more_args f e h)
+pub more-args-node : {l : List ℕ} {s : Sort} {i : ℕ} {n : Node} {t : Ast s} → Fetched l i n → n.kind ≡ kind.MoreArgs → Holds l i t → Two l i n.first n.second t args expr (λ d x y. events_at d x ++ (thing d (first y) ∷ events_at d y))
+more-args-node f e h = more-args-child f (at-kind n_more_args f (ap node_number e) h)
 
 assign-child : {l : List ℕ} {s : Sort} {i : ℕ} {n : Node} {t : Ast s} → Fetched l i n → At l s i n_assign t → One l i n.first t expr (λ d x. thing d n.token ∷ (uses n.token ∷ events_at d x))
 unfolding events_at Below
 assign-child f (at-assign {x = x} r p c) = record { x = x; falls = omega (arith, f.first, r.first); holds = moved (f.first ∙ r.first) c; events = λ d. rw (f.token ∙ r.token); below = λ b. b.1 }
 
-pub assign-node : {l : List ℕ} {s : Sort} {i : ℕ} {n : Node} {t : Ast s} → Fetched l i n → n.kind ≡ n_assign → Holds l i t → One l i n.first t expr (λ d x. thing d n.token ∷ (uses n.token ∷ events_at d x))
-assign-node f e h = assign-child f (at-kind n_assign f e h)
+pub assign-node : {l : List ℕ} {s : Sort} {i : ℕ} {n : Node} {t : Ast s} → Fetched l i n → n.kind ≡ kind.Assign → Holds l i t → One l i n.first t expr (λ d x. thing d n.token ∷ (uses n.token ∷ events_at d x))
+assign-node f e h = assign-child f (at-kind n_assign f (ap node_number e) h)
 
 eval-child : {l : List ℕ} {s : Sort} {i : ℕ} {n : Node} {t : Ast s} → Fetched l i n → At l s i n_eval t → One l i n.first t expr (λ d x. thing d (first x) ∷ events_at d x)
 unfolding events_at Below
 eval-child f (at-eval {x = x} r p c) = record { x = x; falls = omega (arith, f.first, r.first); holds = moved (f.first ∙ r.first) c; events = λ d. refl; below = λ b. b }
 
-pub eval-node : {l : List ℕ} {s : Sort} {i : ℕ} {n : Node} {t : Ast s} → Fetched l i n → n.kind ≡ n_eval → Holds l i t → One l i n.first t expr (λ d x. thing d (first x) ∷ events_at d x)
-eval-node f e h = eval-child f (at-kind n_eval f e h)
+pub eval-node : {l : List ℕ} {s : Sort} {i : ℕ} {n : Node} {t : Ast s} → Fetched l i n → n.kind ≡ kind.Eval → Holds l i t → One l i n.first t expr (λ d x. thing d (first x) ∷ events_at d x)
+eval-node f e h = eval-child f (at-kind n_eval f (ap node_number e) h)
 
 block-child : {l : List ℕ} {s : Sort} {i : ℕ} {n : Node} {t : Ast s} → Fetched l i n → At l s i n_block t → One l i n.first t body (λ d x. thing d n.token ∷ events_at (d + 1) x)
 unfolding events_at Below
 block-child f (at_block {x = x} r p c) = record { x = x; falls = omega (arith, f.first, r.first); holds = moved (f.first ∙ r.first) c; events = λ d. rw (f.token ∙ r.token, add-one); below = λ b. b.1 }
 
-pub block-node : {l : List ℕ} {s : Sort} {i : ℕ} {n : Node} {t : Ast s} → Fetched l i n → n.kind ≡ n_block → Holds l i t → One l i n.first t body (λ d x. thing d n.token ∷ events_at (d + 1) x)
-block-node f e h = block-child f (at-kind n_block f e h)
+pub block-node : {l : List ℕ} {s : Sort} {i : ℕ} {n : Node} {t : Ast s} → Fetched l i n → n.kind ≡ kind.Block → Holds l i t → One l i n.first t body (λ d x. thing d n.token ∷ events_at (d + 1) x)
+block-node f e h = block-child f (at-kind n_block f (ap node_number e) h)
 
 return-child : {l : List ℕ} {s : Sort} {i : ℕ} {n : Node} {t : Ast s} → Fetched l i n → At l s i n_return t → One l i n.first t expr (λ d x. thing d n.token ∷ events_at d x)
 unfolding events_at Below
 return-child f (at_return {x = x} r p c) = record { x = x; falls = omega (arith, f.first, r.first); holds = moved (f.first ∙ r.first) c; events = λ d. rw (f.token ∙ r.token); below = λ b. b.1 }
 
-pub return-node : {l : List ℕ} {s : Sort} {i : ℕ} {n : Node} {t : Ast s} → Fetched l i n → n.kind ≡ n_return → Holds l i t → One l i n.first t expr (λ d x. thing d n.token ∷ events_at d x)
-return-node f e h = return-child f (at-kind n_return f e h)
+pub return-node : {l : List ℕ} {s : Sort} {i : ℕ} {n : Node} {t : Ast s} → Fetched l i n → n.kind ≡ kind.Return → Holds l i t → One l i n.first t expr (λ d x. thing d n.token ∷ events_at d x)
+return-node f e h = return-child f (at-kind n_return f (ap node_number e) h)
 
 braced-child : {l : List ℕ} {s : Sort} {i : ℕ} {n : Node} {t : Ast s} → Fetched l i n → At l s i n_braced t → One l i n.first t stmts (λ d x. opens ∷ (events_at d x ++ closes ∷ []))
 unfolding events_at Below
 braced-child f (at-braced {x = x} r p c) = record { x = x; falls = omega (arith, f.first, r.first); holds = moved (f.first ∙ r.first) c; events = λ d. refl; below = λ b. b.0 }
 
-pub braced-node : {l : List ℕ} {s : Sort} {i : ℕ} {n : Node} {t : Ast s} → Fetched l i n → n.kind ≡ n_braced → Holds l i t → One l i n.first t stmts (λ d x. opens ∷ (events_at d x ++ closes ∷ []))
-braced-node f e h = braced-child f (at-kind n_braced f e h)
+pub braced-node : {l : List ℕ} {s : Sort} {i : ℕ} {n : Node} {t : Ast s} → Fetched l i n → n.kind ≡ kind.Braced → Holds l i t → One l i n.first t stmts (λ d x. opens ∷ (events_at d x ++ closes ∷ []))
+braced-node f e h = braced-child f (at-kind n_braced f (ap node_number e) h)
 
 more-params-child : {l : List ℕ} {s : Sort} {i : ℕ} {n : Node} {t : Ast s} → Fetched l i n → At l s i n_more_params t → One l i n.first t params (λ d x. events_at d x ++ parameter n.token ∷ [])
 unfolding events_at Below
 more-params-child f (at-more-params {x = x} r p c) = record { x = x; falls = omega (arith, f.first, r.first); holds = moved (f.first ∙ r.first) c; events = λ d. rw (f.token ∙ r.token); below = λ b. b.0 }
 
-pub more-params-node : {l : List ℕ} {s : Sort} {i : ℕ} {n : Node} {t : Ast s} → Fetched l i n → n.kind ≡ n_more_params → Holds l i t → One l i n.first t params (λ d x. events_at d x ++ parameter n.token ∷ [])
-more-params-node f e h = more-params-child f (at-kind n_more_params f e h)
+pub more-params-node : {l : List ℕ} {s : Sort} {i : ℕ} {n : Node} {t : Ast s} → Fetched l i n → n.kind ≡ kind.MoreParams → Holds l i t → One l i n.first t params (λ d x. events_at d x ++ parameter n.token ∷ [])
+more-params-node f e h = more-params-child f (at-kind n_more_params f (ap node_number e) h)
 
 while-child : {l : List ℕ} {s : Sort} {i : ℕ} {n : Node} {t : Ast s} → Fetched l i n → At l s i n_while t → Two l i n.first n.second t cond stmt (λ d x y. thing d n.token ∷ (events_at d x ++ (opens ∷ (events_at (d + 1) y ++ closes ∷ []))))
 unfolding events_at Below
 while-child f (at-while {x = x} {y = y} r p q c e) = record { x = x; y = y; falls = omega (arith, f.first, r.first); falls₂ = omega (arith, f.second, r.second); holds = moved (f.first ∙ r.first) c; holds₂ = moved (f.second ∙ r.second) e; events = λ d. rw (f.token ∙ r.token, add-one) (simp append_assoc); below = λ b. b.1.0; below₂ = λ b. b.1.1 }
 
-pub while-node : {l : List ℕ} {s : Sort} {i : ℕ} {n : Node} {t : Ast s} → Fetched l i n → n.kind ≡ n_while → Holds l i t → Two l i n.first n.second t cond stmt (λ d x y. thing d n.token ∷ (events_at d x ++ (opens ∷ (events_at (d + 1) y ++ closes ∷ []))))
-while-node f e h = while-child f (at-kind n_while f e h)
+pub while-node : {l : List ℕ} {s : Sort} {i : ℕ} {n : Node} {t : Ast s} → Fetched l i n → n.kind ≡ kind.While → Holds l i t → Two l i n.first n.second t cond stmt (λ d x y. thing d n.token ∷ (events_at d x ++ (opens ∷ (events_at (d + 1) y ++ closes ∷ []))))
+while-node f e h = while-child f (at-kind n_while f (ap node_number e) h)
 
 function-child : {l : List ℕ} {s : Sort} {i : ℕ} {n : Node} {t : Ast s} → Fetched l i n → At l s i n_function t → Two l i n.first n.second t params body (λ d x y. function n.token ∷ (events_at d x ++ (events_at d y ++ ends (closing y) (not (stops y)) ∷ [])))
 unfolding events_at Below
 function-child f (at-function {x = x} {y = y} r p q c e) = record { x = x; y = y; falls = omega (arith, f.first, r.first); falls₂ = omega (arith, f.second, r.second); holds = moved (f.first ∙ r.first) c; holds₂ = moved (f.second ∙ r.second) e; events = λ d. rw (f.token ∙ r.token) (simp append_assoc); below = λ b. b.1.0; below₂ = λ b. b.1.1 }
 
-pub function-node : {l : List ℕ} {s : Sort} {i : ℕ} {n : Node} {t : Ast s} → Fetched l i n → n.kind ≡ n_function → Holds l i t → Two l i n.first n.second t params body (λ d x y. function n.token ∷ (events_at d x ++ (events_at d y ++ ends (closing y) (not (stops y)) ∷ [])))
-function-node f e h = function-child f (at-kind n_function f e h)
+pub function-node : {l : List ℕ} {s : Sort} {i : ℕ} {n : Node} {t : Ast s} → Fetched l i n → n.kind ≡ kind.Function → Holds l i t → Two l i n.first n.second t params body (λ d x y. function n.token ∷ (events_at d x ++ (events_at d y ++ ends (closing y) (not (stops y)) ∷ [])))
+function-node f e h = function-child f (at-kind n_function f (ap node_number e) h)
 
 regroup : (a : Event) (x y z : List Event) → (a ∷ x) ++ (opens ∷ y) ++ (closes ∷ opens ∷ z) ++ (closes ∷ []) ≡ a ∷ (x ++ ((opens ∷ (y ++ closes ∷ [])) ++ (opens ∷ (z ++ closes ∷ []))))
 regroup a x y z =
@@ -248,8 +256,8 @@ if-else-child : {l : List ℕ} {s : Sort} {i : ℕ} {n : Node} {t : Ast s} → F
 unfolding events_at Below
 if-else-child f (at-if-else {x = x} {y = y} {z = z} r p q o c e g) = record { x = x; y = y; z = z; falls = omega (arith, f.first, r.first); falls₂ = omega (arith, f.second, r.second); falls₃ = omega (arith, f.third, r.third); holds = moved (f.first ∙ r.first) c; holds₂ = moved (f.second ∙ r.second) e; holds₃ = moved (f.third ∙ r.third) g; events = λ d. rw (f.token ∙ r.token, add-one) (regroup (thing d _) (events_at d x) (events_at (suc d) y) (events_at (suc d) z)); below = λ b. b.1.0; below₂ = λ b. b.1.1.0; below₃ = λ b. b.1.1.1 }
 
-pub if-else-node : {l : List ℕ} {s : Sort} {i : ℕ} {n : Node} {t : Ast s} → Fetched l i n → n.kind ≡ n_if_else → Holds l i t → Three l i n.first n.second n.third t cond stmt stmt (λ d x y z. thing d n.token ∷ (events_at d x ++ ((opens ∷ (events_at (d + 1) y ++ closes ∷ [])) ++ (opens ∷ (events_at (d + 1) z ++ closes ∷ [])))))
-if-else-node f e h = if-else-child f (at-kind n_if_else f e h)
+pub if-else-node : {l : List ℕ} {s : Sort} {i : ℕ} {n : Node} {t : Ast s} → Fetched l i n → n.kind ≡ kind.IfElse → Holds l i t → Three l i n.first n.second n.third t cond stmt stmt (λ d x y z. thing d n.token ∷ (events_at d x ++ ((opens ∷ (events_at (d + 1) y ++ closes ∷ [])) ++ (opens ∷ (events_at (d + 1) z ++ closes ∷ [])))))
+if-else-node f e h = if-else-child f (at-kind n_if_else f (ap node_number e) h)
 
 -- ---- pairs
 
@@ -265,28 +273,21 @@ pub data Joint : ℕ → Type 0 where
   both : Joint n_both
   either : Joint n_either
 
-pub above-leaves : {k : ℕ} → n_name ≤ k → (k ≡ n_name → ⊥) → (k ≡ n_call → ⊥) → (k ≡ n_bracket → ⊥) → n_times ≤ k
-above-leaves h p q r = omega (arith, h, p, q, r)
+pub joint : {k : NodeKind} → (k ≡ kind.Times) ⊎ ((k ≡ kind.Plus) ⊎ ((k ≡ kind.Minus) ⊎ ((k ≡ kind.Compare) ⊎ ((k ≡ kind.Both) ⊎ (k ≡ kind.Either))))) → Joint (node_number k)
+joint (inl e) = subst Joint (sym (ap node_number e)) times
+joint (inr (inl e)) = subst Joint (sym (ap node_number e)) plus
+joint (inr (inr (inl e))) = subst Joint (sym (ap node_number e)) minus
+joint (inr (inr (inr (inl e)))) = subst Joint (sym (ap node_number e)) compare
+joint (inr (inr (inr (inr (inl e))))) = subst Joint (sym (ap node_number e)) both
+joint (inr (inr (inr (inr (inr e))))) = subst Joint (sym (ap node_number e)) either
 
-pub joint-low : {k : ℕ} → n_times ≤ k → k < n_no_args → Joint k
-joint-low {k} lo hi = three-of Joint n_times k lo hi times plus minus
-
-pub joint-high : {k : ℕ} → n_compare ≤ k → k < n_empty → Joint k
-joint-high {k} lo hi = three-of Joint n_compare k lo hi compare both either
-
--- where they stand among the kinds
-pub joint-bounds : {k : ℕ} → Joint k → ((n_times ≤ k) × (k < n_no_args)) ⊎ ((n_compare ≤ k) × (k < n_empty))
-joint-bounds times = inl (omega arith)
-joint-bounds plus = inl (omega arith)
-joint-bounds minus = inl (omega arith)
-joint-bounds compare = inr (omega arith)
-joint-bounds both = inr (omega arith)
-joint-bounds either = inr (omega arith)
-
-pub not-joint : {k : ℕ} → (k < n_times) ⊎ (((n_no_args ≤ k) × (k < n_compare)) ⊎ (n_empty ≤ k)) → Joint k → ⊥
-not-joint (inl h) j = ⊎_elim (λ w. omega arith) (λ w. omega arith) (joint-bounds j)
-not-joint (inr (inl h)) j = ⊎_elim (λ w. omega arith) (λ w. omega arith) (joint-bounds j)
-not-joint (inr (inr h)) j = ⊎_elim (λ w. omega arith) (λ w. omega arith) (joint-bounds j)
+pub not-joint : {k : ℕ} → (k ≡ n_times → ⊥) → (k ≡ n_plus → ⊥) → (k ≡ n_minus → ⊥) → (k ≡ n_compare → ⊥) → (k ≡ n_both → ⊥) → (k ≡ n_either → ⊥) → Joint k → ⊥
+not-joint n0 _ _ _ _ _ times = n0 refl
+not-joint _ n1 _ _ _ _ plus = n1 refl
+not-joint _ _ n2 _ _ _ minus = n2 refl
+not-joint _ _ _ n3 _ _ compare = n3 refl
+not-joint _ _ _ _ n4 _ both = n4 refl
+not-joint _ _ _ _ _ n5 either = n5 refl
 
 joint-child : {l : List ℕ} {s : Sort} {i k : ℕ} {n : Node} {t : Ast s} → Joint k → Fetched l i n → At l s i k t → Pair l i n.first n.second t
 unfolding events_at Below
@@ -297,19 +298,19 @@ joint-child compare f (at-compare r p q x y) = pair refl refl (f.first ∙ r.fir
 joint-child both f (at_both r p q x y) = pair refl refl (f.first ∙ r.first) (f.second ∙ r.second) p q x y (λ d. refl) (λ b. b)
 joint-child either f (at-either r p q x y) = pair refl refl (f.first ∙ r.first) (f.second ∙ r.second) p q x y (λ d. refl) (λ b. b)
 
-pub joint-node : {l : List ℕ} {s : Sort} {i : ℕ} {n : Node} {t : Ast s} → Joint n.kind → Fetched l i n → Holds l i t → Pair l i n.first n.second t
-joint-node {n = n} j f h = joint-child j f (at-kind n.kind f refl h)
+pub joint-node : {l : List ℕ} {s : Sort} {i : ℕ} {n : Node} {t : Ast s} → Joint (node_number n.kind) → Fetched l i n → Holds l i t → Pair l i n.first n.second t
+joint-node {n = n} j f h = joint-child j f (at-kind (node_number n.kind) f refl h)
 
 more-stmts-child : {l : List ℕ} {s : Sort} {i : ℕ} {n : Node} {t : Ast s} → Fetched l i n → At l s i n_more_stmts t → Pair l i n.first n.second t
 unfolding events_at Below
 more-stmts-child f (at-more-stmts r p q x y) = pair refl refl (f.first ∙ r.first) (f.second ∙ r.second) p q x y (λ d. refl) (λ b. b)
 
-pub more-stmts-node : {l : List ℕ} {s : Sort} {i : ℕ} {n : Node} {t : Ast s} → Fetched l i n → n.kind ≡ n_more_stmts → Holds l i t → Pair l i n.first n.second t
-more-stmts-node f e h = more-stmts-child f (at-kind n_more_stmts f e h)
+pub more-stmts-node : {l : List ℕ} {s : Sort} {i : ℕ} {n : Node} {t : Ast s} → Fetched l i n → n.kind ≡ kind.MoreStmts → Holds l i t → Pair l i n.first n.second t
+more-stmts-node f e h = more-stmts-child f (at-kind n_more_stmts f (ap node_number e) h)
 
 more-funs-child : {l : List ℕ} {s : Sort} {i : ℕ} {n : Node} {t : Ast s} → Fetched l i n → At l s i n_more_funs t → Pair l i n.first n.second t
 unfolding events_at Below
 more-funs-child f (at-more-funs r p q x y) = pair refl refl (f.first ∙ r.first) (f.second ∙ r.second) p q x y (λ d. refl) (λ b. b)
 
-pub more-funs-node : {l : List ℕ} {s : Sort} {i : ℕ} {n : Node} {t : Ast s} → Fetched l i n → n.kind ≡ n_more_funs → Holds l i t → Pair l i n.first n.second t
-more-funs-node f e h = more-funs-child f (at-kind n_more_funs f e h)
+pub more-funs-node : {l : List ℕ} {s : Sort} {i : ℕ} {n : Node} {t : Ast s} → Fetched l i n → n.kind ≡ kind.MoreFuns → Holds l i t → Pair l i n.first n.second t
+more-funs-node f e h = more-funs-child f (at-kind n_more_funs f (ap node_number e) h)

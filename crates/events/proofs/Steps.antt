@@ -1,17 +1,20 @@
 -- The steps of the loops and the recursion that find a first token, a count of arguments, and whether a statement can reach its end.
-use Prim.Native.Nat.{ℕ, ◌≤◌, ◌<◌}
+use Prim.Native.Nat.{ℕ, ◌<◌}
 use mathlib.Core.Path.{◌≡◌, refl, sym, ap, ◌∙◌, subst}
 use mathlib.Core.Bool.{Bool, true, false, ◌&&◌}
 use mathlib.Core.List.{List}
 use mathlib.Core.Logic.{◌⊎◌, inl, inr}
 use native.Mathlib.Omega.{arith}
-use Rattle.syntax.specs.declared.Node.{Node}
+use Rattle.syntax.specs.declared.node.Node.{Node}
+use Rattle.syntax.specs.NodeKinds.{node_number}
+use Rattle.syntax.specs.declared.node.NodeKind.{NodeKind}
+use Rattle.syntax.specs.declared.node.NodeKind.TheVariants as kind
 use Rattle.syntax.specs.Fetch.{Fetched}
 use Rattle.syntax.specs.Ast.{Sort, Ast, expr, args}
 use Rattle.syntax.specs.Ast as A
-use Rattle.syntax.specs.Table.{n_no_stmts, n_block, n_braced, n_fail, n_minus, n_plus, n_return, n_times, At, Holds, n_more_args, n_more_stmts, n_if_else, at-number, at-negative, at_name, at_call, at_bracket, at-times, at-plus, at-minus, at_no_args, at-more-args, at-always, at-never, at-compare, at_both, at-either, at-empty, at-declare, at-declare-free, at-declare-own, at-assign, at-eval, at_block, at-if-else, at-while, at_return, at-fail, at-no-stmts, at-more-stmts, at-braced, at-no-params, at-more-params, at-function, at-no-funs, at-more-funs}
+use Rattle.syntax.specs.Table.{n_block, n_braced, n_fail, n_minus, n_plus, n_return, n_times, At, Holds, n_more_args, n_more_stmts, n_if_else, at-number, at-negative, at_name, at_call, at_bracket, at-times, at-plus, at-minus, at_no_args, at-more-args, at-always, at-never, at-compare, at_both, at-either, at-empty, at-declare, at-declare-free, at-declare-own, at-assign, at-eval, at_block, at-if-else, at-while, at_return, at-fail, at-no-stmts, at-more-stmts, at-braced, at-no-params, at-more-params, at-function, at-no-funs, at-more-funs}
 use Rattle.events.specs.Event.{first, count, stops}
-use Rattle.events.proofs.Nodes.{at-kind, moved, two-of, three-of}
+use Rattle.events.proofs.Nodes.{at-kind, moved}
 use Rattle.events.proofs.Counting.{Rest, Counts}
 
 -- ---- the first token of an expression
@@ -22,20 +25,20 @@ pub record Left (l : List ℕ) (j : ℕ) (e : Ast expr) : Type 0 where
   pub holds : Holds l j tree
   pub same : first e ≡ first tree
 
-data Sum : ℕ → Type 0 where
+pub data Sum : ℕ → Type 0 where
   times : Sum n_times
   plus : Sum n_plus
   minus : Sum n_minus
 
-sum_low : {k : ℕ} → k < n_times → Sum k → ⊥
-sum_low h times = omega (arith, h)
-sum_low h plus = omega (arith, h)
-sum_low h minus = omega (arith, h)
+pub sum : {k : NodeKind} → (k ≡ kind.Times) ⊎ ((k ≡ kind.Plus) ⊎ (k ≡ kind.Minus)) → Sum (node_number k)
+sum (inl e) = subst Sum (sym (ap node_number e)) times
+sum (inr (inl e)) = subst Sum (sym (ap node_number e)) plus
+sum (inr (inr e)) = subst Sum (sym (ap node_number e)) minus
 
-sum-high : {k : ℕ} → 8 < k → Sum k → ⊥
-sum-high h times = omega (arith, h)
-sum-high h plus = omega (arith, h)
-sum-high h minus = omega (arith, h)
+pub not-sum : {k : ℕ} → (k ≡ n_times → ⊥) → (k ≡ n_plus → ⊥) → (k ≡ n_minus → ⊥) → Sum k → ⊥
+not-sum n0 _ _ times = n0 refl
+not-sum _ n1 _ plus = n1 refl
+not-sum _ _ n2 minus = n2 refl
 
 left_at : {l : List ℕ} {j k : ℕ} {n : Node} {e : Ast expr} → Sum k → Fetched l j n → At l expr j k e → (n.first < j) × Left l n.first e
 unfolding first
@@ -43,9 +46,9 @@ left_at times f (at-times {x = x} r p q c e) = (omega (arith, f.first, r.first),
 left_at plus f (at-plus {x = x} r p q c e) = (omega (arith, f.first, r.first), record { tree = x; holds = moved (f.first ∙ r.first) c; same = refl })
 left_at minus f (at-minus {x = x} r p q c e) = (omega (arith, f.first, r.first), record { tree = x; holds = moved (f.first ∙ r.first) c; same = refl })
 
-pub left_step : {l : List ℕ} {j : ℕ} {n : Node} {e : Ast expr} → 6 ≤ n.kind → n.kind < 9 → Fetched l j n → Left l j e → (n.first < j) × Left l n.first e
-left_step {n = n} lo hi f v =
-    let w = left_at (three-of Sum n_times n.kind lo hi times plus minus) f (at-kind n.kind f refl v.holds) in
+pub left_step : {l : List ℕ} {j : ℕ} {n : Node} {e : Ast expr} → Sum (node_number n.kind) → Fetched l j n → Left l j e → (n.first < j) × Left l n.first e
+left_step {n = n} k f v =
+    let w = left_at k f (at-kind (node_number n.kind) f refl v.holds) in
     (w.0, record { tree = w.1.tree; holds = w.1.holds; same = v.same ∙ w.1.same })
 
 first-at : {l : List ℕ} {j k : ℕ} {n : Node} {e : Ast expr} → (Sum k → ⊥) → Fetched l j n → At l expr j k e → n.token ≡ first e
@@ -59,11 +62,8 @@ first-at never f (at-times r p q x y) = absurd (never times)
 first-at never f (at-plus r p q x y) = absurd (never plus)
 first-at never f (at-minus r p q x y) = absurd (never minus)
 
-pub first-low : {l : List ℕ} {j : ℕ} {n : Node} {e : Ast expr} → n.kind < 6 → Fetched l j n → Left l j e → n.token ≡ first e
-first-low {n = n} h f v = first-at (sum_low h) f (at-kind n.kind f refl v.holds) ∙ sym v.same
-
-pub first-high : {l : List ℕ} {j : ℕ} {n : Node} {e : Ast expr} → 8 < n.kind → Fetched l j n → Left l j e → n.token ≡ first e
-first-high {n = n} h f v = first-at (sum-high h) f (at-kind n.kind f refl v.holds) ∙ sym v.same
+pub first-of : {l : List ℕ} {j : ℕ} {n : Node} {e : Ast expr} → (Sum (node_number n.kind) → ⊥) → Fetched l j n → Left l j e → n.token ≡ first e
+first-of {n = n} never f v = first-at never f (at-kind (node_number n.kind) f refl v.holds) ∙ sym v.same
 
 -- ---- the count of arguments
 
@@ -93,9 +93,9 @@ pub data Inner : ℕ → Type 0 where
   block : Inner n_block
   braced : Inner n_braced
 
-pub inner : {k : ℕ} → (k ≡ n_block) ⊎ (k ≡ n_braced) → Inner k
-inner (inl e) = subst Inner (sym e) block
-inner (inr e) = subst Inner (sym e) braced
+pub inner : {k : NodeKind} → (k ≡ kind.Block) ⊎ (k ≡ kind.Braced) → Inner (node_number k)
+inner (inl e) = subst Inner (sym (ap node_number e)) block
+inner (inr e) = subst Inner (sym (ap node_number e)) braced
 
 pub inner_last : {l : List ℕ} {s : Sort} {i k : ℕ} {n : Node} {t : Ast s} → Inner k → Fetched l i n → At l s i k t → Last l i n.first t
 unfolding stops
@@ -130,16 +130,9 @@ pub data Final : ℕ → Type 0 where
   return : Final n_return
   fail : Final n_fail
 
-pub final : {k : ℕ} → n_return ≤ k → k < n_no_stmts → Final k
-final {k} lo hi = two-of Final n_return k lo hi return fail
-
-pub final-low : {k : ℕ} → k < n_return → Final k → ⊥
-final-low h return = omega (arith, h)
-final-low h fail = omega (arith, h)
-
-pub final-high : {k : ℕ} → n_fail < k → Final k → ⊥
-final-high h return = omega (arith, h)
-final-high h fail = omega (arith, h)
+pub final : {k : NodeKind} → (k ≡ kind.Return) ⊎ (k ≡ kind.Fail) → Final (node_number k)
+final (inl e) = subst Final (sym (ap node_number e)) return
+final (inr e) = subst Final (sym (ap node_number e)) fail
 
 pub final-stops : {l : List ℕ} {s : Sort} {i k : ℕ} {t : Ast s} → Final k → At l s i k t → stops t ≡ true
 unfolding stops
@@ -147,39 +140,39 @@ final-stops return (at_return r p x) = refl
 final-stops fail (at-fail r) = refl
 
 -- every other node
-pub goes_on : {l : List ℕ} {s : Sort} {i k : ℕ} {t : Ast s} → ((k ≡ n_block) ⊎ (k ≡ n_braced) → ⊥) → (k ≡ n_more_stmts → ⊥) → (k ≡ n_if_else → ⊥) → (Final k → ⊥) → At l s i k t → stops t ≡ false
+pub goes_on : {l : List ℕ} {s : Sort} {i k : ℕ} {t : Ast s} → (k ≡ n_return → ⊥) → (k ≡ n_fail → ⊥) → (k ≡ n_block → ⊥) → (k ≡ n_braced → ⊥) → (k ≡ n_more_stmts → ⊥) → (k ≡ n_if_else → ⊥) → At l s i k t → stops t ≡ false
 unfolding stops
-goes_on a b c d (at-number r) = refl
-goes_on a b c d (at-negative r) = refl
-goes_on a b c d (at_name r) = refl
-goes_on a b c d (at_call r p x) = refl
-goes_on a b c d (at_bracket r p x) = refl
-goes_on a b c d (at-times r p q x y) = refl
-goes_on a b c d (at-plus r p q x y) = refl
-goes_on a b c d (at-minus r p q x y) = refl
-goes_on a b c d (at_no_args r) = refl
-goes_on a b c d (at-more-args r p q x y) = refl
-goes_on a b c d (at-always r) = refl
-goes_on a b c d (at-never r) = refl
-goes_on a b c d (at-compare r p q x y) = refl
-goes_on a b c d (at_both r p q x y) = refl
-goes_on a b c d (at-either r p q x y) = refl
-goes_on a b c d (at-empty r) = refl
-goes_on a b c d (at-declare r) = refl
-goes_on a b c d (at-declare-free r) = refl
-goes_on a b c d (at-declare-own r) = refl
-goes_on a b c d (at-assign r p x) = refl
-goes_on a b c d (at-eval r p x) = refl
-goes_on a b c d (at_block r p x) = absurd (a (inl refl))
-goes_on a b c d (at-if-else r p q o x y z) = absurd (c refl)
-goes_on a b c d (at-while r p q x y) = refl
-goes_on a b c d (at_return r p x) = absurd (d return)
-goes_on a b c d (at-fail r) = absurd (d fail)
-goes_on a b c d (at-no-stmts r) = refl
-goes_on a b c d (at-more-stmts r p q x y) = absurd (b refl)
-goes_on a b c d (at-braced r p x) = absurd (a (inr refl))
-goes_on a b c d (at-no-params r) = refl
-goes_on a b c d (at-more-params r p x) = refl
-goes_on a b c d (at-function r p q x y) = refl
-goes_on a b c d (at-no-funs r) = refl
-goes_on a b c d (at-more-funs r p q x y) = refl
+goes_on _ _ _ _ _ _ (at-number r) = refl
+goes_on _ _ _ _ _ _ (at-negative r) = refl
+goes_on _ _ _ _ _ _ (at_name r) = refl
+goes_on _ _ _ _ _ _ (at_call r p x) = refl
+goes_on _ _ _ _ _ _ (at_bracket r p x) = refl
+goes_on _ _ _ _ _ _ (at-times r p q x y) = refl
+goes_on _ _ _ _ _ _ (at-plus r p q x y) = refl
+goes_on _ _ _ _ _ _ (at-minus r p q x y) = refl
+goes_on _ _ _ _ _ _ (at_no_args r) = refl
+goes_on _ _ _ _ _ _ (at-more-args r p q x y) = refl
+goes_on _ _ _ _ _ _ (at-always r) = refl
+goes_on _ _ _ _ _ _ (at-never r) = refl
+goes_on _ _ _ _ _ _ (at-compare r p q x y) = refl
+goes_on _ _ _ _ _ _ (at_both r p q x y) = refl
+goes_on _ _ _ _ _ _ (at-either r p q x y) = refl
+goes_on _ _ _ _ _ _ (at-empty r) = refl
+goes_on _ _ _ _ _ _ (at-declare r) = refl
+goes_on _ _ _ _ _ _ (at-declare-free r) = refl
+goes_on _ _ _ _ _ _ (at-declare-own r) = refl
+goes_on _ _ _ _ _ _ (at-assign r p x) = refl
+goes_on _ _ _ _ _ _ (at-eval r p x) = refl
+goes_on _ _ n2 _ _ _ (at_block r p x) = absurd (n2 refl)
+goes_on _ _ _ _ _ n5 (at-if-else r p q o x y z) = absurd (n5 refl)
+goes_on _ _ _ _ _ _ (at-while r p q x y) = refl
+goes_on n0 _ _ _ _ _ (at_return r p x) = absurd (n0 refl)
+goes_on _ n1 _ _ _ _ (at-fail r) = absurd (n1 refl)
+goes_on _ _ _ _ _ _ (at-no-stmts r) = refl
+goes_on _ _ _ _ n4 _ (at-more-stmts r p q x y) = absurd (n4 refl)
+goes_on _ _ _ n3 _ _ (at-braced r p x) = absurd (n3 refl)
+goes_on _ _ _ _ _ _ (at-no-params r) = refl
+goes_on _ _ _ _ _ _ (at-more-params r p x) = refl
+goes_on _ _ _ _ _ _ (at-function r p q x y) = refl
+goes_on _ _ _ _ _ _ (at-no-funs r) = refl
+goes_on _ _ _ _ _ _ (at-more-funs r p q x y) = refl

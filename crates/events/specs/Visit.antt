@@ -1,9 +1,8 @@
 -- What the functions of the walk ask and answer, each of a node of the table.
-use Rattle.std.specs.Prelude.{ℕ, ◌+◌, ◌*◌, ◌≤◌, ◌<◌, ◌≡◌, Bool, List, [], ◌∷◌, ◌++◌, length, get_or}
+use Rattle.std.specs.Prelude.{ℕ, ◌+◌, ◌≤◌, ◌<◌, ◌≡◌, Bool, List, [], ◌∷◌, ◌++◌, length}
 use Rattle.syntax.specs.Ast.{Sort, Ast, expr, args, mark, cond, stmt, stmts, body, params, fun, prog}
 use Rattle.syntax.specs.Table.{Holds}
 use Rattle.events.specs.Event.{Event, opens, closes, first, count, stops, events_at}
-use Rattle.events.specs.Stored.{event_words, stored}
 use Rattle.events.specs.Walk.{Below, Rooted}
 
 -- ---- what is asked
@@ -26,14 +25,14 @@ level params = 2
 level fun = 2
 level prog = 2
 
--- the tree at node i has the level v, and out has room after n events for its events at the depth d
-pub record Located (v : ℕ) (l : List ℕ) (i d : ℕ) (out : List ℕ) (n : ℕ) : Type 0 where
+-- the tree at node i has the level v, and there is room after n events for its events at the depth d
+pub record Located (v : ℕ) (l : List ℕ) (i d n : ℕ) : Type 0 where
   pub sort : Sort
   pub rooted : Rooted sort l i
   pub part : level sort ≡ v
   pub tokens : Below 65536 rooted.tree
   pub deep : d + i < 131072
-  pub space : event_words * (n + length (events_at d rooted.tree)) ≤ length out
+  pub space : n + length (events_at d rooted.tree) ≤ 4096
 
 -- ---- what is answered
 
@@ -50,17 +49,10 @@ pub record Count (l : List ℕ) (i r : ℕ) : Type 0 where
 pub record Stops (l : List ℕ) (i : ℕ) (r : Bool) : Type 0 where
   pub is : {s : Sort} (t : Ast s) → Holds l i t → r ≡ stops t
 
--- the first n events of l are followed by es in m, which has r; the words after these are as they were
-pub record Grown (l m : List ℕ) (n r : ℕ) (es : List Event) : Type 0 where
-  pub size : length m ≡ length l
-  pub total : r ≡ n + length es
-  pub holds : stored m r ≡ stored l n ++ es
-  pub kept : (j : ℕ) → event_words * r ≤ j → get_or m j 0 ≡ get_or l j 0
-
--- the events of the tree at node i, at the depth d, are added
-pub record Visited (l : List ℕ) (i d : ℕ) (out m : List ℕ) (n r : ℕ) : Type 0 where
-  pub is : {s : Sort} (t : Ast s) → Holds l i t → Grown out m n r (events_at d t)
+-- behind the events es, fs has those of the tree at node i, at the depth d
+pub record Visited (l : List ℕ) (i d : ℕ) (es fs : List Event) : Type 0 where
+  pub is : {s : Sort} (t : Ast s) → Holds l i t → fs ≡ es ++ events_at d t
 
 -- the same in a block of its own
-pub record Enclosed (l : List ℕ) (i d : ℕ) (out m : List ℕ) (n r : ℕ) : Type 0 where
-  pub is : {s : Sort} (t : Ast s) → Holds l i t → Grown out m n r (opens ∷ (events_at d t ++ closes ∷ []))
+pub record Enclosed (l : List ℕ) (i d : ℕ) (es fs : List Event) : Type 0 where
+  pub is : {s : Sort} (t : Ast s) → Holds l i t → fs ≡ es ++ (opens ∷ (events_at d t ++ closes ∷ []))

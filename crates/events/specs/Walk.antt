@@ -1,10 +1,9 @@
 -- What the walk over the node table of a program asks and answers.
-use Rattle.std.specs.Prelude.{ℕ, ◌+◌, ◌*◌, ◌≤◌, ◌<◌, ◌≡◌, List, length, get_or}
+use Rattle.std.specs.Prelude.{ℕ, ◌+◌, ◌*◌, ◌≤◌, ◌<◌, ◌≡◌, List, length}
 use Rattle.syntax.specs.Ast.{Sort, Ast, prog, low_first, high_number}
 use Rattle.syntax.specs.Ast as A
 use Rattle.syntax.specs.Table.{node_words, Holds}
-use Rattle.events.specs.Event.{events}
-use Rattle.events.specs.Stored.{event_words, stored}
+use Rattle.events.specs.Event.{Event, events}
 
 -- the tokens that a tree names are below m (a declaration and a negative number name the token after their first, too, and one with its own pair the numbers of both ends)
 unfoldable pub Below : {s : Sort} → ℕ → Ast s → Type 0
@@ -51,14 +50,12 @@ pub record Rooted (s : Sort) (l : List ℕ) (i : ℕ) : Type 0 where
   pub room : node_words * i + node_words ≤ length l
   pub few : i < 65536
 
--- a program stands at node i, and out has room for its events
-pub record Ready (l : List ℕ) (i : ℕ) (out : List ℕ) : Type 0 where
+-- a program stands at node i, and there is room for its events
+pub record Ready (l : List ℕ) (i : ℕ) : Type 0 where
   pub rooted : Rooted prog l i
   pub tokens : Below 65536 rooted.tree
-  pub space : event_words * length (events rooted.tree) ≤ length out
+  pub space : length (events rooted.tree) ≤ 4096
 
--- m has the r events of the program at node i, and after them what out had
-pub record Walked (l : List ℕ) (i : ℕ) (out m : List ℕ) (r : ℕ) : Type 0 where
-  pub total : (p : Ast prog) → Holds l i p → r ≡ length (events p)
-  pub holds : (p : Ast prog) → Holds l i p → stored m r ≡ events p
-  pub kept : (j : ℕ) → event_words * r ≤ j → get_or m j 0 ≡ get_or out j 0
+-- es are the events of the program at node i
+pub record Walked (l : List ℕ) (i : ℕ) (es : List Event) : Type 0 where
+  pub holds : (p : Ast prog) → Holds l i p → es ≡ events p

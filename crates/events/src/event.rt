@@ -1,38 +1,12 @@
-// An event of a text, and the three words that hold it in a slice.
-ghost use Rattle.std.specs.Prelude.{◌≡◌, ◌+◌, ◌*◌, ◌≤◌, length};
-ghost use Rattle.events.specs.Stored.{event_words, event_found_at};
+// The events of a text, in a list.
+ghost use Rattle.std.specs.Prelude.{◌≡◌, ◌<◌, ◌≤◌, List, [], ◌∷◌, ◌++◌, length, map, take};
+ghost use Rattle.events.specs.Event.{Event as Told};
 ghost use Rattle.events.specs.Read.{as_event};
 
-use syntax::wide;
-
-// The words of an event: its kind, a token, and one more.
-pub const EVENT_WORDS: usize = 3;
-
-pub const EVENT_TOKEN: usize = 1;
-
-pub const EVENT_MORE: usize = 2;
-
-// The kinds of events.
-pub const FUNCTION: u32 = 1;
-
-pub const PARAMETER: u32 = 2;
-
-pub const THING: u32 = 3;
-
-pub const OPENS: u32 = 4;
-
-pub const DECLARES: u32 = 5;
-
-pub const USES: u32 = 6;
-
-pub const CALLS: u32 = 7;
-
-pub const ENDS: u32 = 8;
-
-pub const CLOSES: u32 = 9;
+use std::marker::Model;
 
 // One event: tokens, but for a depth and a count.
-#[derive(Clone, Copy)]
+#[derive(Clone, Copy, PartialEq, Eq, Debug)]
 pub enum Event {
     Function(usize),
     Parameter(usize),
@@ -45,25 +19,56 @@ pub enum Event {
     Ends { token: usize, open: bool },
 }
 
-// Event k of the slice.
-pub fn event_at(events: &[u32], k: usize) -> Event
-    requires { event_words * k + event_words ≤ length events.now }
-    ensures { as_event result ≡ event_found_at events.now k }
-{
-    let token = wide(events[EVENT_WORDS * k + EVENT_TOKEN]);
-    let more = wide(events[EVENT_WORDS * k + EVENT_MORE]);
-    match events[EVENT_WORDS * k] {
-        FUNCTION => Event::Function(token),
-        PARAMETER => Event::Parameter(token),
-        THING => Event::Thing { depth: more, token },
-        OPENS => Event::Opens,
-        DECLARES => Event::Declares(token),
-        USES => Event::Uses(token),
-        CALLS => Event::Calls { token, count: more },
-        ENDS => Event::Ends {
-            token,
-            open: more != 0,
-        },
-        _ => Event::Closes,
+// How many events there is room for: two for each token of the longest text.
+pub const EVENTS: usize = 4096;
+
+// Events in their order. A clause sees the list of them.
+#[derive(Drop)]
+pub struct Events {
+    list: [Event; EVENTS],
+    count: usize,
+}
+
+impl Model for Events {
+    ghost Value = { List Told };
+
+    ghost view = { λ t. map as_event (take t.count t.list) };
+
+    ghost invariant = { λ t. (t.count ≤ 4096) × (length t.list ≡ 4096) };
+}
+
+impl Events {
+    // No events, with room for those of every text.
+    pub fn new() -> Events
+        ensures { result ≡ [] }
+    {
+        Events {
+            list: [Event::Opens; EVENTS],
+            count: 0,
+        }
+    }
+
+    // The events, first to last.
+    pub fn as_slice(&self) -> &[Event]
+        ensures events { map as_event result.now ≡ self.now }
+        ensures few { length self.now ≤ 4096 }
+    {
+        &self.list[..self.count]
+    }
+
+    // Adds an event behind the others.
+    pub fn push(&mut self, event: Event)
+        requires { length self.old < 4096 }
+        ensures { self.new ≡ self.old ++ as_event event ∷ [] }
+    {
+        self.list[self.count] = event;
+        self.count += 1;
+    }
+
+    // Takes all events out.
+    pub fn clear(&mut self)
+        ensures { self.new ≡ [] }
+    {
+        self.count = 0;
     }
 }

@@ -1,135 +1,101 @@
 use Prim.Native.Nat.{ℕ, ◌+◌}
 use mathlib.Core.Path.{refl, ap, ◌∙◌}
-use mathlib.Core.Logic.{inl, inr}
 use native.Mathlib.Omega.{arith}
-use Rattle.events.specs.Event.{thing, calls}
-use Rattle.events.specs.Stored.{event_of}
+use mathlib.Core.List.{[], ◌∷◌}
+use Rattle.events.specs.Event.{thing, calls, first, events_at}
 use Rattle.events.proofs.Laws.{grown-none, grown-then, grown-as, said, due, due-room, due-next, due-front, due-after, rooted-child, placed}
-use Rattle.events.proofs.Nodes.{at-kind, token-below, first_below, call-node, bracket-node, more-args-node, above-leaves, joint-low, joint-high, not-joint, joint-node, Joint}
+use Rattle.events.proofs.Nodes.{at-kind, other, call-node, bracket-node, more-args-node, joint, not-joint, joint-node}
 use Rattle.events.proofs.Leaves.{name-node, silent-node, silent-expression}
-use Rattle.events.proofs.+expression.Goals.{then-k-lt9, else-k-lt9+else-k-lt13+then-k-lt16}
 use Rattle.events.proofs.+expression.Goals as goal
 
-pub fetch-node-requires : goal.fetch-node-requires
-fetch-node-requires t c = omega (arith, c.requires.rooted.room, c.requires.rooted.few)
-
-pub emit-requires : goal.emit-requires
-emit-requires t c =
-    omega (arith, due-room (due c.requires (name-node _ c.fetch-node.ensures c.in-3.is c.requires.rooted.holds)), token-below c.fetch-node.ensures c.requires.rooted.holds c.requires.tokens)
+pub push-requires : goal.push-requires
+push-requires t c = due-room (due c.requires (name-node _ c.node-node.ensures c.in-Name.is c.requires.rooted.holds))
 
 pub arity-count-requires : goal.arity-count-requires
 arity-count-requires t c =
-    let v = call-node c.fetch-node.ensures c.in-4.is c.requires.rooted.holds in
+    let v = call-node c.node-node.ensures c.in-Call.is c.requires.rooted.holds in
     rooted-child c.requires.rooted v.falls v.holds
 
-pub emit-m-requires : goal.emit-m-requires
-emit-m-requires t c =
-    let v = call-node c.fetch-node.ensures c.in-4.is c.requires.rooted.holds in
-    omega (arith, due-room (due c.requires (v.events _)), token-below c.fetch-node.ensures c.requires.rooted.holds c.requires.tokens, c.arity-count.ensures.small, v.falls, c.requires.rooted.few)
-
-pub overflow_add-depth : goal.overflow_add-depth
-overflow_add-depth t c = omega (arith, c.requires.deep)
+pub push-requires-in-Call : goal.push-requires-in-Call
+push-requires-in-Call t c =
+    let v = call-node c.node-node.ensures c.in-Call.is c.requires.rooted.holds in
+    due-room (due c.requires (v.events _))
 
 pub expression-requires : goal.expression-requires
 expression-requires t c =
-    let v = call-node c.fetch-node.ensures c.in-4.is c.requires.rooted.holds in
-    (omega (arith, v.falls, c.decreases), placed refl c.requires.rooted v.falls v.holds (v.below c.requires.tokens) (omega (arith, v.falls, c.requires.deep)) (due-next (due c.requires (v.events _)) c.emit-m.ensures))
+    let v = call-node c.node-node.ensures c.in-Call.is c.requires.rooted.holds in
+    (omega (arith, v.falls, c.decreases), placed refl c.requires.rooted v.falls v.holds (v.below c.requires.tokens) (omega (arith, v.falls, c.requires.deep)) (due-next _ _ (due c.requires (v.events _)) c.push-in-Call.ensures))
 
-pub first_token-t-requires : goal.first_token-t-requires
-first_token-t-requires t c =
-    let v = bracket-node c.fetch-node.ensures c.in-5.is c.requires.rooted.holds in
+pub first_token-token-requires : goal.first_token-token-requires
+first_token-token-requires t c =
+    let v = bracket-node c.node-node.ensures c.in-Bracket.is c.requires.rooted.holds in
     rooted-child c.requires.rooted v.falls v.holds
 
-pub overflow_add-depth-in-5 : goal.overflow_add-depth-in-5
-overflow_add-depth-in-5 t c = omega (arith, c.requires.deep)
+pub push-requires-in-Bracket : goal.push-requires-in-Bracket
+push-requires-in-Bracket t c =
+    let v = bracket-node c.node-node.ensures c.in-Bracket.is c.requires.rooted.holds in
+    due-room (due c.requires (v.events _))
 
-pub emit-m-requires-in-5 : goal.emit-m-requires-in-5
-emit-m-requires-in-5 t c =
-    let v = bracket-node c.fetch-node.ensures c.in-5.is c.requires.rooted.holds in
-    omega (arith, due-room (due c.requires (v.events _)), c.first_token-t.ensures.is v.x v.holds, first_below 65536 v.x (v.below c.requires.tokens), c.requires.deep)
+pub expression-requires-in-Bracket : goal.expression-requires-in-Bracket
+expression-requires-in-Bracket t c =
+    let v = bracket-node c.node-node.ensures c.in-Bracket.is c.requires.rooted.holds in
+    (omega (arith, v.falls, c.decreases), placed refl c.requires.rooted v.falls v.holds (v.below c.requires.tokens) (omega (arith, v.falls, c.requires.deep)) (due-next _ _ (due c.requires (v.events _)) c.push-in-Bracket.ensures))
 
-pub overflow_add-depth-in-5-2 : goal.overflow_add-depth-in-5-2
-overflow_add-depth-in-5-2 t c = omega (arith, c.requires.deep)
-
-pub expression-requires-in-5 : goal.expression-requires-in-5
-expression-requires-in-5 t c =
-    let v = bracket-node c.fetch-node.ensures c.in-5.is c.requires.rooted.holds in
-    (omega (arith, v.falls, c.decreases), placed refl c.requires.rooted v.falls v.holds (v.below c.requires.tokens) (omega (arith, v.falls, c.requires.deep)) (due-next (due c.requires (v.events _)) c.emit-m-in-5.ensures))
-
-pub expression-m-requires : goal.expression-m-requires
-expression-m-requires t c =
-    let v = more-args-node c.fetch-node.ensures c.in-10.is c.requires.rooted.holds in
+pub expression-requires-in-MoreArgs : goal.expression-requires-in-MoreArgs
+expression-requires-in-MoreArgs t c =
+    let v = more-args-node c.node-node.ensures c.in-MoreArgs.is c.requires.rooted.holds in
     (omega (arith, v.falls, c.decreases), placed refl c.requires.rooted v.falls v.holds (v.below c.requires.tokens) (omega (arith, v.falls, c.requires.deep)) (due-front _ _ (due c.requires (v.events _))))
 
-pub first_token-t-requires-in-10 : goal.first_token-t-requires-in-10
-first_token-t-requires-in-10 t c =
-    let v = more-args-node c.fetch-node.ensures c.in-10.is c.requires.rooted.holds in
+pub first_token-token-requires-in-MoreArgs : goal.first_token-token-requires-in-MoreArgs
+first_token-token-requires-in-MoreArgs t c =
+    let v = more-args-node c.node-node.ensures c.in-MoreArgs.is c.requires.rooted.holds in
     rooted-child c.requires.rooted v.falls₂ v.holds₂
 
-pub emit-m-requires-in-10 : goal.emit-m-requires-in-10
-emit-m-requires-in-10 t c =
-    let v = more-args-node c.fetch-node.ensures c.in-10.is c.requires.rooted.holds in
-    omega (arith, due-room (due-after (due c.requires (v.events _)) (c.expression-m.ensures.is v.x v.holds)), c.first_token-t-in-10.ensures.is v.y v.holds₂, first_below 65536 v.y (v.below₂ c.requires.tokens), c.requires.deep)
+pub push-requires-in-MoreArgs : goal.push-requires-in-MoreArgs
+push-requires-in-MoreArgs t c =
+    let v = more-args-node c.node-node.ensures c.in-MoreArgs.is c.requires.rooted.holds in
+    due-room (due-after _ _ (due c.requires (v.events _)) (c.expression-in-MoreArgs.ensures.is v.x v.holds))
 
-pub expression-requires-in-10 : goal.expression-requires-in-10
-expression-requires-in-10 t c =
-    let v = more-args-node c.fetch-node.ensures c.in-10.is c.requires.rooted.holds in
-    (omega (arith, v.falls₂, c.decreases), placed refl c.requires.rooted v.falls₂ v.holds₂ (v.below₂ c.requires.tokens) (omega (arith, v.falls₂, c.requires.deep)) (due-next (due-after (due c.requires (v.events _)) (c.expression-m.ensures.is v.x v.holds)) c.emit-m-in-10.ensures))
+pub expression-requires-in-MoreArgs-2 : goal.expression-requires-in-MoreArgs-2
+expression-requires-in-MoreArgs-2 t c =
+    let v = more-args-node c.node-node.ensures c.in-MoreArgs.is c.requires.rooted.holds in
+    (omega (arith, v.falls₂, c.decreases), placed refl c.requires.rooted v.falls₂ v.holds₂ (v.below₂ c.requires.tokens) (omega (arith, v.falls₂, c.requires.deep)) (due-next _ _ (due-after _ _ (due c.requires (v.events _)) (c.expression-in-MoreArgs.ensures.is v.x v.holds)) c.push-in-MoreArgs.ensures))
 
-pub expression-m-requires-in-6 : goal.expression-m-requires-in-6
-expression-m-requires-in-6 t c =
-    let J : Joint c.fetch-node.result.kind = elim c.in-6-1.branch [ then-k-lt9 w ↦ joint-low (above-leaves c.if-k-lt3-1.false c.in_default-1.rest.0.0.0.1 c.in_default-1.rest.0.0.1 c.in_default-1.rest.0.1) w.if-k-lt9-1.true | else-k-lt9+else-k-lt13+then-k-lt16 w ↦ joint-high w.if-k-lt13-1.false w.if-k-lt16-1.true ] in
-    let w = joint-node J c.fetch-node.ensures c.requires.rooted.holds in
+pub expression-requires-in-Times : goal.expression-requires-in-Times
+expression-requires-in-Times t c =
+    let w = joint-node (joint c.in-Times.is) c.node-node.ensures c.requires.rooted.holds in
     let v = w.two in
     (omega (arith, v.falls, c.decreases), placed (w.same ∙ c.requires.part) c.requires.rooted v.falls v.holds (v.below c.requires.tokens) (omega (arith, v.falls, c.requires.deep)) (due-front _ _ (due c.requires (v.events _))))
 
-pub expression-requires-in-6 : goal.expression-requires-in-6
-expression-requires-in-6 t c =
-    let J : Joint c.fetch-node.result.kind = elim c.in-6-1.branch [ then-k-lt9 w ↦ joint-low (above-leaves c.if-k-lt3-1.false c.in_default-1.rest.0.0.0.1 c.in_default-1.rest.0.0.1 c.in_default-1.rest.0.1) w.if-k-lt9-1.true | else-k-lt9+else-k-lt13+then-k-lt16 w ↦ joint-high w.if-k-lt13-1.false w.if-k-lt16-1.true ] in
-    let w = joint-node J c.fetch-node.ensures c.requires.rooted.holds in
+pub expression-requires-in-Times-2 : goal.expression-requires-in-Times-2
+expression-requires-in-Times-2 t c =
+    let w = joint-node (joint c.in-Times.is) c.node-node.ensures c.requires.rooted.holds in
     let v = w.two in
-    (omega (arith, v.falls₂, c.decreases), placed (w.same₂ ∙ c.requires.part) c.requires.rooted v.falls₂ v.holds₂ (v.below₂ c.requires.tokens) (omega (arith, v.falls₂, c.requires.deep)) (due-after (due c.requires (v.events _)) (c.expression-m-in-6.ensures.is v.x v.holds)))
+    (omega (arith, v.falls₂, c.decreases), placed (w.same₂ ∙ c.requires.part) c.requires.rooted v.falls₂ v.holds₂ (v.below₂ c.requires.tokens) (omega (arith, v.falls₂, c.requires.deep)) (due-after _ _ (due c.requires (v.events _)) (c.expression-in-Times.ensures.is v.x v.holds)))
 
-pub returns-in-3 : goal.returns-in-3
-unfolding event_of
-returns-in-3 t c =
-    record { is = λ u h. grown-as (name-node _ c.fetch-node.ensures c.in-3.is h) c.emit.ensures }
+pub returns-in-Name : goal.returns-in-Name
+returns-in-Name t c = record { is = λ u h. grown-as _ (name-node _ c.node-node.ensures c.in-Name.is h) c.push.ensures }
 
-pub returns-in-4 : goal.returns-in-4
-unfolding event_of
-returns-in-4 t c =
-    record { is = λ u h. let v = call-node c.fetch-node.ensures c.in-4.is h in grown-as (v.events _) (grown-then (said (ap (λ (x : ℕ). calls c.fetch-node.result.token x) (c.arity-count.ensures.is v.x v.holds)) c.emit-m.ensures) (c.expression.ensures.is v.x v.holds)) }
+pub returns-in-Call : goal.returns-in-Call
+returns-in-Call t c = record { is = λ u h. let v = call-node c.node-node.ensures c.in-Call.is h in grown-as _ (v.events _) (grown-then _ _ _ (said _ (ap (λ (x : ℕ). calls c.node-node.result.token x) (c.arity-count.ensures.is v.x v.holds)) c.push-in-Call.ensures) (c.expression.ensures.is v.x v.holds)) }
 
-pub returns-in-5 : goal.returns-in-5
-unfolding event_of
-returns-in-5 t c =
-    record { is = λ u h. let v = bracket-node c.fetch-node.ensures c.in-5.is h in grown-as (v.events _) (grown-then (said (ap (λ (x : ℕ). thing (c.args.depth + 1) x) (c.first_token-t.ensures.is v.x v.holds)) c.emit-m-in-5.ensures) (c.expression-in-5.ensures.is v.x v.holds)) }
+pub returns-in-Bracket : goal.returns-in-Bracket
+returns-in-Bracket t c = record { is = λ u h. let v = bracket-node c.node-node.ensures c.in-Bracket.is h in grown-as _ (v.events _) (grown-then _ _ _ (said _ (ap (λ (x : ℕ). thing (c.args.depth + 1) x) (c.first_token-token.ensures.is v.x v.holds)) c.push-in-Bracket.ensures) (c.expression-in-Bracket.ensures.is v.x v.holds)) }
 
-pub returns-in-10 : goal.returns-in-10
-unfolding event_of
-returns-in-10 t c =
-    record { is = λ u h. let v = more-args-node c.fetch-node.ensures c.in-10.is h in grown-as (v.events _) (grown-then (c.expression-m.ensures.is v.x v.holds) (grown-then (said (ap (λ (x : ℕ). thing c.args.depth x) (c.first_token-t-in-10.ensures.is v.y v.holds₂)) c.emit-m-in-10.ensures) (c.expression-in-10.ensures.is v.y v.holds₂))) }
-
-pub returns-in-6 : goal.returns-in-6
-returns-in-6 t c =
+pub returns-in-MoreArgs : goal.returns-in-MoreArgs
+returns-in-MoreArgs t c =
     record {
       is = λ u h.
-          let J : Joint c.fetch-node.result.kind = elim c.in-6-1.branch [ then-k-lt9 w ↦ joint-low (above-leaves c.if-k-lt3-1.false c.in_default-1.rest.0.0.0.1 c.in_default-1.rest.0.0.1 c.in_default-1.rest.0.1) w.if-k-lt9-1.true | else-k-lt9+else-k-lt13+then-k-lt16 w ↦ joint-high w.if-k-lt13-1.false w.if-k-lt16-1.true ] in
-          let v = (joint-node J c.fetch-node.ensures h).two in
-          grown-as (v.events _) (grown-then (c.expression-m-in-6.ensures.is v.x v.holds) (c.expression-in-6.ensures.is v.y v.holds₂));
+          let v = more-args-node c.node-node.ensures c.in-MoreArgs.is h in
+          let d = c.args.depth in
+          grown-as _ (v.events d) (grown-then _ (events_at d v.x) (thing d (first v.y) ∷ events_at d v.y) (c.expression-in-MoreArgs.ensures.is v.x v.holds) (grown-then _ (thing d (first v.y) ∷ []) (events_at d v.y) (said _ (ap (λ (x : ℕ). thing d x) (c.first_token-token-in-MoreArgs.ensures.is v.y v.holds₂)) c.push-in-MoreArgs.ensures) (c.expression-in-MoreArgs-2.ensures.is v.y v.holds₂)));
     }
+
+pub returns-in-Times : goal.returns-in-Times
+returns-in-Times t c = record { is = λ u h. let v = (joint-node (joint c.in-Times.is) c.node-node.ensures h).two in grown-as _ (v.events _) (grown-then _ _ _ (c.expression-in-Times.ensures.is v.x v.holds) (c.expression-in-Times-2.ensures.is v.y v.holds₂)) }
 
 pub returns-in_default : goal.returns-in_default
 returns-in_default t c =
-    let S = silent-expression c.requires.part (at-kind _ c.fetch-node.ensures refl c.requires.rooted.holds) c.in_default.in_default-own.rest.0.0.0.1 c.in_default.in_default-own.rest.0.0.1 c.in_default.in_default-own.rest.0.1 (not-joint (inl (omega (arith, c.in_default.if-k-lt3-own.true)))) c.in_default.in_default-own.rest.1 in
-    record { is = λ u h. grown-as (silent-node _ S c.fetch-node.ensures h) (grown-none _ _) }
-
-pub returns-in_default-2 : goal.returns-in_default-2
-returns-in_default-2 t c =
-    let S = silent-expression c.requires.part (at-kind _ c.fetch-node.ensures refl c.requires.rooted.holds) c.in_default.in_default-own.rest.0.0.0.1 c.in_default.in_default-own.rest.0.0.1 c.in_default.in_default-own.rest.0.1 (not-joint (inr (inl (c.in_default.if-k-lt9-own.false, c.in_default.if-k-lt13-own.true)))) c.in_default.in_default-own.rest.1 in
-    record { is = λ u h. grown-as (silent-node _ S c.fetch-node.ensures h) (grown-none _ _) }
-
-pub returns-in_default-3 : goal.returns-in_default-3
-returns-in_default-3 t c =
-    let S = silent-expression c.requires.part (at-kind _ c.fetch-node.ensures refl c.requires.rooted.holds) c.in_default.in_default-own.rest.0.0.0.1 c.in_default.in_default-own.rest.0.0.1 c.in_default.in_default-own.rest.0.1 (not-joint (inr (inr c.in_default.if-k-lt16-own.false))) c.in_default.in_default-own.rest.1 in
-    record { is = λ u h. grown-as (silent-node _ S c.fetch-node.ensures h) (grown-none _ _) }
+    let n = c.in_default in
+    let S = silent-expression c.requires.part (at-kind _ c.node-node.ensures refl c.requires.rooted.holds) (other n.not-Name) (other n.not-Call) (other n.not-Bracket) (not-joint (other n.not-Times) (other n.not-Plus) (other n.not-Minus) (other n.not-Compare) (other n.not-Both) (other n.not-Either)) (other n.not-MoreArgs) in
+    record { is = λ u h. grown-none _ (silent-node _ S c.node-node.ensures h) }

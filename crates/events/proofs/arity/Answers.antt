@@ -1,26 +1,22 @@
-use mathlib.Core.Path.{sym}
-use native.Mathlib.Nat.{zero-add}
+use mathlib.Core.Path.{sym, ap}
 use native.Mathlib.Omega.{arith}
+use denote.Enum.Bare.{differs_true, differs_false}
+use Rattle.syntax.specs.NodeKinds.{node_number}
+use Rattle.syntax.specs.declared.node.NodeKind.TheVariants as kind
+use Rattle.syntax.specs.contracts.node.NodeKind.{the_type}
 use Rattle.events.proofs.Counting.{rest-step, rest-none}
+use Rattle.events.proofs.Nodes.{other}
 use Rattle.events.proofs.Steps.{counts-arguments}
 use Rattle.events.proofs.arity.Goals as goal
 
-pub loop-node-init : goal.loop-node-init
-loop-node-init c = (omega arith, λ a h. record { tree = a; holds = h; same = sym (zero-add _) })
-
-pub fetch-node-requires : goal.fetch-node-requires
-fetch-node-requires c = omega (arith, c.loop-node.invariant.0, c.requires.room, c.requires.few)
-
-pub returns-then-node-ne-MORE_ARGS : goal.returns-then-node-ne-MORE_ARGS
-returns-then-node-ne-MORE_ARGS c = record { small = omega (arith, c.loop-node.invariant.0); is = λ a h. rest-none counts-arguments c.if-node-ne-MORE_ARGS.true c.fetch-node.ensures (c.loop-node.invariant.1 a h) }
-
-pub overflow_add-count : goal.overflow_add-count
-overflow_add-count c = omega (arith, c.loop-node.invariant.0, c.requires.few)
+pub returns-then-ne : goal.returns-then-ne
+returns-then-ne c = record { small = omega (arith, c.loop-node.invariant.0); is = λ a h. rest-none counts-arguments (other {k = kind.MoreArgs} (differs_true the_type c.node-node.result.kind kind.MoreArgs (sym c.if-ne.ensures))) c.node-node.ensures (c.loop-node.invariant.1 a h) }
 
 pub loop-node-smaller : goal.loop-node-smaller
-loop-node-smaller c = (rest-step counts-arguments c.if-node-ne-MORE_ARGS.false c.fetch-node.ensures (c.loop-node.invariant.1 c.requires.tree c.requires.holds)).0
+loop-node-smaller c = (rest-step counts-arguments (ap node_number (differs_false the_type tt c.node-node.result.kind kind.MoreArgs (sym c.if-ne.ensures))) c.node-node.ensures (c.loop-node.invariant.1 c.requires.tree c.requires.holds)).0
 
 pub loop-node-preserved : goal.loop-node-preserved
 loop-node-preserved c =
-    let w = (rest-step counts-arguments c.if-node-ne-MORE_ARGS.false c.fetch-node.ensures (c.loop-node.invariant.1 c.requires.tree c.requires.holds)).0 in
-    (omega (arith, w, c.loop-node.invariant.0), λ a h. (rest-step counts-arguments c.if-node-ne-MORE_ARGS.false c.fetch-node.ensures (c.loop-node.invariant.1 a h)).1)
+    let e = ap node_number (differs_false the_type tt c.node-node.result.kind kind.MoreArgs (sym c.if-ne.ensures)) in
+    let w = (rest-step counts-arguments e c.node-node.ensures (c.loop-node.invariant.1 c.requires.tree c.requires.holds)).0 in
+    (omega (arith, w, c.loop-node.invariant.0), λ a h. (rest-step counts-arguments e c.node-node.ensures (c.loop-node.invariant.1 a h)).1)
