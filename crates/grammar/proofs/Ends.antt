@@ -33,7 +33,7 @@ minus-inside {ks} {at} r e = go (dec_lt (at + 1) (length ks))
     go (no p) = absurd (eqb-false k_minus 0 refl (sym e ∙ r.ends at (omega (arith, p, r.inside))))
 
 pub inside_of : {ks l : List ℕ} {at n : ℕ} → Ready ks l at n → Inside ks at
-inside_of r = record { inside = r.inside; ends = r.ends }
+inside_of r = record { inside = r.inside; few = r.few; ends = r.ends }
 
 -- ---- the reader of an end
 
@@ -55,6 +55,7 @@ module _ {c : Cat} {ks l m : List ℕ} {n at rank g f x z : ℕ} {whole : ℕ �
         ready = record { inside = i; few = u.ready.few; room = u.ready.room; below = omega (arith, u.ready.below, e); ends = u.ready.ends };
         from = u.from;
         under = u.under;
+        long = u.long;
         same = u.same;
         more = u.more;
         fit = omega (arith, u.fit, e);

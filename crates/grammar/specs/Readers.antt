@@ -1,17 +1,29 @@
 -- What the readers promise each other. A user of `parse` needs Answer alone.
-use Rattle.std.specs.Prelude.{ℕ, suc, ◌+◌, ◌*◌, ◌≤◌, ◌<◌, ◌≡◌, Bool, true, false, List, length, get_or, eqb}
+use Rattle.std.specs.Prelude.{ℕ, suc, ◌+◌, ◌*◌, ◌≤◌, ◌<◌, ◌≡◌, Bool, true, false, List, length, get_or, eqb, Option, Some, None, Result, Ok, Err}
 use Rattle.syntax.specs.Token.{k_plus, k_minus, k_less, k_less_eq, k_greater, k_greater_eq, k_equal, k_unequal}
 use Rattle.syntax.specs.Tree.{Cat, Tree, no_stmts}
 use Rattle.syntax.specs.Abstract.{ast}
-use Rattle.syntax.specs.Table.{row, Row, Holds, n_plus, n_minus}
+use Rattle.syntax.specs.Table.{row, Row, Holds}
+use Rattle.syntax.specs.declared.node.NodeKind.{NodeKind}
+use Rattle.syntax.specs.declared.node.NodeKind.TheVariants.{Plus, Minus}
 use Rattle.syntax.proofs.Rows.{Same}
 use Rattle.grammar.specs.Parse.{Res, ok, bad, read_ended, more_body}
 use Rattle.grammar.specs.declared.Read.{Read}
-use Rattle.grammar.specs.declared.Read.TheVariants.{Found, Bad}
+
+-- what a reader answers: a tree is read up to a token, its root is a node, and so many nodes are there
+abbrev pub read_to : ℕ → ℕ → ℕ → Read
+read_to x y z = record { next = x; root = y; count = z }
+
+abbrev pub Found : ℕ → ℕ → ℕ → Result Read ℕ
+Found x y z = Ok (read_to x y z)
+
+-- or that a token does not fit
+abbrev pub Bad : ℕ → Result Read ℕ
+Bad p = Err p
 
 -- node n is written, and that is answered
 pub record Stored (l m : List ℕ) (n next k t a b c : ℕ) (r : Read) : Type 0 where
-  pub answer : r ≡ Found next n (n + 1)
+  pub answer : r ≡ read_to next n (n + 1)
   pub table : m ≡ row l n k t a b c
 
 -- whether a minus stands at `at`
@@ -21,6 +33,7 @@ is_minus ks at = eqb (get_or ks at 0) k_minus
 -- `at` is a token, and the last token is the end
 pub record Inside (ks : List ℕ) (at : ℕ) : Type 0 where
   pub inside : at < length ks
+  pub few : length ks ≤ 4096
   pub ends : (a : ℕ) → suc a ≡ length ks → get_or ks a 0 ≡ 0
 
 -- what a reader asks: `at` is a token, the last token is the end, there is room for two nodes for each token, and no more are used so far
@@ -33,7 +46,7 @@ pub record Ready (ks l : List ℕ) (at n : ℕ) : Type 0 where
 
 -- what a reader that starts at `at` with n nodes answers, by what the definition gives:
 -- the tree stands in the table m, the nodes below n are as in l, and there are not more than two nodes for each token, less s
-pub data Gives (ks l m : List ℕ) (s n at : ℕ) {c : Cat} : Read → Res c → Type 0 where
+pub data Gives (ks l m : List ℕ) (s n at : ℕ) {c : Cat} : Result Read ℕ → Res c → Type 0 where
   tree : {t : Tree c} {next root count : ℕ} → next < length ks → root < count → n ≤ count → count + 2 * at + s ≤ n + 2 * next
       → Same n l m → Holds m root (ast t) → Gives ks l m s n at (Found next root count) (ok t next)
   none : {p : ℕ} → Gives ks l m s n at (Bad p) (bad p)
@@ -43,17 +56,18 @@ abbrev pub Fuel : List ℕ → ℕ → ℕ → ℕ → Type 0
 Fuel ks rank d at = 8 * length ks + rank ≤ d + 8 * at
 
 -- what a reader promises, by the definition's reader
-pub record Fresh {c : Cat} (ks l m : List ℕ) (s n at rank : ℕ) (r : Read) (read : ℕ → ℕ → Res c) : Type 0 where
+pub record Fresh {c : Cat} (ks l m : List ℕ) (s n at rank : ℕ) (r : Result Read ℕ) (read : ℕ → ℕ → Res c) : Type 0 where
   pub res : Res c
   pub reads : (d : ℕ) → Fuel ks rank d at → read d at ≡ res
   pub gives : Gives ks l m s n at r res
+  pub long : length m ≡ length l
 
 -- the same of a reader that goes on from a tree at node left
-pub record Rest {c e : Cat} (ks l m : List ℕ) (s n left at rank : ℕ) (r : Read) (more : ℕ → Tree c → ℕ → Res e) : Type 0 where
+pub record Rest {c e : Cat} (ks l m : List ℕ) (s n left at rank : ℕ) (r : Result Read ℕ) (more : ℕ → Tree c → ℕ → Res e) : Type 0 where
   pub after : (u : Tree c) → Holds l left (ast u) → Fresh ks l m s n at rank r (λ d. more d u)
 
 -- the same of the reader of statements with the closing brace
-pub record Bodies (ks l m : List ℕ) (n at : ℕ) (r : Read) : Type 0 where
+pub record Bodies (ks l m : List ℕ) (n at : ℕ) (r : Result Read ℕ) : Type 0 where
   pub all : Fresh ks l m 0 n at 8 r (λ d. more_body ks d no_stmts)
 
 -- a node of kind k over an expression, with the token j, is the statement w
@@ -61,18 +75,26 @@ pub record Makes (k j : ℕ) (w : Tree Cat.sum → Tree Cat.stmt) : Type 0 where
   pub make : {l : List ℕ} {i a : ℕ} (t : Tree Cat.sum) → Row l i k j a 0 0 → a < i → Holds l a (ast t) → Holds l i (ast (w t))
 
 -- what the reader of e ; promises
-pub record Ended (ks l m : List ℕ) (n at k j : ℕ) (r : Read) : Type 0 where
+pub record Ended (ks l m : List ℕ) (n at k j : ℕ) (r : Result Read ℕ) : Type 0 where
   pub ended : (w : Tree Cat.sum → Tree Cat.stmt) → Makes k j w → Fresh ks l m 1 n at 5 r (read_ended ks w)
 
-abbrev pub choose : Bool → ℕ → ℕ → ℕ
+-- whether the token at `at` is of the kind k; if not, its number is told
+abbrev pub expected : Bool → ℕ → Result (Unit {0}) ℕ
+expected true at = Ok tt
+expected false at = Err at
+
+pub record Expected (ks : List ℕ) (at k : ℕ) (r : Result (Unit {0}) ℕ) : Type 0 where
+  pub answer : r ≡ expected (eqb (get_or ks at 0) k) at
+
+abbrev pub choose : {A : Type 0} → Bool → A → A → A
 choose true a b = a
 choose false a b = b
 
--- the node of a sum by its mark, or 0
-abbrev pub sign_of : ℕ → ℕ
-sign_of k = choose (eqb k k_plus) n_plus (choose (eqb k k_minus) n_minus 0)
+-- the node of a sum by its mark
+abbrev pub sign_of : ℕ → Option NodeKind
+sign_of k = choose (eqb k k_plus) (Some Plus) (choose (eqb k k_minus) (Some Minus) None)
 
--- a comparison's number by its mark, or 6
-abbrev pub comparison_of : ℕ → ℕ
+-- a comparison's number by its mark
+abbrev pub comparison_of : ℕ → Option ℕ
 comparison_of k =
-    choose (eqb k k_less) 0 (choose (eqb k k_less_eq) 1 (choose (eqb k k_greater) 2 (choose (eqb k k_greater_eq) 3 (choose (eqb k k_equal) 4 (choose (eqb k k_unequal) 5 6)))))
+    choose (eqb k k_less) (Some 0) (choose (eqb k k_less_eq) (Some 1) (choose (eqb k k_greater) (Some 2) (choose (eqb k k_greater_eq) (Some 3) (choose (eqb k k_equal) (Some 4) (choose (eqb k k_unequal) (Some 5) None)))))

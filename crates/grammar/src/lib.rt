@@ -3,744 +3,648 @@
 
 ghost use Rattle.std.specs.Prelude.{◌≡◌, ◌+◌, ◌*◌, ◌≤◌, ◌<◌, length};
 ghost use Rattle.syntax.specs.Ast.{bit};
+ghost use Rattle.syntax.specs.TokenKinds.{kind_number};
+ghost use Rattle.syntax.specs.NodeKinds.{node_number};
 ghost use Rattle.grammar.specs.Parse.{read_operand, read_bracket, read_call, read_args, more_args, read_term, more_term, read_sum, more_sum, read_atom, read_conj, more_conj, read_cond, more_cond, read_guard, read_own, read_decl, read_named, read_fail, read_stmt, read_block, read_if, read_while, more_body, read_params, more_params, read_fun, more_prog, parsed};
-ghost use Rattle.grammar.specs.Readers.{Stored, is_minus, Inside, Ready, Fresh, Rest, Ended, Bodies, sign_of, comparison_of};
+ghost use Rattle.grammar.specs.Readers.{Stored, is_minus, Inside, Ready, Fresh, Rest, Ended, Bodies, sign_of, comparison_of, Expected};
 ghost use Rattle.grammar.specs.Answer.{Tabled, Parses};
 
-use syntax::{Node, kind, put, token};
+use syntax::node::{Node, NodeKind, Nodes};
+use syntax::source::Source;
+use syntax::token::TokenKind;
 
-// What a reader answers: a tree's root, the number of the token after it and the count of nodes; or the number of the token that does not fit.
-#[derive(Drop)]
-enum Read {
-    Found {
-        next: usize,
-        root: usize,
-        count: usize,
-    },
-    Bad(usize),
+// What a reader answers: a tree's root, the number of the token after it and the count of nodes. Its error is the number of the token that does not fit.
+#[derive(Clone, Copy, PartialEq, Eq, Debug)]
+struct Read {
+    next: usize,
+    root: usize,
+    count: usize,
 }
 
-// The answer of `parse`: the root of the program's tree and the count of nodes; or the number of the first token that no program could have there.
-#[derive(Drop)]
-pub enum Parsed {
-    Tree { root: usize, count: usize },
-    Bad(usize),
+// The token at `at` has to be of this kind.
+fn expect(source: &Source, at: usize, kind: TokenKind) -> Result<(), usize>
+    ensures { Expected source.now.kinds at (kind_number kind) result }
+{
+    if source.kind(at) == kind {
+        return Ok(());
+    }
+    Err(at)
 }
 
 // Writes node n and answers that it was read, up to token `next`.
 fn store(
-    nodes: &mut [u32],
+    nodes: &mut Nodes,
     n: usize,
     next: usize,
-    made: u32,
-    word: usize,
-    a: usize,
-    b: usize,
-    c: usize,
+    kind: NodeKind,
+    token: usize,
+    first: usize,
+    second: usize,
+    third: usize,
 ) -> Read
-    requires { (5 * n + 5 ≤ length nodes.old) × (n < 65535) × (word < 65536) × (a < 65536) × (b < 65536) × (c < 65536) }
-    ensures { Stored nodes.old nodes.new n next made word a b c result }
+    requires { (5 * n + 5 ≤ length nodes.old) × (n < 65535) }
+    ensures { Stored nodes.old nodes.new n next (node_number kind) token first second third result }
 {
-    put(
-        nodes,
+    nodes.put(
         n,
         Node {
-            kind: made,
-            token: word,
-            first: a,
-            second: b,
-            third: c,
+            kind,
+            token,
+            first,
+            second,
+            third,
         },
     );
-    Read::Found {
+    Read {
         next,
         root: n,
         count: n + 1,
     }
 }
 
-// The node of a sum by its mark, or 0.
-fn sign(k: u8) -> u32
-    ensures { result ≡ sign_of k }
+// The node of a sum by its mark.
+fn sign(k: TokenKind) -> Option<NodeKind>
+    ensures { result ≡ sign_of (kind_number k) }
 {
-    if k == token::PLUS {
-        return kind::PLUS;
+    match k {
+        TokenKind::Plus => Some(NodeKind::Plus),
+        TokenKind::Minus => Some(NodeKind::Minus),
+        _ => None,
     }
-    if k == token::MINUS {
-        return kind::MINUS;
-    }
-    0
 }
 
-// The comparison's number by its mark, or 6.
-fn comparison(k: u8) -> usize
-    ensures { result ≡ comparison_of k }
+// The comparison's number by its mark.
+fn comparison(k: TokenKind) -> Option<usize>
+    ensures { result ≡ comparison_of (kind_number k) }
 {
-    if k == token::LESS {
-        return 0;
+    match k {
+        TokenKind::Less => Some(0),
+        TokenKind::LessEq => Some(1),
+        TokenKind::Greater => Some(2),
+        TokenKind::GreaterEq => Some(3),
+        TokenKind::Equal => Some(4),
+        TokenKind::Unequal => Some(5),
+        _ => None,
     }
-    if k == token::LESS_EQ {
-        return 1;
-    }
-    if k == token::GREATER {
-        return 2;
-    }
-    if k == token::GREATER_EQ {
-        return 3;
-    }
-    if k == token::EQUAL {
-        return 4;
-    }
-    if k == token::UNEQUAL {
-        return 5;
-    }
-    6
 }
 
 // An expression: terms with + and - between, left to right.
 #[cycle(arguments_bracketed_expression_more_arguments_more_expression_more_term_named_operand_term)]
-fn expression(kinds: &[u8], at: usize, nodes: &mut [u32], n: usize) -> Read
-    requires { Ready kinds.now nodes.old at n }
-    ensures { Fresh kinds.now nodes.old nodes.new 1 n at 4 result (read_sum kinds.now) }
+fn expression(source: &Source, at: usize, nodes: &mut Nodes, n: usize) -> Result<Read, usize>
+    requires { Ready source.now.kinds nodes.old at n }
+    ensures { Fresh source.now.kinds nodes.old nodes.new 1 n at 4 result (read_sum source.now.kinds) }
 {
-    let first = term(kinds, at, nodes, n);
-    let Read::Found { next, root, count } = first else {
-        return first;
-    };
-    more_expression(kinds, next, nodes, count, root)
+    let Read { next, root, count } = term(source, at, nodes, n)?;
+    more_expression(source, next, nodes, count, root)
 }
 
 // What follows the expression at node left.
 #[cycle(arguments_bracketed_expression_more_arguments_more_expression_more_term_named_operand_term)]
-fn more_expression(kinds: &[u8], at: usize, nodes: &mut [u32], n: usize, left: usize) -> Read
-    requires { Ready kinds.now nodes.old at n × (left < n) }
-    ensures { Rest kinds.now nodes.old nodes.new 0 n left at 1 result (more_sum kinds.now) }
+fn more_expression(
+    source: &Source,
+    at: usize,
+    nodes: &mut Nodes,
+    n: usize,
+    left: usize,
+) -> Result<Read, usize>
+    requires { Ready source.now.kinds nodes.old at n × (left < n) }
+    ensures { Rest source.now.kinds nodes.old nodes.new 0 n left at 1 result (more_sum source.now.kinds) }
 {
-    let mark = sign(kinds[at]);
-    if mark == 0 {
-        return Read::Found {
+    let Some(mark) = sign(source.kind(at)) else {
+        return Ok(Read {
             next: at,
             root: left,
             count: n,
-        };
-    }
-    let right = term(kinds, at + 1, nodes, n);
-    let Read::Found { next, root, count } = right else {
-        return right;
+        });
     };
+    let Read { next, root, count } = term(source, at + 1, nodes, n)?;
     store(nodes, count, next, mark, 0, left, root, 0);
-    more_expression(kinds, next, nodes, count + 1, count)
+    more_expression(source, next, nodes, count + 1, count)
 }
 
 // A term: operands with * between, left to right.
 #[cycle(arguments_bracketed_expression_more_arguments_more_expression_more_term_named_operand_term)]
-fn term(kinds: &[u8], at: usize, nodes: &mut [u32], n: usize) -> Read
-    requires { Ready kinds.now nodes.old at n }
-    ensures { Fresh kinds.now nodes.old nodes.new 1 n at 3 result (read_term kinds.now) }
+fn term(source: &Source, at: usize, nodes: &mut Nodes, n: usize) -> Result<Read, usize>
+    requires { Ready source.now.kinds nodes.old at n }
+    ensures { Fresh source.now.kinds nodes.old nodes.new 1 n at 3 result (read_term source.now.kinds) }
 {
-    let first = operand(kinds, at, nodes, n);
-    let Read::Found { next, root, count } = first else {
-        return first;
-    };
-    more_term(kinds, next, nodes, count, root)
+    let Read { next, root, count } = operand(source, at, nodes, n)?;
+    more_term(source, next, nodes, count, root)
 }
 
 // What follows the term at node left.
 #[cycle(arguments_bracketed_expression_more_arguments_more_expression_more_term_named_operand_term)]
-fn more_term(kinds: &[u8], at: usize, nodes: &mut [u32], n: usize, left: usize) -> Read
-    requires { Ready kinds.now nodes.old at n × (left < n) }
-    ensures { Rest kinds.now nodes.old nodes.new 0 n left at 1 result (more_term kinds.now) }
+fn more_term(
+    source: &Source,
+    at: usize,
+    nodes: &mut Nodes,
+    n: usize,
+    left: usize,
+) -> Result<Read, usize>
+    requires { Ready source.now.kinds nodes.old at n × (left < n) }
+    ensures { Rest source.now.kinds nodes.old nodes.new 0 n left at 1 result (more_term source.now.kinds) }
 {
-    if kinds[at] != token::TIMES {
-        return Read::Found {
+    let TokenKind::Times = source.kind(at) else {
+        return Ok(Read {
             next: at,
             root: left,
             count: n,
-        };
-    }
-    let right = operand(kinds, at + 1, nodes, n);
-    let Read::Found { next, root, count } = right else {
-        return right;
+        });
     };
-    store(nodes, count, next, kind::TIMES, 0, left, root, 0);
-    more_term(kinds, next, nodes, count + 1, count)
+    let Read { next, root, count } = operand(source, at + 1, nodes, n)?;
+    store(nodes, count, next, NodeKind::Times, 0, left, root, 0);
+    more_term(source, next, nodes, count + 1, count)
 }
 
 // An operand: a number, - with a number, a name, a call or an expression in brackets.
 #[cycle(arguments_bracketed_expression_more_arguments_more_expression_more_term_named_operand_term)]
-fn operand(kinds: &[u8], at: usize, nodes: &mut [u32], n: usize) -> Read
-    requires { Ready kinds.now nodes.old at n }
-    ensures { Fresh kinds.now nodes.old nodes.new 1 n at 2 result (read_operand kinds.now) }
+fn operand(source: &Source, at: usize, nodes: &mut Nodes, n: usize) -> Result<Read, usize>
+    requires { Ready source.now.kinds nodes.old at n }
+    ensures { Fresh source.now.kinds nodes.old nodes.new 1 n at 2 result (read_operand source.now.kinds) }
 {
-    let k = kinds[at];
-    if k == token::NUMBER {
-        return store(nodes, n, at + 1, kind::NUMBER, at, 0, 0, 0);
-    }
-    if k == token::MINUS {
-        if kinds[at + 1] != token::NUMBER {
-            return Read::Bad(at + 1);
+    match source.kind(at) {
+        TokenKind::Number => Ok(store(nodes, n, at + 1, NodeKind::Number, at, 0, 0, 0)),
+        TokenKind::Minus => {
+            expect(source, at + 1, TokenKind::Number)?;
+            Ok(store(nodes, n, at + 1 + 1, NodeKind::Negative, at, 0, 0, 0))
         }
-        return store(nodes, n, at + 1 + 1, kind::NEGATIVE, at, 0, 0, 0);
+        TokenKind::Name => named(source, at, nodes, n),
+        TokenKind::Open => bracketed(source, at, nodes, n),
+        _ => Err(at),
     }
-    if k == token::NAME {
-        return named(kinds, at, nodes, n);
-    }
-    if k == token::OPEN {
-        return bracketed(kinds, at, nodes, n);
-    }
-    Read::Bad(at)
 }
 
 // An expression in brackets; the opening one is at `at`.
 #[cycle(arguments_bracketed_expression_more_arguments_more_expression_more_term_named_operand_term)]
-fn bracketed(kinds: &[u8], at: usize, nodes: &mut [u32], n: usize) -> Read
-    requires { Ready kinds.now nodes.old at n × (at + 1 < length kinds.now) }
-    ensures { Fresh kinds.now nodes.old nodes.new 1 n at 1 result (read_bracket kinds.now) }
+fn bracketed(source: &Source, at: usize, nodes: &mut Nodes, n: usize) -> Result<Read, usize>
+    requires { Ready source.now.kinds nodes.old at n × (at + 1 < length source.now.kinds) }
+    ensures { Fresh source.now.kinds nodes.old nodes.new 1 n at 1 result (read_bracket source.now.kinds) }
 {
-    let inner = expression(kinds, at + 1, nodes, n);
-    let Read::Found { next, root, count } = inner else {
-        return inner;
-    };
-    if kinds[next] != token::CLOSE {
-        return Read::Bad(next);
-    }
-    store(nodes, count, next + 1, kind::BRACKET, at, root, 0, 0)
+    let Read { next, root, count } = expression(source, at + 1, nodes, n)?;
+    expect(source, next, TokenKind::Close)?;
+    Ok(store(nodes, count, next + 1, NodeKind::Bracket, at, root, 0, 0))
 }
 
 // A name or a call; the name is at `at`.
 #[cycle(arguments_bracketed_expression_more_arguments_more_expression_more_term_named_operand_term)]
-fn named(kinds: &[u8], at: usize, nodes: &mut [u32], n: usize) -> Read
-    requires { Ready kinds.now nodes.old at n × (at + 1 < length kinds.now) }
-    ensures { Fresh kinds.now nodes.old nodes.new 1 n at 1 result (read_call kinds.now) }
+fn named(source: &Source, at: usize, nodes: &mut Nodes, n: usize) -> Result<Read, usize>
+    requires { Ready source.now.kinds nodes.old at n × (at + 1 < length source.now.kinds) }
+    ensures { Fresh source.now.kinds nodes.old nodes.new 1 n at 1 result (read_call source.now.kinds) }
 {
-    if kinds[at + 1] != token::OPEN {
-        return store(nodes, n, at + 1, kind::NAME, at, 0, 0, 0);
-    }
-    let list = arguments(kinds, at + 1 + 1, nodes, n);
-    let Read::Found { next, root, count } = list else {
-        return list;
+    let TokenKind::Open = source.kind(at + 1) else {
+        return Ok(store(nodes, n, at + 1, NodeKind::Name, at, 0, 0, 0));
     };
-    store(nodes, count, next, kind::CALL, at, root, 0, 0)
+    let Read { next, root, count } = arguments(source, at + 1 + 1, nodes, n)?;
+    Ok(store(nodes, count, next, NodeKind::Call, at, root, 0, 0))
 }
 
 // The arguments of a call with the closing bracket: a node for none, and one for each argument.
 #[cycle(arguments_bracketed_expression_more_arguments_more_expression_more_term_named_operand_term)]
-fn arguments(kinds: &[u8], at: usize, nodes: &mut [u32], n: usize) -> Read
-    requires { Ready kinds.now nodes.old at (n + 1) }
-    ensures { Fresh kinds.now nodes.old nodes.new 1 n at 5 result (read_args kinds.now) }
+fn arguments(source: &Source, at: usize, nodes: &mut Nodes, n: usize) -> Result<Read, usize>
+    requires { Ready source.now.kinds nodes.old at (n + 1) }
+    ensures { Fresh source.now.kinds nodes.old nodes.new 1 n at 5 result (read_args source.now.kinds) }
 {
-    store(nodes, n, at, kind::NO_ARGS, 0, 0, 0, 0);
-    if kinds[at] == token::CLOSE {
-        return Read::Found {
+    store(nodes, n, at, NodeKind::NoArgs, 0, 0, 0, 0);
+    if source.kind(at) == TokenKind::Close {
+        return Ok(Read {
             next: at + 1,
             root: n,
             count: n + 1,
-        };
+        });
     }
-    let first = expression(kinds, at, nodes, n + 1);
-    let Read::Found { next, root, count } = first else {
-        return first;
-    };
-    store(nodes, count, next, kind::MORE_ARGS, 0, n, root, 0);
-    more_arguments(kinds, next, nodes, count + 1, count)
+    let Read { next, root, count } = expression(source, at, nodes, n + 1)?;
+    store(nodes, count, next, NodeKind::MoreArgs, 0, n, root, 0);
+    more_arguments(source, next, nodes, count + 1, count)
 }
 
 // What follows the arguments at node left.
 #[cycle(arguments_bracketed_expression_more_arguments_more_expression_more_term_named_operand_term)]
-fn more_arguments(kinds: &[u8], at: usize, nodes: &mut [u32], n: usize, left: usize) -> Read
-    requires { Ready kinds.now nodes.old at n × (left < n) }
-    ensures { Rest kinds.now nodes.old nodes.new 2 n left at 1 result (more_args kinds.now) }
+fn more_arguments(
+    source: &Source,
+    at: usize,
+    nodes: &mut Nodes,
+    n: usize,
+    left: usize,
+) -> Result<Read, usize>
+    requires { Ready source.now.kinds nodes.old at n × (left < n) }
+    ensures { Rest source.now.kinds nodes.old nodes.new 2 n left at 1 result (more_args source.now.kinds) }
 {
-    let k = kinds[at];
-    if k == token::CLOSE {
-        return Read::Found {
+    match source.kind(at) {
+        TokenKind::Close => Ok(Read {
             next: at + 1,
             root: left,
             count: n,
-        };
+        }),
+        TokenKind::Comma => {
+            let Read { next, root, count } = expression(source, at + 1, nodes, n)?;
+            store(nodes, count, next, NodeKind::MoreArgs, 0, left, root, 0);
+            more_arguments(source, next, nodes, count + 1, count)
+        }
+        _ => Err(at),
     }
-    if k != token::COMMA {
-        return Read::Bad(at);
-    }
-    let right = expression(kinds, at + 1, nodes, n);
-    let Read::Found { next, root, count } = right else {
-        return right;
-    };
-    store(nodes, count, next, kind::MORE_ARGS, 0, left, root, 0);
-    more_arguments(kinds, next, nodes, count + 1, count)
 }
 
 // An operand of a condition: true, false or a comparison.
-fn atom(kinds: &[u8], at: usize, nodes: &mut [u32], n: usize) -> Read
-    requires { Ready kinds.now nodes.old at n }
-    ensures { Fresh kinds.now nodes.old nodes.new 1 n at 5 result (read_atom kinds.now) }
+fn atom(source: &Source, at: usize, nodes: &mut Nodes, n: usize) -> Result<Read, usize>
+    requires { Ready source.now.kinds nodes.old at n }
+    ensures { Fresh source.now.kinds nodes.old nodes.new 1 n at 5 result (read_atom source.now.kinds) }
 {
-    let k = kinds[at];
-    if k == token::TRUE {
-        return store(nodes, n, at + 1, kind::ALWAYS, 0, 0, 0, 0);
+    match source.kind(at) {
+        TokenKind::True => Ok(store(nodes, n, at + 1, NodeKind::Always, 0, 0, 0, 0)),
+        TokenKind::False => Ok(store(nodes, n, at + 1, NodeKind::Never, 0, 0, 0, 0)),
+        _ => {
+            let Read { next, root, count } = expression(source, at, nodes, n)?;
+            let Some(mark) = comparison(source.kind(next)) else {
+                return Err(next);
+            };
+            let Read {
+                next,
+                root: other,
+                count,
+            } = expression(source, next + 1, nodes, count)?;
+            Ok(store(nodes, count, next, NodeKind::Compare, 0, root, other, mark))
+        }
     }
-    if k == token::FALSE {
-        return store(nodes, n, at + 1, kind::NEVER, 0, 0, 0, 0);
-    }
-    let left = expression(kinds, at, nodes, n);
-    let Read::Found { next, root, count } = left else {
-        return left;
-    };
-    let mark = comparison(kinds[next]);
-    if mark == 6 {
-        return Read::Bad(next);
-    }
-    let right = expression(kinds, next + 1, nodes, count);
-    let Read::Found {
-        next: end,
-        root: other,
-        count: all,
-    } = right
-    else {
-        return right;
-    };
-    store(nodes, all, end, kind::COMPARE, 0, root, other, mark)
 }
 
 // Operands of a condition with && between, left to right.
-fn conjunction(kinds: &[u8], at: usize, nodes: &mut [u32], n: usize) -> Read
-    requires { Ready kinds.now nodes.old at n }
-    ensures { Fresh kinds.now nodes.old nodes.new 1 n at 6 result (read_conj kinds.now) }
+fn conjunction(source: &Source, at: usize, nodes: &mut Nodes, n: usize) -> Result<Read, usize>
+    requires { Ready source.now.kinds nodes.old at n }
+    ensures { Fresh source.now.kinds nodes.old nodes.new 1 n at 6 result (read_conj source.now.kinds) }
 {
-    let first = atom(kinds, at, nodes, n);
-    let Read::Found { next, root, count } = first else {
-        return first;
-    };
-    more_conjunction(kinds, next, nodes, count, root)
+    let Read { next, root, count } = atom(source, at, nodes, n)?;
+    more_conjunction(source, next, nodes, count, root)
 }
 
 // What follows the conjunction at node left.
-fn more_conjunction(kinds: &[u8], at: usize, nodes: &mut [u32], n: usize, left: usize) -> Read
-    requires { Ready kinds.now nodes.old at n × (left < n) }
-    ensures { Rest kinds.now nodes.old nodes.new 0 n left at 1 result (more_conj kinds.now) }
+fn more_conjunction(
+    source: &Source,
+    at: usize,
+    nodes: &mut Nodes,
+    n: usize,
+    left: usize,
+) -> Result<Read, usize>
+    requires { Ready source.now.kinds nodes.old at n × (left < n) }
+    ensures { Rest source.now.kinds nodes.old nodes.new 0 n left at 1 result (more_conj source.now.kinds) }
 {
-    if kinds[at] != token::AND {
-        return Read::Found {
+    let TokenKind::And = source.kind(at) else {
+        return Ok(Read {
             next: at,
             root: left,
             count: n,
-        };
-    }
-    let right = atom(kinds, at + 1, nodes, n);
-    let Read::Found { next, root, count } = right else {
-        return right;
+        });
     };
-    store(nodes, count, next, kind::BOTH, 0, left, root, 0);
-    more_conjunction(kinds, next, nodes, count + 1, count)
+    let Read { next, root, count } = atom(source, at + 1, nodes, n)?;
+    store(nodes, count, next, NodeKind::Both, 0, left, root, 0);
+    more_conjunction(source, next, nodes, count + 1, count)
 }
 
 // A condition: conjunctions with || between, left to right.
-fn condition(kinds: &[u8], at: usize, nodes: &mut [u32], n: usize) -> Read
-    requires { Ready kinds.now nodes.old at n }
-    ensures { Fresh kinds.now nodes.old nodes.new 1 n at 7 result (read_cond kinds.now) }
+fn condition(source: &Source, at: usize, nodes: &mut Nodes, n: usize) -> Result<Read, usize>
+    requires { Ready source.now.kinds nodes.old at n }
+    ensures { Fresh source.now.kinds nodes.old nodes.new 1 n at 7 result (read_cond source.now.kinds) }
 {
-    let first = conjunction(kinds, at, nodes, n);
-    let Read::Found { next, root, count } = first else {
-        return first;
-    };
-    more_condition(kinds, next, nodes, count, root)
+    let Read { next, root, count } = conjunction(source, at, nodes, n)?;
+    more_condition(source, next, nodes, count, root)
 }
 
 // What follows the condition at node left.
-fn more_condition(kinds: &[u8], at: usize, nodes: &mut [u32], n: usize, left: usize) -> Read
-    requires { Ready kinds.now nodes.old at n × (left < n) }
-    ensures { Rest kinds.now nodes.old nodes.new 0 n left at 1 result (more_cond kinds.now) }
+fn more_condition(
+    source: &Source,
+    at: usize,
+    nodes: &mut Nodes,
+    n: usize,
+    left: usize,
+) -> Result<Read, usize>
+    requires { Ready source.now.kinds nodes.old at n × (left < n) }
+    ensures { Rest source.now.kinds nodes.old nodes.new 0 n left at 1 result (more_cond source.now.kinds) }
 {
-    if kinds[at] != token::OR {
-        return Read::Found {
+    let TokenKind::Or = source.kind(at) else {
+        return Ok(Read {
             next: at,
             root: left,
             count: n,
-        };
-    }
-    let right = conjunction(kinds, at + 1, nodes, n);
-    let Read::Found { next, root, count } = right else {
-        return right;
+        });
     };
-    store(nodes, count, next, kind::EITHER, 0, left, root, 0);
-    more_condition(kinds, next, nodes, count + 1, count)
+    let Read { next, root, count } = conjunction(source, at + 1, nodes, n)?;
+    store(nodes, count, next, NodeKind::Either, 0, left, root, 0);
+    more_condition(source, next, nodes, count + 1, count)
 }
 
 // ( b ), of an if or a while.
-fn guard(kinds: &[u8], at: usize, nodes: &mut [u32], n: usize) -> Read
-    requires { Ready kinds.now nodes.old at n }
-    ensures { Fresh kinds.now nodes.old nodes.new 1 n at 1 result (read_guard kinds.now) }
+fn guard(source: &Source, at: usize, nodes: &mut Nodes, n: usize) -> Result<Read, usize>
+    requires { Ready source.now.kinds nodes.old at n }
+    ensures { Fresh source.now.kinds nodes.old nodes.new 1 n at 1 result (read_guard source.now.kinds) }
 {
-    if kinds[at] != token::OPEN {
-        return Read::Bad(at);
-    }
-    let inner = condition(kinds, at + 1, nodes, n);
-    let Read::Found { next, root, count } = inner else {
-        return inner;
-    };
-    if kinds[next] != token::CLOSE {
-        return Read::Bad(next);
-    }
-    Read::Found {
+    expect(source, at, TokenKind::Open)?;
+    let Read { next, root, count } = condition(source, at + 1, nodes, n)?;
+    expect(source, next, TokenKind::Close)?;
+    Ok(Read {
         next: next + 1,
         root,
         count,
-    }
+    })
 }
 
 // e ; as a statement of the kind `made`, whose token is `first`.
-fn ended(kinds: &[u8], at: usize, nodes: &mut [u32], n: usize, made: u32, first: usize) -> Read
-    requires { Ready kinds.now nodes.old at n × (first < 65536) }
-    ensures { Ended kinds.now nodes.old nodes.new n at made first result }
+fn ended(
+    source: &Source,
+    at: usize,
+    nodes: &mut Nodes,
+    n: usize,
+    made: NodeKind,
+    first: usize,
+) -> Result<Read, usize>
+    requires { Ready source.now.kinds nodes.old at n × (first < 65536) }
+    ensures { Ended source.now.kinds nodes.old nodes.new n at (node_number made) first result }
 {
-    let inner = expression(kinds, at, nodes, n);
-    let Read::Found { next, root, count } = inner else {
-        return inner;
-    };
-    if kinds[next] != token::SEMI {
-        return Read::Bad(next);
-    }
-    store(nodes, count, next + 1, made, first, root, 0, 0)
+    let Read { next, root, count } = expression(source, at, nodes, n)?;
+    expect(source, next, TokenKind::Semi)?;
+    Ok(store(nodes, count, next + 1, made, first, root, 0, 0))
 }
 
 // Where the number of an end of a pair stands, if `at` is the end's first token: behind the minus, if there is one.
-fn end_number(kinds: &[u8], at: usize) -> usize
-    requires { Inside kinds.now at }
-    ensures { (result ≡ at + bit (is_minus kinds.now at)) × (result < length kinds.now) }
+fn end_number(source: &Source, at: usize) -> usize
+    requires { Inside source.now.kinds at }
+    ensures { (result ≡ at + bit (is_minus source.now.kinds at)) × (result < length source.now.kinds) }
 {
-    if kinds[at] == token::MINUS {
+    if source.kind(at) == TokenKind::Minus {
         return at + 1;
     }
     at
 }
 
 // l .. h ; of int x free l .. h ; the low end's first token is at `at`, and the int is the token `first`.
-fn own_pair(kinds: &[u8], at: usize, nodes: &mut [u32], n: usize, first: usize) -> Read
-    requires { Ready kinds.now nodes.old at n × (first < 65536) }
-    ensures { Fresh kinds.now nodes.old nodes.new 1 n at 1 result (λ d. read_own kinds.now first) }
+fn own_pair(
+    source: &Source,
+    at: usize,
+    nodes: &mut Nodes,
+    n: usize,
+    first: usize,
+) -> Result<Read, usize>
+    requires { Ready source.now.kinds nodes.old at n × (first < 65536) }
+    ensures { Fresh source.now.kinds nodes.old nodes.new 1 n at 1 result (λ d. read_own source.now.kinds first) }
 {
-    let low = end_number(kinds, at);
-    if kinds[low] != token::NUMBER {
-        return Read::Bad(low);
-    }
-    if kinds[low + 1] != token::DOT_DOT {
-        return Read::Bad(low + 1);
-    }
+    let low = end_number(source, at);
+    expect(source, low, TokenKind::Number)?;
+    expect(source, low + 1, TokenKind::DotDot)?;
     let after = low + 1 + 1;
-    let high = end_number(kinds, after);
-    if kinds[high] != token::NUMBER {
-        return Read::Bad(high);
-    }
-    if kinds[high + 1] != token::SEMI {
-        return Read::Bad(high + 1);
-    }
-    store(
+    let high = end_number(source, after);
+    expect(source, high, TokenKind::Number)?;
+    expect(source, high + 1, TokenKind::Semi)?;
+    Ok(store(
         nodes,
         n,
         high + 1 + 1,
-        kind::DECLARE_OWN,
+        NodeKind::DeclareOwn,
         first,
         low - at,
         high - after,
         0,
-    )
+    ))
 }
 
 // int x ; int x free ; or int x free l .. h ; the int is at `at`.
-fn declaration(kinds: &[u8], at: usize, nodes: &mut [u32], n: usize) -> Read
-    requires { Ready kinds.now nodes.old at n × (at + 1 < length kinds.now) }
-    ensures { Fresh kinds.now nodes.old nodes.new 1 n at 1 result (λ d. read_decl kinds.now) }
+fn declaration(source: &Source, at: usize, nodes: &mut Nodes, n: usize) -> Result<Read, usize>
+    requires { Ready source.now.kinds nodes.old at n × (at + 1 < length source.now.kinds) }
+    ensures { Fresh source.now.kinds nodes.old nodes.new 1 n at 1 result (λ d. read_decl source.now.kinds) }
 {
-    if kinds[at + 1] != token::NAME {
-        return Read::Bad(at + 1);
+    expect(source, at + 1, TokenKind::Name)?;
+    match source.kind(at + 1 + 1) {
+        TokenKind::Semi => Ok(store(nodes, n, at + 1 + 1 + 1, NodeKind::Declare, at, 0, 0, 0)),
+        TokenKind::Free => {
+            let TokenKind::Semi = source.kind(at + 1 + 1 + 1) else {
+                return own_pair(source, at + 1 + 1 + 1, nodes, n, at);
+            };
+            Ok(store(
+                nodes,
+                n,
+                at + 1 + 1 + 1 + 1,
+                NodeKind::DeclareFree,
+                at,
+                0,
+                0,
+                0,
+            ))
+        }
+        _ => Err(at + 1 + 1),
     }
-    let k = kinds[at + 1 + 1];
-    if k == token::SEMI {
-        return store(nodes, n, at + 1 + 1 + 1, kind::DECLARE, at, 0, 0, 0);
-    }
-    if k != token::FREE {
-        return Read::Bad(at + 1 + 1);
-    }
-    if kinds[at + 1 + 1 + 1] != token::SEMI {
-        return own_pair(kinds, at + 1 + 1 + 1, nodes, n, at);
-    }
-    store(
-        nodes,
-        n,
-        at + 1 + 1 + 1 + 1,
-        kind::DECLARE_FREE,
-        at,
-        0,
-        0,
-        0,
-    )
 }
 
 // x = e ; or an expression that begins with x; the name x is at `at`.
-fn assignment(kinds: &[u8], at: usize, nodes: &mut [u32], n: usize) -> Read
-    requires { Ready kinds.now nodes.old at n × (at + 1 < length kinds.now) }
-    ensures { Fresh kinds.now nodes.old nodes.new 1 n at 6 result (read_named kinds.now) }
+fn assignment(source: &Source, at: usize, nodes: &mut Nodes, n: usize) -> Result<Read, usize>
+    requires { Ready source.now.kinds nodes.old at n × (at + 1 < length source.now.kinds) }
+    ensures { Fresh source.now.kinds nodes.old nodes.new 1 n at 6 result (read_named source.now.kinds) }
 {
-    if kinds[at + 1] == token::ASSIGN {
-        return ended(kinds, at + 1 + 1, nodes, n, kind::ASSIGN, at);
+    if source.kind(at + 1) == TokenKind::Assign {
+        return ended(source, at + 1 + 1, nodes, n, NodeKind::Assign, at);
     }
-    ended(kinds, at, nodes, n, kind::EVAL, 0)
+    ended(source, at, nodes, n, NodeKind::Eval, 0)
 }
 
 // fail ; the word is at `at`.
-fn failing(kinds: &[u8], at: usize, nodes: &mut [u32], n: usize) -> Read
-    requires { Ready kinds.now nodes.old at n × (at + 1 < length kinds.now) }
-    ensures { Fresh kinds.now nodes.old nodes.new 1 n at 1 result (λ d. read_fail kinds.now) }
+fn failing(source: &Source, at: usize, nodes: &mut Nodes, n: usize) -> Result<Read, usize>
+    requires { Ready source.now.kinds nodes.old at n × (at + 1 < length source.now.kinds) }
+    ensures { Fresh source.now.kinds nodes.old nodes.new 1 n at 1 result (λ d. read_fail source.now.kinds) }
 {
-    if kinds[at + 1] != token::SEMI {
-        return Read::Bad(at + 1);
-    }
-    store(nodes, n, at + 1 + 1, kind::FAIL, at, 0, 0, 0)
+    expect(source, at + 1, TokenKind::Semi)?;
+    Ok(store(nodes, n, at + 1 + 1, NodeKind::Fail, at, 0, 0, 0))
 }
 
 // A statement: its first token decides.
 #[cycle(block_body_braces_if_else_statement_while_do)]
-fn statement(kinds: &[u8], at: usize, nodes: &mut [u32], n: usize) -> Read
-    requires { Ready kinds.now nodes.old at n }
-    ensures { Fresh kinds.now nodes.old nodes.new 1 n at 7 result (read_stmt kinds.now) }
+fn statement(source: &Source, at: usize, nodes: &mut Nodes, n: usize) -> Result<Read, usize>
+    requires { Ready source.now.kinds nodes.old at n }
+    ensures { Fresh source.now.kinds nodes.old nodes.new 1 n at 7 result (read_stmt source.now.kinds) }
 {
-    let k = kinds[at];
-    if k == token::SEMI {
-        return store(nodes, n, at + 1, kind::EMPTY, at, 0, 0, 0);
+    match source.kind(at) {
+        TokenKind::Semi => Ok(store(nodes, n, at + 1, NodeKind::Empty, at, 0, 0, 0)),
+        TokenKind::Int => declaration(source, at, nodes, n),
+        TokenKind::Name => assignment(source, at, nodes, n),
+        TokenKind::Lbrace => block(source, at, nodes, n),
+        TokenKind::If => if_else(source, at, nodes, n),
+        TokenKind::While => while_do(source, at, nodes, n),
+        TokenKind::Return => ended(source, at + 1, nodes, n, NodeKind::Return, at),
+        TokenKind::Fail => failing(source, at, nodes, n),
+        _ => ended(source, at, nodes, n, NodeKind::Eval, 0),
     }
-    if k == token::INT {
-        return declaration(kinds, at, nodes, n);
-    }
-    if k == token::NAME {
-        return assignment(kinds, at, nodes, n);
-    }
-    if k == token::LBRACE {
-        return block(kinds, at, nodes, n);
-    }
-    if k == token::IF {
-        return if_else(kinds, at, nodes, n);
-    }
-    if k == token::WHILE {
-        return while_do(kinds, at, nodes, n);
-    }
-    if k == token::RETURN {
-        return ended(kinds, at + 1, nodes, n, kind::RETURN, at);
-    }
-    if k == token::FAIL {
-        return failing(kinds, at, nodes, n);
-    }
-    ended(kinds, at, nodes, n, kind::EVAL, 0)
 }
 
 // Statements in braces; the opening one is at `at`.
 #[cycle(block_body_braces_if_else_statement_while_do)]
-fn block(kinds: &[u8], at: usize, nodes: &mut [u32], n: usize) -> Read
-    requires { Ready kinds.now nodes.old at n × (at + 1 < length kinds.now) }
-    ensures { Fresh kinds.now nodes.old nodes.new 1 n at 1 result (read_block kinds.now) }
+fn block(source: &Source, at: usize, nodes: &mut Nodes, n: usize) -> Result<Read, usize>
+    requires { Ready source.now.kinds nodes.old at n × (at + 1 < length source.now.kinds) }
+    ensures { Fresh source.now.kinds nodes.old nodes.new 1 n at 1 result (read_block source.now.kinds) }
 {
-    let inner = braces(kinds, at + 1, nodes, n);
-    let Read::Found { next, root, count } = inner else {
-        return inner;
-    };
-    store(nodes, count, next, kind::BLOCK, at, root, 0, 0)
+    let Read { next, root, count } = braces(source, at + 1, nodes, n)?;
+    Ok(store(nodes, count, next, NodeKind::Block, at, root, 0, 0))
 }
 
 // if ( b ) s else s; the if is at `at`.
 #[cycle(block_body_braces_if_else_statement_while_do)]
-fn if_else(kinds: &[u8], at: usize, nodes: &mut [u32], n: usize) -> Read
-    requires { Ready kinds.now nodes.old at n × (at + 1 < length kinds.now) }
-    ensures { Fresh kinds.now nodes.old nodes.new 1 n at 1 result (read_if kinds.now) }
+fn if_else(source: &Source, at: usize, nodes: &mut Nodes, n: usize) -> Result<Read, usize>
+    requires { Ready source.now.kinds nodes.old at n × (at + 1 < length source.now.kinds) }
+    ensures { Fresh source.now.kinds nodes.old nodes.new 1 n at 1 result (read_if source.now.kinds) }
 {
-    let test = guard(kinds, at + 1, nodes, n);
-    let Read::Found { next, root, count } = test else {
-        return test;
-    };
-    let one = statement(kinds, next, nodes, count);
-    let Read::Found {
-        next: mid,
+    let Read { next, root, count } = guard(source, at + 1, nodes, n)?;
+    let Read {
+        next,
         root: yes,
-        count: more,
-    } = one
-    else {
-        return one;
-    };
-    if kinds[mid] != token::ELSE {
-        return Read::Bad(mid);
-    }
-    let other = statement(kinds, mid + 1, nodes, more);
-    let Read::Found {
-        next: end,
+        count,
+    } = statement(source, next, nodes, count)?;
+    expect(source, next, TokenKind::Else)?;
+    let Read {
+        next,
         root: no,
-        count: all,
-    } = other
-    else {
-        return other;
-    };
-    store(nodes, all, end, kind::IF_ELSE, at, root, yes, no)
+        count,
+    } = statement(source, next + 1, nodes, count)?;
+    Ok(store(nodes, count, next, NodeKind::IfElse, at, root, yes, no))
 }
 
 // while ( b ) s; the while is at `at`.
 #[cycle(block_body_braces_if_else_statement_while_do)]
-fn while_do(kinds: &[u8], at: usize, nodes: &mut [u32], n: usize) -> Read
-    requires { Ready kinds.now nodes.old at n × (at + 1 < length kinds.now) }
-    ensures { Fresh kinds.now nodes.old nodes.new 1 n at 1 result (read_while kinds.now) }
+fn while_do(source: &Source, at: usize, nodes: &mut Nodes, n: usize) -> Result<Read, usize>
+    requires { Ready source.now.kinds nodes.old at n × (at + 1 < length source.now.kinds) }
+    ensures { Fresh source.now.kinds nodes.old nodes.new 1 n at 1 result (read_while source.now.kinds) }
 {
-    let test = guard(kinds, at + 1, nodes, n);
-    let Read::Found { next, root, count } = test else {
-        return test;
-    };
-    let inner = statement(kinds, next, nodes, count);
-    let Read::Found {
-        next: end,
+    let Read { next, root, count } = guard(source, at + 1, nodes, n)?;
+    let Read {
+        next,
         root: turn,
-        count: all,
-    } = inner
-    else {
-        return inner;
-    };
-    store(nodes, all, end, kind::WHILE, at, root, turn, 0)
+        count,
+    } = statement(source, next, nodes, count)?;
+    Ok(store(nodes, count, next, NodeKind::While, at, root, turn, 0))
 }
 
 // Statements with the closing brace: a node for none, and one for each statement.
 #[cycle(block_body_braces_if_else_statement_while_do)]
-fn braces(kinds: &[u8], at: usize, nodes: &mut [u32], n: usize) -> Read
-    requires { Ready kinds.now nodes.old at (n + 1) }
-    ensures { Bodies kinds.now nodes.old nodes.new n at result }
+fn braces(source: &Source, at: usize, nodes: &mut Nodes, n: usize) -> Result<Read, usize>
+    requires { Ready source.now.kinds nodes.old at (n + 1) }
+    ensures { Bodies source.now.kinds nodes.old nodes.new n at result }
 {
-    store(nodes, n, at, kind::NO_STMTS, 0, 0, 0, 0);
-    body(kinds, at, nodes, n + 1, n)
+    store(nodes, n, at, NodeKind::NoStmts, 0, 0, 0, 0);
+    body(source, at, nodes, n + 1, n)
 }
 
 // What follows the statements at node left.
 #[cycle(block_body_braces_if_else_statement_while_do)]
-fn body(kinds: &[u8], at: usize, nodes: &mut [u32], n: usize, left: usize) -> Read
-    requires { Ready kinds.now nodes.old at n × (left < n) }
-    ensures { Rest kinds.now nodes.old nodes.new 1 n left at 8 result (more_body kinds.now) }
+fn body(source: &Source, at: usize, nodes: &mut Nodes, n: usize, left: usize) -> Result<Read, usize>
+    requires { Ready source.now.kinds nodes.old at n × (left < n) }
+    ensures { Rest source.now.kinds nodes.old nodes.new 1 n left at 8 result (more_body source.now.kinds) }
 {
-    if kinds[at] == token::RBRACE {
-        return store(nodes, n, at + 1, kind::BRACED, at, left, 0, 0);
+    if source.kind(at) == TokenKind::Rbrace {
+        return Ok(store(nodes, n, at + 1, NodeKind::Braced, at, left, 0, 0));
     }
-    let inner = statement(kinds, at, nodes, n);
-    let Read::Found { next, root, count } = inner else {
-        return inner;
-    };
-    store(nodes, count, next, kind::MORE_STMTS, 0, left, root, 0);
-    body(kinds, next, nodes, count + 1, count)
+    let Read { next, root, count } = statement(source, at, nodes, n)?;
+    store(nodes, count, next, NodeKind::MoreStmts, 0, left, root, 0);
+    body(source, next, nodes, count + 1, count)
 }
 
 // The parameters with the closing bracket: a node for none, and one for each parameter.
-fn parameters(kinds: &[u8], at: usize, nodes: &mut [u32], n: usize) -> Read
-    requires { Ready kinds.now nodes.old at (n + 1) }
-    ensures { Fresh kinds.now nodes.old nodes.new 1 n at 1 result (read_params kinds.now) }
+fn parameters(source: &Source, at: usize, nodes: &mut Nodes, n: usize) -> Result<Read, usize>
+    requires { Ready source.now.kinds nodes.old at (n + 1) }
+    ensures { Fresh source.now.kinds nodes.old nodes.new 1 n at 1 result (read_params source.now.kinds) }
 {
-    store(nodes, n, at, kind::NO_PARAMS, 0, 0, 0, 0);
-    let k = kinds[at];
-    if k == token::CLOSE {
-        return Read::Found {
+    store(nodes, n, at, NodeKind::NoParams, 0, 0, 0, 0);
+    if source.kind(at) == TokenKind::Close {
+        return Ok(Read {
             next: at + 1,
             root: n,
             count: n + 1,
-        };
+        });
     }
-    if k != token::INT {
-        return Read::Bad(at);
-    }
-    if kinds[at + 1] != token::NAME {
-        return Read::Bad(at + 1);
-    }
-    store(nodes, n + 1, at, kind::MORE_PARAMS, at + 1, n, 0, 0);
-    more_parameters(kinds, at + 1 + 1, nodes, n + 1 + 1, n + 1)
+    expect(source, at, TokenKind::Int)?;
+    expect(source, at + 1, TokenKind::Name)?;
+    store(nodes, n + 1, at, NodeKind::MoreParams, at + 1, n, 0, 0);
+    more_parameters(source, at + 1 + 1, nodes, n + 1 + 1, n + 1)
 }
 
 // What follows the parameters at node left.
-fn more_parameters(kinds: &[u8], at: usize, nodes: &mut [u32], n: usize, left: usize) -> Read
-    requires { Ready kinds.now nodes.old at n × (left < n) }
-    ensures { Rest kinds.now nodes.old nodes.new 2 n left at 1 result (more_params kinds.now) }
+fn more_parameters(
+    source: &Source,
+    at: usize,
+    nodes: &mut Nodes,
+    n: usize,
+    left: usize,
+) -> Result<Read, usize>
+    requires { Ready source.now.kinds nodes.old at n × (left < n) }
+    ensures { Rest source.now.kinds nodes.old nodes.new 2 n left at 1 result (more_params source.now.kinds) }
 {
-    let k = kinds[at];
-    if k == token::CLOSE {
-        return Read::Found {
+    if source.kind(at) == TokenKind::Close {
+        return Ok(Read {
             next: at + 1,
             root: left,
             count: n,
-        };
+        });
     }
-    if k != token::COMMA {
-        return Read::Bad(at);
-    }
-    if kinds[at + 1] != token::INT {
-        return Read::Bad(at + 1);
-    }
-    if kinds[at + 1 + 1] != token::NAME {
-        return Read::Bad(at + 1 + 1);
-    }
-    store(nodes, n, at, kind::MORE_PARAMS, at + 1 + 1, left, 0, 0);
-    more_parameters(kinds, at + 1 + 1 + 1, nodes, n + 1, n)
+    expect(source, at, TokenKind::Comma)?;
+    expect(source, at + 1, TokenKind::Int)?;
+    expect(source, at + 1 + 1, TokenKind::Name)?;
+    store(nodes, n, at, NodeKind::MoreParams, at + 1 + 1, left, 0, 0);
+    more_parameters(source, at + 1 + 1 + 1, nodes, n + 1, n)
 }
 
 // A function; its int is at `at`.
-fn function(kinds: &[u8], at: usize, nodes: &mut [u32], n: usize) -> Read
-    requires { Ready kinds.now nodes.old at n × (at + 1 < length kinds.now) }
-    ensures { Fresh kinds.now nodes.old nodes.new 1 n at 1 result (read_fun kinds.now) }
+fn function(source: &Source, at: usize, nodes: &mut Nodes, n: usize) -> Result<Read, usize>
+    requires { Ready source.now.kinds nodes.old at n × (at + 1 < length source.now.kinds) }
+    ensures { Fresh source.now.kinds nodes.old nodes.new 1 n at 1 result (read_fun source.now.kinds) }
 {
-    if kinds[at + 1] != token::NAME {
-        return Read::Bad(at + 1);
-    }
-    if kinds[at + 1 + 1] != token::OPEN {
-        return Read::Bad(at + 1 + 1);
-    }
-    let list = parameters(kinds, at + 1 + 1 + 1, nodes, n);
-    let Read::Found { next, root, count } = list else {
-        return list;
-    };
-    if kinds[next] != token::LBRACE {
-        return Read::Bad(next);
-    }
-    let inner = braces(kinds, next + 1, nodes, count);
-    let Read::Found {
-        next: end,
+    expect(source, at + 1, TokenKind::Name)?;
+    expect(source, at + 1 + 1, TokenKind::Open)?;
+    let Read { next, root, count } = parameters(source, at + 1 + 1 + 1, nodes, n)?;
+    expect(source, next, TokenKind::Lbrace)?;
+    let Read {
+        next,
         root: held,
-        count: all,
-    } = inner
-    else {
-        return inner;
-    };
-    store(nodes, all, end, kind::FUNCTION, at + 1, root, held, 0)
+        count,
+    } = braces(source, next + 1, nodes, count)?;
+    Ok(store(
+        nodes,
+        count,
+        next,
+        NodeKind::Function,
+        at + 1,
+        root,
+        held,
+        0,
+    ))
 }
 
 // What follows the functions at node left.
-fn functions(kinds: &[u8], at: usize, nodes: &mut [u32], n: usize, left: usize) -> Read
-    requires { Ready kinds.now nodes.old at n × (left < n) }
-    ensures { Rest kinds.now nodes.old nodes.new 0 n left at 2 result (more_prog kinds.now) }
+fn functions(
+    source: &Source,
+    at: usize,
+    nodes: &mut Nodes,
+    n: usize,
+    left: usize,
+) -> Result<Read, usize>
+    requires { Ready source.now.kinds nodes.old at n × (left < n) }
+    ensures { Rest source.now.kinds nodes.old nodes.new 0 n left at 2 result (more_prog source.now.kinds) }
 {
-    if kinds[at] != token::INT {
-        return Read::Found {
+    let TokenKind::Int = source.kind(at) else {
+        return Ok(Read {
             next: at,
             root: left,
             count: n,
-        };
-    }
-    let one = function(kinds, at, nodes, n);
-    let Read::Found { next, root, count } = one else {
-        return one;
+        });
     };
-    store(nodes, count, next, kind::MORE_FUNS, 0, left, root, 0);
-    functions(kinds, next, nodes, count + 1, count)
+    let Read { next, root, count } = function(source, at, nodes, n)?;
+    store(nodes, count, next, NodeKind::MoreFuns, 0, left, root, 0);
+    functions(source, next, nodes, count + 1, count)
 }
 
-// A whole text: functions, and then the end.
-pub fn parse(kinds: &[u8], nodes: &mut [u32]) -> Parsed
-    requires { Tabled kinds.now nodes.old }
-    ensures { Parses nodes.new result (parsed kinds.now) }
+// A whole text: functions, and then the end. The answer is the root of the program's tree, or the number of the first token that no program could have there.
+pub fn parse(source: &Source, nodes: &mut Nodes) -> Result<usize, usize>
+    requires { Tabled source.now.kinds nodes.old }
+    ensures answer { Parses nodes.new result (parsed source.now.kinds) }
+    ensures kept { length nodes.new ≡ length nodes.old }
 {
-    store(nodes, 0, 0, kind::NO_FUNS, 0, 0, 0, 0);
-    match functions(kinds, 0, nodes, 1, 0) {
-        Read::Found { next, root, count } => {
-            if kinds[next] != token::END {
-                return Parsed::Bad(next);
-            }
-            Parsed::Tree { root, count }
-        }
-        Read::Bad(p) => Parsed::Bad(p),
-    }
+    store(nodes, 0, 0, NodeKind::NoFuns, 0, 0, 0, 0);
+    let Read {
+        next,
+        root,
+        count: _,
+    } = functions(source, 0, nodes, 1, 0)?;
+    expect(source, next, TokenKind::End)?;
+    Ok(root)
 }

@@ -1,35 +1,30 @@
 use mathlib.Core.Path.{refl}
 use native.Mathlib.Omega.{arith}
-use Rattle.syntax.specs.Abstract.{ast}
-use Rattle.syntax.specs.Tree.{more_funs}
-use Rattle.syntax.specs.Table.{at-more-funs}
+use Rattle.grammar.proofs.Steps.{kept, room_for, written, unwritten, ready-stored, ready-after, told, begin, yes-so, not_so, wrote, call, fail, found, hand, not_last, is_kind, not_kind}
 use Rattle.grammar.specs.Parse.{more_prog}
-use Rattle.grammar.proofs.Steps.{not_last, kept, room_for, written, unwritten, ready-stored, ready-after, told, begin, yes-so, not_so, wrote, call, fail, found, hand}
+use Rattle.syntax.specs.Abstract.{ast}
+use Rattle.syntax.specs.Table.{at-more-funs}
+use Rattle.syntax.specs.Tree.{more_funs}
+use Rattle.syntax.specs.declared.token.TokenKind.TheVariants as kind
 use Rattle.grammar.proofs.+functions.Goals as goal
-
-pub bounds-kinds-at : goal.bounds-kinds-at
-bounds-kinds-at t c = c.requires.0.inside
-
-pub returns-then-kinds-at-ne-INT : goal.returns-then-kinds-at-ne-INT
-unfolding more_prog ast
-returns-then-kinds-at-ne-INT t c = record { after = λ u h. found (not_so _ _ c.if-kinds-at-ne-INT.true (begin 2 (λ d. more_prog c.args.kinds.now d u) c.requires.0)) h c.requires.1 (omega arith) refl }
-
-pub function-one-requires : goal.function-one-requires
-function-one-requires t c = (c.requires.0, not_last c.requires.0 c.if-kinds-at-ne-INT.false refl)
 
 pub returns-in_default : goal.returns-in_default
 unfolding more_prog ast
-returns-in_default t c = record { after = λ u h. fail _ c.function-one.ensures (yes-so _ _ c.if-kinds-at-ne-INT.false (begin 2 (λ d. more_prog c.args.kinds.now d u) c.requires.0)) (omega arith) c.in_default.is }
+returns-in_default t c = record { after = λ u h. found (not_so _ _ (not_kind kind.Int c.kind.ensures c.in_default.not-Int) (begin 2 (λ d. more_prog c.args.source.now.kinds d u) c.requires.0)) h c.requires.1 (omega arith) refl }
+
+pub function-requires : goal.function-requires
+function-requires t c = (c.requires.0, not_last c.requires.0 (is_kind kind.Int c.kind.ensures c.in-Int.is) refl)
+
+pub returns-in_err-next : goal.returns-in_err-next
+unfolding more_prog ast
+returns-in_err-next t c = record { after = λ u h. fail _ c.in_err-next.ensures (yes-so _ _ (is_kind kind.Int c.kind.ensures c.in-Int.is) (begin 2 (λ d. more_prog c.args.source.now.kinds d u) c.requires.0)) (omega arith) c.from_residual.ensures }
 
 pub store-requires : goal.store-requires
-store-requires t c = let f = told c.in-Found.is c.function-one.ensures in let q = ready-after c.requires.0 c.function-one.ensures c.in-Found.is c.function-one.auto.nodes in omega (arith, room_for q, q.inside, q.few, q.below, f.rooted, f.more, c.requires.1)
-
-pub overflow_add-count : goal.overflow_add-count
-overflow_add-count t c = let f = told c.in-Found.is c.function-one.ensures in let q = ready-after c.requires.0 c.function-one.ensures c.in-Found.is c.function-one.auto.nodes in omega (arith, q.inside, q.few, q.below)
+store-requires t c = let q = ready-after c.requires.0 c.in_ok-next.ensures in omega (arith, room_for q, q.inside, q.few, q.below)
 
 pub functions-requires : goal.functions-requires
-functions-requires t c = let f = told c.in-Found.is c.function-one.ensures in let q = ready-after c.requires.0 c.function-one.ensures c.in-Found.is c.function-one.auto.nodes in (omega (arith, f.inside, f.more, f.fit, c.decreases), (ready-stored q c.store.ensures (omega (arith, c.requires.0.below, f.fit)), omega arith))
+functions-requires t c = let q = ready-after c.requires.0 c.in_ok-next.ensures in let f = told c.in_ok-next.ensures in (omega (arith, f.inside, f.more, f.fit, c.decreases), (ready-stored q c.store.ensures (omega (arith, c.requires.0.below, f.fit)), (omega arith)))
 
 pub returns : goal.returns
 unfolding more_prog ast
-returns t c = record { after = λ u h. let C = call _ c.function-one.ensures (yes-so _ _ c.if-kinds-at-ne-INT.false (begin 2 (λ d. more_prog c.args.kinds.now d u) c.requires.0)) (omega arith) c.in-Found.is c.function-one.auto.nodes in hand (c.functions.ensures.after (more_funs u C.tree) (record { kind = _; at = at-more-funs (written c.store.ensures (room_for C.sofar.ready)) (omega (arith, c.requires.1, C.more)) C.rooted (kept (unwritten c.store.ensures) (omega (arith, c.requires.1, C.more)) (kept C.same c.requires.1 h)).at (kept (unwritten c.store.ensures) C.rooted C.holds).at })) (wrote c.store.ensures C.sofar (omega arith)) (omega arith) (omega arith) }
+returns t c = record { after = λ u h. let C = call _ c.in_ok-next.ensures (yes-so _ _ (is_kind kind.Int c.kind.ensures c.in-Int.is) (begin 2 (λ d. more_prog c.args.source.now.kinds d u) c.requires.0)) (omega arith) in hand (c.functions.ensures.after (more_funs u C.tree) (record { kind = _; at = at-more-funs (written c.store.ensures (room_for C.sofar.ready)) (omega (arith, c.requires.1, C.more)) C.rooted (kept (unwritten c.store.ensures) (omega (arith, c.requires.1, C.more)) (kept C.same c.requires.1 h)).at (kept (unwritten c.store.ensures) C.rooted C.holds).at })) (wrote c.store.ensures C.sofar (omega arith)) (omega arith) (omega arith) }

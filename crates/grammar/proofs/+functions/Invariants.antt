@@ -3,4 +3,4 @@ use lib.ListN.{length}
 use Rattle.grammar.proofs.+functions.Given as goal
 
 abbrev pub decreases-functions : goal.decreases-functions
-decreases-functions l = length l.kinds.now - l.at
+decreases-functions l = length l.source.now.kinds - l.at

@@ -3,4 +3,4 @@ use lib.ListN.{length}
 use Rattle.grammar.proofs.+more_conjunction.Given as goal
 
 abbrev pub decreases-more_conjunction : goal.decreases-more_conjunction
-decreases-more_conjunction l = length l.kinds.now - l.at
+decreases-more_conjunction l = length l.source.now.kinds - l.at

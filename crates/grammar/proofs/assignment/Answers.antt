@@ -1,34 +1,21 @@
 use mathlib.Core.Path.{refl}
+use Rattle.std.proofs.Common.{rules}
 use native.Mathlib.Omega.{arith}
-use Rattle.syntax.specs.Abstract.{ast}
-use Rattle.syntax.specs.Tree.{eval, assign}
-use Rattle.syntax.specs.Table.{at-assign, at-eval}
+use Rattle.grammar.proofs.Steps.{ready-next, begin, not_so, pass, eat, hand, not_last, is_kind, not_kind}
 use Rattle.grammar.specs.Parse.{read_named}
-use Rattle.grammar.proofs.Steps.{not_last, ready-next, begin, not_so, pass, eat, hand}
+use Rattle.syntax.specs.Abstract.{ast}
+use Rattle.syntax.specs.Table.{at-eval, at-assign}
+use Rattle.syntax.specs.Tree.{eval, assign}
+use Rattle.syntax.specs.declared.token.TokenKind.TheVariants as kind
 use Rattle.grammar.proofs.assignment.Goals as goal
 
-pub overflow_add-at : goal.overflow_add-at
-overflow_add-at c = omega (arith, c.requires.1, c.requires.0.inside, c.requires.0.few, c.requires.0.room, c.requires.0.below)
-
-pub bounds-kinds-at : goal.bounds-kinds-at
-bounds-kinds-at c = c.requires.1
-
-pub overflow_add-at-then-kinds-at-eq-ASSIGN : goal.overflow_add-at-then-kinds-at-eq-ASSIGN
-overflow_add-at-then-kinds-at-eq-ASSIGN c = omega (arith, c.requires.1, c.requires.0.inside, c.requires.0.few, c.requires.0.room, c.requires.0.below)
-
-pub overflow_add-at-then-kinds-at-eq-ASSIGN-2 : goal.overflow_add-at-then-kinds-at-eq-ASSIGN-2
-overflow_add-at-then-kinds-at-eq-ASSIGN-2 c = omega (arith, c.requires.1, c.requires.0.inside, c.requires.0.few, c.requires.0.room, c.requires.0.below)
-
 pub ended-requires : goal.ended-requires
-ended-requires c = let r = ready-next c.requires.0 c.requires.1 in let h = not_last r c.if-kinds-at-eq-ASSIGN.true refl in (ready-next r h, omega (arith, c.requires.0.inside, c.requires.0.few))
+ended-requires c = let r = ready-next c.requires.0 c.requires.1 in let h = not_last r (is_kind kind.Assign c.kind.ensures (search rules)) refl in (ready-next r h, omega (arith, c.requires.0.inside, c.requires.0.few))
 
-pub returns-then-kinds-at-eq-ASSIGN : goal.returns-then-kinds-at-eq-ASSIGN
+pub returns-then-eq : goal.returns-then-eq
 unfolding read_named ast
-returns-then-kinds-at-eq-ASSIGN c = hand (c.ended.ensures.ended (assign c.args.at) (record { make = λ t r p h. record { kind = _; at = at-assign r p h.at } })) (eat _ _ c.if-kinds-at-eq-ASSIGN.true refl (pass c.requires.1 (begin 6 (read_named c.args.kinds.now) c.requires.0))) (omega arith) (omega arith)
-
-pub ended-requires-2 : goal.ended-requires-2
-ended-requires-2 c = (c.requires.0, omega arith)
+returns-then-eq c = hand (c.ended.ensures.ended (assign c.args.at) (record { make = λ t r p h. record { kind = _; at = at-assign r p h.at } })) (eat _ _ (is_kind kind.Assign c.kind.ensures (search rules)) refl (pass c.requires.1 (begin 6 (read_named c.args.source.now.kinds) c.requires.0))) (omega arith) (omega arith)
 
 pub returns : goal.returns
 unfolding read_named ast
-returns c = hand (c.ended-2.ensures.ended eval (record { make = λ t r p h. record { kind = _; at = at-eval r p h.at } })) (not_so _ _ c.if-kinds-at-eq-ASSIGN.false (begin 6 (read_named c.args.kinds.now) c.requires.0)) (omega arith) (omega arith)
+returns c = hand (c.ended-2.ensures.ended eval (record { make = λ t r p h. record { kind = _; at = at-eval r p h.at } })) (not_so _ _ (not_kind kind.Assign c.kind.ensures (search rules)) (begin 6 (read_named c.args.source.now.kinds) c.requires.0)) (omega arith) (omega arith)
