@@ -26,7 +26,7 @@ pub enum Next {
 }
 
 // How the search closes: it has ended, without a cut run or with one; a row has no place; or the budget is spent.
-#[derive(Drop)]
+#[derive(Clone, Copy, PartialEq, Eq, Debug)]
 pub enum Ending {
     Whole,
     Cuts,
