@@ -2,22 +2,22 @@
 use Prim.Native.Nat.{ℕ}
 use mathlib.Core.Path.{◌≡◌, refl}
 use mathlib.Core.List.{List, [], ◌∷◌, ◌++◌, map}
+use Rattle.std.specs.Prelude.{Option, None, Some}
+use Rattle.lines.specs.declared.Job.{Job}
 use lib.IntN.{ℤ, pos, negsuc}
 use Rattle.lexer.specs.Lex.{bytes, all, same, decimal}
 use Rattle.semantics.specs.Run.{Row}
 use Rattle.semantics.specs.Search.{whole, cuts}
-use Rattle.lines.specs.declared.JobLine.{JobLine}
-use Rattle.lines.specs.declared.JobLine.TheVariants.{Bad, Good}
 use Rattle.lines.specs.JobLine.{plain, minus, number_of, place, job_in, line_job}
 use Rattle.printing.specs.Decimal.{digits, natural, integer}
 use Rattle.lines.specs.Print.{refusal, spaced, row_line, row_lines, ending, last_line, printed}
 
 -- a line ended by LF, then a text
-abbrev line : List ℕ → JobLine
+abbrev line : List ℕ → Option Job
 line l = line_job (l ++ 10 ∷ bytes "text")
 
-abbrev job : ℤ → ℤ → ℕ → ℕ → JobLine
-job l h s t = Good (record { low = l; high = h; steps = s; text = t })
+abbrev job : ℤ → ℤ → ℕ → ℕ → Option Job
+job l h s t = Some (record { low = l; high = h; steps = s; text = t })
 
 lines-good : map line (
     bytes "job 0 3 100"
@@ -51,12 +51,12 @@ lines-bad : map line (
     ∷ []
     ∷ []
     )
-    ≡ Bad ∷ Bad ∷ Bad ∷ Bad ∷ Bad ∷ Bad ∷ Bad ∷ Bad ∷ Bad ∷ Bad ∷ Bad ∷ Bad ∷ Bad ∷ Bad ∷ Bad ∷ Bad ∷ Bad ∷ Bad ∷ Bad ∷ []
+    ≡ None ∷ None ∷ None ∷ None ∷ None ∷ None ∷ None ∷ None ∷ None ∷ None ∷ None ∷ None ∷ None ∷ None ∷ None ∷ None ∷ None ∷ None ∷ None ∷ []
 unfolding line_job job_in place number_of plain minus all same decimal
 lines-bad = refl
 
 -- no LF at all, and no text
-no_end : line_job (bytes "job 0 3 100") ≡ Bad
+no_end : line_job (bytes "job 0 3 100") ≡ None
 unfolding line_job job_in place number_of plain minus all same decimal
 no_end = refl
 

@@ -3,7 +3,7 @@ use Prim.Native.Nat.{ℕ, zero, suc, ◌+◌, ◌≤◌}
 use native.Mathlib.Omega.{arith}
 use mathlib.Core.Path.{◌≡◌, refl, sym, ◌∙◌, ap, subst}
 use mathlib.Core.Bool.{Bool, true, false, ◌&&◌}
-use mathlib.Core.Option.{Option, none, some}
+use Rattle.std.specs.Prelude.{Option, None, Some}
 use mathlib.Core.List.{List, [], ◌∷◌}
 use lib.ListN.{length}
 use lib.Dec.{eqb, leb, ltb}
@@ -13,29 +13,27 @@ use mir.Val.{SFits}
 use borrow.Author.Tests.{ltb-true, ltb-false, leb-true}
 use Rattle.lexer.specs.Lex.{decimal, same, bytes}
 use Rattle.lines.specs.declared.Job.{Job}
-use Rattle.lines.specs.declared.JobLine.{JobLine}
-use Rattle.lines.specs.declared.JobLine.TheVariants.{Bad, Good}
 use Rattle.lines.specs.JobLine.{is_natural, plain, minus, number_of, place, before, blank, job_with, job_in, line_job}
-use Rattle.lines.proofs.Words.{no-job, a-job, no_line, a-line}
-use Rattle.lines.proofs.Reach.{place-le, no-early-end}
+use Rattle.lines.proofs.Words.{place-le, no-job, a-job, no_line, a-line}
+use Rattle.lines.proofs.Reach.{no-early-end}
 
 -- ---- a number has 32 bits
 
-nothing : {z : ℤ} → none ≡ some z → ⊥
+nothing : {z : ℤ} → None ≡ Some z → ⊥
 nothing {z} e = let q : ◌≡◌ {A = ℕ} 0 1 = cc in omega arith
 
-plain_fits : (l : List ℕ) (z : ℤ) → plain l ≡ some z → SFits w32 z
+plain_fits : (l : List ℕ) (z : ℤ) → plain l ≡ Some z → SFits w32 z
 unfolding plain
 plain_fits l z = go (is_natural l) (decimal 0 l) (leb (decimal 0 l) 2147483647) refl
   where
-    go : (t : Bool) (d : ℕ) (u : Bool) → leb d 2147483647 ≡ u → elim (t && u) [ true ↦ some (pos d) | false ↦ none ] ≡ some z → SFits w32 z
+    go : (t : Bool) (d : ℕ) (u : Bool) → leb d 2147483647 ≡ u → elim (t && u) [ true ↦ Some (pos d) | false ↦ None ] ≡ Some z → SFits w32 z
     go true d true q e =
         let p : pos d ≡ z = cc in
         subst (SFits w32) p (record { sfits = omega (arith, leb-true d 2147483647 q) })
     go true d false q e = absurd (nothing e)
     go false d u q e = absurd (nothing e)
 
-minus-fits : (l : List ℕ) (z : ℤ) → minus l ≡ some z → SFits w32 z
+minus-fits : (l : List ℕ) (z : ℤ) → minus l ≡ Some z → SFits w32 z
 unfolding minus
 minus-fits l z = go (is_natural l) (decimal 0 l) (leb (decimal 0 l) 2147483648) refl
   where
@@ -43,43 +41,39 @@ minus-fits l z = go (is_natural l) (decimal 0 l) (leb (decimal 0 l) 2147483648) 
     down zero h = record { sfits = omega arith }
     down (suc d) h = record { sfits = omega arith }
 
-    go : (t : Bool) (d : ℕ) (u : Bool) → leb d 2147483648 ≡ u → elim (t && u) [ true ↦ some (neg_ℤ (pos d)) | false ↦ none ] ≡ some z → SFits w32 z
+    go : (t : Bool) (d : ℕ) (u : Bool) → leb d 2147483648 ≡ u → elim (t && u) [ true ↦ Some (neg_ℤ (pos d)) | false ↦ None ] ≡ Some z → SFits w32 z
     go true d true q e =
         let p : neg_ℤ (pos d) ≡ z = cc in
         subst (SFits w32) p (down d (leb-true d 2147483648 q))
     go true d false q e = absurd (nothing e)
     go false d u q e = absurd (nothing e)
 
-number_fits : (l : List ℕ) (z : ℤ) → number_of l ≡ some z → SFits w32 z
+number_fits : (l : List ℕ) (z : ℤ) → number_of l ≡ Some z → SFits w32 z
 unfolding number_of
 number_fits [] z e = absurd (nothing e)
 number_fits (b ∷ bs) z e = go (eqb b 45) e
   where
-    go : (t : Bool) → elim t [ true ↦ minus bs | false ↦ plain (b ∷ bs) ] ≡ some z → SFits w32 z
+    go : (t : Bool) → elim t [ true ↦ minus bs | false ↦ plain (b ∷ bs) ] ≡ Some z → SFits w32 z
     go true e = minus-fits bs z e
     go false e = plain_fits (b ∷ bs) z e
 
 -- ---- the line
 
-abbrev IsBad : JobLine → Type 0
-IsBad Bad = Unit {0}
-IsBad (Good j) = ⊥
+bad-good : {j : Job} → None ≡ Some j → ⊥
+bad-good {j} e = let q : ◌≡◌ {A = ℕ} 0 1 = cc in omega arith
 
-bad-good : {j : Job} → Bad ≡ Good j → ⊥
-bad-good e = subst IsBad e tt
+abbrev the : Job → Option Job → Job
+the d None = d
+the d (Some j) = j
 
-abbrev the : Job → JobLine → Job
-the d Bad = d
-the d (Good j) = j
-
-with-good : (t : ℕ) (x y s : Option ℤ) (j : Job) → job_with t x y s ≡ Good j → (x ≡ some j.low) × (y ≡ some j.high) × (t ≡ j.text)
-with-good t none y s j e = absurd (bad-good e)
-with-good t (some a) none s j e = absurd (bad-good e)
-with-good t (some a) (some b) none j e = absurd (bad-good e)
-with-good t (some a) (some b) (some (negsuc n)) j e = absurd (bad-good e)
-with-good t (some a) (some b) (some (pos n)) j e =
+with-good : (t : ℕ) (x y s : Option ℤ) (j : Job) → job_with t x y s ≡ Some j → (x ≡ Some j.low) × (y ≡ Some j.high) × (t ≡ j.text)
+with-good t None y s j e = absurd (bad-good e)
+with-good t (Some a) None s j e = absurd (bad-good e)
+with-good t (Some a) (Some b) None j e = absurd (bad-good e)
+with-good t (Some a) (Some b) (Some (negsuc n)) j e = absurd (bad-good e)
+with-good t (Some a) (Some b) (Some (pos n)) j e =
     let k = ap (the j) e in
-    (ap (λ (i : Job). some i.low) k, ap (λ (i : Job). some i.high) k, ap (λ (i : Job). i.text) k)
+    (ap (λ (i : Job). Some i.low) k, ap (λ (i : Job). Some i.high) k, ap (λ (i : Job). i.text) k)
 
 pub record Holds (input : List ℕ) (j : Job) : Type 0 where
   pub low : SFits w32 j.low
@@ -87,16 +81,16 @@ pub record Holds (input : List ℕ) (j : Job) : Type 0 where
   pub inside : j.text ≤ length input
   pub near : j.text ≤ 40
 
-in-good : (t : ℕ) (l : List ℕ) (j : Job) → job_in t l ≡ Good j → SFits w32 j.low × SFits w32 j.high × (t ≡ j.text)
+in-good : (t : ℕ) (l : List ℕ) (j : Job) → job_in t l ≡ Some j → SFits w32 j.low × SFits w32 j.high × (t ≡ j.text)
 in-good t l j = go (same (before blank l) (bytes "job")) refl
   where
-    go : (b : Bool) → same (before blank l) (bytes "job") ≡ b → job_in t l ≡ Good j → SFits w32 j.low × SFits w32 j.high × (t ≡ j.text)
+    go : (b : Bool) → same (before blank l) (bytes "job") ≡ b → job_in t l ≡ Some j → SFits w32 j.low × SFits w32 j.high × (t ≡ j.text)
     go false q e = absurd (bad-good (sym (no-job t l q) ∙ e))
     go true q e =
         let p = with-good t _ _ _ j (sym (a-job t l q) ∙ e) in
         (number_fits _ j.low p.0, number_fits _ j.high p.1, p.2)
 
-pub good-holds : (input : List ℕ) (j : Job) → line_job input ≡ Good j → Holds input j
+pub good-holds : (input : List ℕ) (j : Job) → line_job input ≡ Some j → Holds input j
 good-holds l j e = go (ltb (place 10 l) (length l)) refl (ltb (place 10 l) 40) refl
   where
     go : (b : Bool) → ltb (place 10 l) (length l) ≡ b → (d : Bool) → ltb (place 10 l) 40 ≡ d → Holds l j

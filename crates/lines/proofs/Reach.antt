@@ -3,7 +3,7 @@ use Prim.Native.Nat.{ℕ, zero, suc, ◌+◌, ◌≤◌, ◌<◌}
 use native.Mathlib.Omega.{arith}
 use mathlib.Core.Path.{◌≡◌, refl, sym, ◌∙◌, ap}
 use mathlib.Core.Bool.{Bool, true, false, ◌||◌}
-use mathlib.Core.Option.{Option, none, some}
+use Rattle.std.specs.Prelude.{Option, None}
 use mathlib.Core.List.{List, [], ◌∷◌, ◌++◌}
 use lib.ListN.{length, take, length-drop, length-append}
 use lib.Seq.{length-take-le, take-append-le}
@@ -12,45 +12,30 @@ use lib.IntN.{ℤ}
 use borrow.Author.Tests.{lt-leb, leb-true, ltb-true, ltb-false}
 use Rattle.lexer.specs.Lex.{is_digit, all, same, bytes}
 use Rattle.lexer.proofs.Bytes.{and-false, same-eq}
-use Rattle.lines.specs.declared.JobLine.TheVariants.{Bad}
 use Rattle.lines.specs.JobLine.{plain, minus, number_of, place, before, after, blank, job_with, job_in, line_job, line_settled}
-use Rattle.lines.proofs.Words.{no-job, a-job, no-high, no_line, a-line}
+use Rattle.lines.proofs.Words.{place-le, no-job, a-job, no-high, no_third, no_line, a-line}
 
-pub place-le : (b : ℕ) (l : List ℕ) → place b l ≤ length l
-unfolding place
-place-le b [] = omega arith
-place-le b (x ∷ l) = go (eqb x b) (place-le b l)
-  where
-    go : (t : Bool) → place b l ≤ length l → elim t [ true ↦ zero | false ↦ suc (place b l) ] ≤ suc (length l)
-    go true h = omega arith
-    go false h = omega arith
-
-plain-long : (l : List ℕ) → 10 < length l → plain l ≡ none
+plain-long : (l : List ℕ) → 10 < length l → plain l ≡ None
 unfolding plain
 plain-long l h = rw (lt-leb (length l) 10 h, and-false (leb 1 (length l)), and-false (all is_digit l), plain)
 
-minus-long : (l : List ℕ) → 10 < length l → minus l ≡ none
+minus-long : (l : List ℕ) → 10 < length l → minus l ≡ None
 unfolding minus
 minus-long l h = rw (lt-leb (length l) 10 h, and-false (leb 1 (length l)), and-false (all is_digit l), minus)
 
-number-long : (l : List ℕ) → 11 < length l → number_of l ≡ none
+number-long : (l : List ℕ) → 11 < length l → number_of l ≡ None
 unfolding number_of
 number-long [] h = refl
 number-long (b ∷ bs) h = go (eqb b 45)
   where
-    go : (t : Bool) → ◌≡◌ {A = Option ℤ} (elim t [ true ↦ minus bs | false ↦ plain (b ∷ bs) ]) none
+    go : (t : Bool) → ◌≡◌ {A = Option ℤ} (elim t [ true ↦ minus bs | false ↦ plain (b ∷ bs) ]) None
     go true = minus-long bs (omega arith)
     go false = plain-long (b ∷ bs) (omega arith)
 
-no_third : (t : ℕ) (x y : Option ℤ) → job_with t x y none ≡ Bad
-no_third t none y = refl
-no_third t (some a) none = refl
-no_third t (some a) (some b) = refl
-
-long-line : (t : ℕ) (l : List ℕ) → 39 < length l → job_in t l ≡ Bad
+long-line : (t : ℕ) (l : List ℕ) → 39 < length l → job_in t l ≡ None
 long-line t l h = go (same (before blank l) (bytes "job")) refl
   where
-    go : (b : Bool) → same (before blank l) (bytes "job") ≡ b → job_in t l ≡ Bad
+    go : (b : Bool) → same (before blank l) (bytes "job") ≡ b → job_in t l ≡ None
     go false e = no-job t l e
     go true e =
         let three : place blank l ≡ 3 = sym (length-take-le (place blank l) l (place-le blank l)) ∙ ap length (same-eq (before blank l) (bytes "job") e) in
@@ -61,12 +46,12 @@ long-line t l h = go (same (before blank l) (bytes "job")) refl
         size m = length-take-le (place blank m) m (place-le blank m)
 
         third : (b : Bool) → ltb 11 (place blank (after blank (after blank l))) ≡ b → 23 < length (after blank (after blank l))
-            → job_with t (number_of (before blank (after blank l))) (number_of (before blank (after blank (after blank l)))) (number_of (after blank (after blank (after blank l)))) ≡ Bad
+            → job_with t (number_of (before blank (after blank l))) (number_of (before blank (after blank (after blank l)))) (number_of (after blank (after blank (after blank l)))) ≡ None
         third true q k = ap (λ (o : Option ℤ). job_with t (number_of (before blank (after blank l))) o (number_of (after blank (after blank (after blank l))))) (number-long (before blank (after blank (after blank l))) (omega (arith, size (after blank (after blank l)), ltb-true 11 (place blank (after blank (after blank l))) q))) ∙ no-high t (number_of (before blank (after blank l))) (number_of (after blank (after blank (after blank l))))
         third false q k = ap (λ (o : Option ℤ). job_with t (number_of (before blank (after blank l))) (number_of (before blank (after blank (after blank l)))) o) (number-long (after blank (after blank (after blank l))) (omega (arith, length-drop (place blank (after blank (after blank l)) + 1) (after blank (after blank l)), ltb-false 11 (place blank (after blank (after blank l))) q))) ∙ no_third t (number_of (before blank (after blank l))) (number_of (before blank (after blank (after blank l))))
 
         low : (b : Bool) → ltb 11 (place blank (after blank l)) ≡ b → 35 < length (after blank l)
-            → job_with t (number_of (before blank (after blank l))) (number_of (before blank (after blank (after blank l)))) (number_of (after blank (after blank (after blank l)))) ≡ Bad
+            → job_with t (number_of (before blank (after blank l))) (number_of (before blank (after blank (after blank l)))) (number_of (after blank (after blank (after blank l)))) ≡ None
         low true q k = ap (λ (o : Option ℤ). job_with t o (number_of (before blank (after blank (after blank l)))) (number_of (after blank (after blank (after blank l))))) (number-long (before blank (after blank l)) (omega (arith, size (after blank l), ltb-true 11 (place blank (after blank l)) q)))
         low false q k = third (ltb 11 (place blank (after blank (after blank l)))) refl (omega (arith, length-drop (place blank (after blank l) + 1) (after blank l), ltb-false 11 (place blank (after blank l)) q))
 
@@ -90,10 +75,10 @@ place_out b (x ∷ l) r h = go (eqb x b) h (place_out b l r)
     go true k f = absurd (omega arith)
     go false k f = omega (arith, f (omega arith))
 
-pub no-early-end : (l : List ℕ) → 40 ≤ place 10 l → line_job l ≡ Bad
+pub no-early-end : (l : List ℕ) → 40 ≤ place 10 l → line_job l ≡ None
 no-early-end l h = go (ltb (place 10 l) (length l)) refl
   where
-    go : (b : Bool) → ltb (place 10 l) (length l) ≡ b → line_job l ≡ Bad
+    go : (b : Bool) → ltb (place 10 l) (length l) ≡ b → line_job l ≡ None
     go true q = a-line l (ltb-true (place 10 l) (length l) q) ∙ long-line (place 10 l + 1) (before 10 l) (omega (arith, length-take-le (place 10 l) l (place-le 10 l)))
     go false q = no_line l (omega (arith, place-le 10 l, ltb-false (place 10 l) (length l) q))
 

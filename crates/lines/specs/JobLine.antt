@@ -1,9 +1,7 @@
 -- The job line: document 01, "The program". The input is the list of its bytes.
-use Rattle.std.specs.Prelude.{ℕ, zero, suc, ◌+◌, Bool, true, false, ◌&&◌, ◌||◌, List, [], ◌∷◌, length, take, drop, eqb, leb, ltb, ℤ, pos, negsuc, neg_ℤ}
-use Rattle.std.proofs.Math.Option.{Option, none, some}
+use Rattle.std.specs.Prelude.{ℕ, zero, suc, ◌+◌, Bool, true, false, ◌&&◌, ◌||◌, List, [], ◌∷◌, length, take, drop, eqb, leb, ltb, ℤ, pos, negsuc, neg_ℤ, Option, None, Some}
 use Rattle.lexer.specs.Lex.{is_digit, all, same, bytes, decimal}
-use Rattle.lines.specs.declared.JobLine.{JobLine}
-use Rattle.lines.specs.declared.JobLine.TheVariants.{Bad, Good}
+use Rattle.lines.specs.declared.Job.{Job}
 
 -- ---- a number: "decimal, one to ten digits, a minus allowed before them, .. signed 32 bits"
 
@@ -12,13 +10,13 @@ is_natural ds = all is_digit ds && (leb 1 (length ds) && leb (length ds) 10)
 
 -- the number that digits stand for, and with a minus before them
 unfoldable pub plain : List ℕ → Option ℤ
-plain ds = elim (is_natural ds && leb (decimal 0 ds) 2147483647) [ true ↦ some (pos (decimal 0 ds)) | false ↦ none ]
+plain ds = elim (is_natural ds && leb (decimal 0 ds) 2147483647) [ true ↦ Some (pos (decimal 0 ds)) | false ↦ None ]
 
 unfoldable pub minus : List ℕ → Option ℤ
-minus ds = elim (is_natural ds && leb (decimal 0 ds) 2147483648) [ true ↦ some (neg_ℤ (pos (decimal 0 ds))) | false ↦ none ]
+minus ds = elim (is_natural ds && leb (decimal 0 ds) 2147483648) [ true ↦ Some (neg_ℤ (pos (decimal 0 ds))) | false ↦ None ]
 
 unfoldable pub number_of : List ℕ → Option ℤ
-number_of [] = none
+number_of [] = None
 number_of (b ∷ bs) = elim (eqb b 45) [ true ↦ minus bs | false ↦ plain (b ∷ bs) ]
 
 -- ---- words: "single blanks"
@@ -43,28 +41,28 @@ line_feed = 10
 
 -- ---- the line: "`job LOW HIGH STEPS` .. negative STEPS is bad"
 
-abbrev pub job_with : ℕ → Option ℤ → Option ℤ → Option ℤ → JobLine
-job_with text none high steps = Bad
-job_with text (some l) none steps = Bad
-job_with text (some l) (some h) none = Bad
-job_with text (some l) (some h) (some (negsuc n)) = Bad
-job_with text (some l) (some h) (some (pos n)) = Good (record { low = l; high = h; steps = n; text = text })
+abbrev pub job_with : ℕ → Option ℤ → Option ℤ → Option ℤ → Option Job
+job_with text None high steps = None
+job_with text (Some l) None steps = None
+job_with text (Some l) (Some h) None = None
+job_with text (Some l) (Some h) (Some (negsuc n)) = None
+job_with text (Some l) (Some h) (Some (pos n)) = Some (record { low = l; high = h; steps = n; text = text })
 
 -- A line whose text begins at this place: its first word is `job`, its second LOW, its third HIGH, and all that is left of it is STEPS. (A word that is missing is empty, and no number.)
-unfoldable pub job_in : ℕ → List ℕ → JobLine
+unfoldable pub job_in : ℕ → List ℕ → Option Job
 job_in text line =
     let rest = after blank line in
     let last = after blank rest in
     elim (same (before blank line) (bytes "job")) [
       | true ↦ job_with text (number_of (before blank rest)) (number_of (before blank last)) (number_of (after blank last))
-      | false ↦ Bad
+      | false ↦ None
     ]
 
 -- "a line .. ended by LF .., then the text"
-unfoldable pub line_job : List ℕ → JobLine
+unfoldable pub line_job : List ℕ → Option Job
 line_job input = elim (ltb (place line_feed input) (length input)) [
   | true ↦ job_in (place line_feed input + 1) (before line_feed input)
-  | false ↦ Bad
+  | false ↦ None
 ]
 
 -- what follows this input does not change its job line: the line has ended, or it is longer than any good one

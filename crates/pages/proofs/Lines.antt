@@ -1,20 +1,22 @@
 -- The lines of a page, as the functions write them.
-use Prim.Native.Nat.{ℕ, zero, suc, ◌+◌, ◌-◌, ◌*◌, ◌≤◌, ◌<◌}
+use Prim.Native.Nat.{ℕ, zero, suc, ◌+◌, ◌-◌, ◌*◌, ◌≤◌}
 use native.Mathlib.Omega.{arith}
 use mathlib.Core.Path.{◌≡◌, refl, sym, ◌∙◌, ap, ap₂}
 use mathlib.Core.List.{List, [], ◌∷◌, ◌++◌, map, append_assoc, append-nil}
 use lib.ListN.{length, take, drop, get_or, replicate, length-drop, replicate-append-replicate}
-use lib.Seq.{sets-eq, take_at, drop-drop, get_or-drop, take-append_seam, drop-append-le, length-take-le}
+use lib.Seq.{sets-eq, take_at, take-append_seam, drop-append-le, length-take-le}
 use lib.IntN.{ℤ, pos}
 use Rattle.lexer.specs.Lex.{bytes}
 use Rattle.printing.specs.Decimal.{natural, integer}
 use Rattle.printing.specs.Written.{blanks, Put}
 use Rattle.semantics.specs.Run.{Row}
-use Rattle.semantics.specs.Search.{whole, cuts, full, spent}
-use Rattle.lines.specs.Print.{line_end, ending}
-use Rattle.lines.specs.Written.{count_of, ending_at, row_from}
+use Rattle.std.specs.Prelude.{Option, None, Some}
+use Rattle.search.specs.declared.Ending.{Ending}
+use Rattle.search.specs.Loop.{close_of}
+use Rattle.lines.specs.Print.{line_end}
+use Rattle.lines.specs.Written.{count_of, row_from}
 use Rattle.pages.specs.Pages.{right, filled, column, columns, row_across, rows_down, last_five, heading, page, page_bytes}
-use Rattle.pages.specs.Parts.{foot_at, joined, rows_bytes, blank_lines}
+use Rattle.pages.specs.Parts.{foot_of, joined, rows_bytes, blank_lines}
 use Rattle.pages.proofs.Widths.{Narrow, across-length, heading-length, filled-by, filled_none, ending-short}
 use Rattle.pages.proofs.Lists.{joined-append, joined-map, map-replicate, map-join}
 
@@ -33,9 +35,9 @@ module _ {l bs m : List ℕ} {r : ℕ} (p : Put l 0 bs m r) (h : length bs ≤ l
   written-front = ap₂ (λ (k : ℕ) (s : List ℕ). take k s) written_count kept-front ∙ take-append_seam bs (drop (length bs) l)
 
   -- its last five bytes
-  pub written-five : 5 < r → take (r - (r - 5)) (drop (r - 5) m) ≡ last_five bs
+  pub written-five : take (r - (r - 5)) (drop (r - 5) m) ≡ last_five bs
   unfolding last_five
-  written-five k =
+  written-five =
       let e : r ≡ length bs = written_count in
       let i : r - 5 ≡ length bs - 5 = omega arith in
       let n : length (drop (length bs - 5) bs) ≡ r - (r - 5) = length-drop (length bs - 5) bs ∙ omega arith in
@@ -87,19 +89,14 @@ filled-across r h = sym (append-nil (row_across r)) ∙ filled-by (row_across r)
 count-few : (z : ℤ) → count_of z ≤ 8
 count-few z = omega arith
 
-pub row-line : (ws : List ℤ) (base n : ℕ) → base + 10 ≤ length ws → length (integer (get_or ws base (pos 0))) ≤ 12 → n ≡ count_of (get_or ws (base + 1) (pos 0))
-    → ((right 12 (integer (get_or ws base (pos 0))) ++ joined column (take n (drop (base + 2) ws))) ++ blanks (8 * (8 - n) + 4)) ++ line_end ≡ filled (row_across (row_from (drop base ws))) ++ line_end
+pub row-line : (ws : List ℤ) (n : ℕ) → 10 ≤ length ws → length (integer (get_or ws 0 (pos 0))) ≤ 12 → n ≡ count_of (get_or ws 1 (pos 0))
+    → ((right 12 (integer (get_or ws 0 (pos 0))) ++ joined column (take n (drop 2 ws))) ++ blanks (8 * (8 - n) + 4)) ++ line_end ≡ filled (row_across (row_from ws)) ++ line_end
 unfolding row_from
-row-line ws base n long narrow e =
-    let z : base + 0 ≡ base = omega arith in
-    let r : get_or ws base (pos 0) ≡ get_or (drop base ws) 0 (pos 0) = sym (get_or-drop base ws 0 (pos 0) ∙ ap (λ (i : ℕ). get_or ws i (pos 0)) z) in
-    let c : n ≡ count_of (get_or (drop base ws) 1 (pos 0)) = e ∙ ap count_of (sym (get_or-drop base ws 1 (pos 0))) in
-    let v : take n (drop (base + 2) ws) ≡ take (count_of (get_or (drop base ws) 1 (pos 0))) (drop 2 (drop base ws)) = ap (λ (l : List ℤ). take n l) (sym (drop-drop 2 base ws)) ∙ ap (λ (i : ℕ). take i (drop 2 (drop base ws))) c in
-    let few : n ≤ 8 = omega (arith, e, count-few (get_or ws (base + 1) (pos 0))) in
-    let k : length (take n (drop (base + 2) ws)) ≡ n = length-take-le n (drop (base + 2) ws) (omega (arith, length-drop (base + 2) ws)) in
-    let whole_row : record { result = get_or ws base (pos 0); values = take n (drop (base + 2) ws) } ≡ row_from (drop base ws) = ap₂ (λ (x : ℤ) (l : List ℤ). record { result = x; values = l }) r v in
-    let fits : Narrow (row_from (drop base ws)) = rw (← r) narrow in
-    ap (λ (l : List ℕ). l ++ line_end) (across (get_or ws base (pos 0)) (take n (drop (base + 2) ws)) n few k ∙ ap row_across whole_row ∙ filled-across (row_from (drop base ws)) fits)
+row-line ws n long narrow e =
+    let few : n ≤ 8 = omega (arith, e, count-few (get_or ws 1 (pos 0))) in
+    let k : length (take n (drop 2 ws)) ≡ n = length-take-le n (drop 2 ws) (omega (arith, length-drop 2 ws)) in
+    let whole_row : record { result = get_or ws 0 (pos 0); values = take n (drop 2 ws) } ≡ row_from ws = ap (λ (m : ℕ). record { result = get_or ws 0 (pos 0); values = take m (drop 2 ws) }) e in
+    ap (λ (l : List ℕ). l ++ line_end) (across (get_or ws 0 (pos 0)) (take n (drop 2 ws)) n few k ∙ ap row_across whole_row ∙ filled-across (row_from ws) narrow)
 
 -- ---- line 1 and line 60
 
@@ -110,30 +107,12 @@ head-filled n = filled-by (heading n) 16 (heading-length n) (omega arith)
 pub head-line : (n : ℕ) → ((bytes "plan list" ++ blanks 2) ++ right 5 (last_five (natural n)) ++ blanks 64) ++ line_end ≡ filled (heading n) ++ line_end
 head-line n = ap (λ (l : List ℕ). l ++ line_end) (head-filled n)
 
-pub foot-none : (n : ℕ) → 3 < n → blank_lines 1 ≡ filled (foot_at n) ++ line_end
-unfolding joined
-foot-none zero h = absurd (omega arith)
-foot-none (suc zero) h = absurd (omega arith)
-foot-none (suc (suc zero)) h = absurd (omega arith)
-foot-none (suc (suc (suc zero))) h = absurd (omega arith)
-foot-none (suc (suc (suc (suc n)))) h = append-nil (blanks 80 ++ line_end) ∙ ap (λ (l : List ℕ). l ++ line_end) (sym filled_none)
+pub foot-short : (o : Option Ending) → length (foot_of o) ≤ 5
+foot-short None = omega arith
+foot-short (Some e) = ending-short (close_of e)
 
-pub foot-said : (n : ℕ) → n ≤ 3 → ending (ending_at n) ≡ foot_at n
-foot-said zero h = refl
-foot-said (suc zero) h = refl
-foot-said (suc (suc zero)) h = refl
-foot-said (suc (suc (suc zero))) h = refl
-foot-said (suc (suc (suc (suc n)))) h = absurd (omega arith)
-
-pub foot-short : (n : ℕ) → length (foot_at n) ≤ 5
-foot-short zero = ending-short whole
-foot-short (suc zero) = ending-short cuts
-foot-short (suc (suc zero)) = ending-short full
-foot-short (suc (suc (suc zero))) = ending-short spent
-foot-short (suc (suc (suc (suc n)))) = omega arith
-
-pub foot-line : (n k : ℕ) → n ≤ 3 → k ≡ length (foot_at n) → (ending (ending_at n) ++ blanks (80 - k)) ++ line_end ≡ filled (foot_at n) ++ line_end
-foot-line n k h e = ap (λ (l : List ℕ). l ++ line_end) (ap (λ (w : List ℕ). w ++ blanks (80 - k)) (foot-said n h) ∙ filled-by (foot_at n) k (sym e) (omega (arith, e, foot-short n)))
+pub foot-line : (o : Option Ending) → (foot_of o ++ blanks (80 - length (foot_of o))) ++ line_end ≡ filled (foot_of o) ++ line_end
+foot-line o = ap (λ (l : List ℕ). l ++ line_end) (filled-by (foot_of o) (length (foot_of o)) refl (omega (arith, foot-short o)))
 
 -- ---- a page
 
@@ -174,10 +153,3 @@ page-bytes number rows foot h =
     ∙ sym (joined-append f (map filled (rows_down 58 rows)) (filled foot ∷ []))
     ∙ ap (joined f) (sym (map-join filled (rows_down 58 rows) (foot ∷ []))))
     ∙ sym (bytes-joined (page number rows foot))
-
-pub foot-unsaid : (n : ℕ) → ¬ (n ≡ 0) → ¬ (n ≡ 1) → ¬ (n ≡ 2) → ¬ (n ≡ 3) → 0 ≡ length (foot_at n)
-foot-unsaid zero a b c d = absurd (a refl)
-foot-unsaid (suc zero) a b c d = absurd (b refl)
-foot-unsaid (suc (suc zero)) a b c d = absurd (c refl)
-foot-unsaid (suc (suc (suc zero))) a b c d = absurd (d refl)
-foot-unsaid (suc (suc (suc (suc n)))) a b c d = refl

@@ -1,6 +1,8 @@
 -- What the functions inside say: line 60 by the number of an ending.
-use Rattle.std.specs.Prelude.{ℕ, zero, suc, List, [], ◌∷◌, ◌++◌, replicate}
+use Rattle.std.specs.Prelude.{ℕ, zero, suc, List, [], ◌∷◌, ◌++◌, replicate, Option, None, Some}
 use Rattle.semantics.specs.Search.{whole, cuts, full, spent}
+use Rattle.search.specs.declared.Ending.{Ending}
+use Rattle.search.specs.Loop.{close_of}
 use Rattle.printing.specs.Written.{blanks}
 use Rattle.semantics.specs.Run.{Row}
 use Rattle.lines.specs.Print.{line_end, ending}
@@ -13,6 +15,11 @@ foot_at (suc zero) = ending cuts
 foot_at (suc (suc zero)) = ending full
 foot_at (suc (suc (suc zero))) = ending spent
 foot_at (suc (suc (suc (suc n)))) = []
+
+-- the word of line 60, or none
+abbrev pub foot_of : Option Ending → List ℕ
+foot_of (Some e) = ending (close_of e)
+foot_of None = []
 
 -- columns, one after the other
 unfoldable pub joined : {A : Type 0} → (A → List ℕ) → List A → List ℕ

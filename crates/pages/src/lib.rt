@@ -1,15 +1,17 @@
 // The pages of a sheet for the wall, written into a lent slice.
 #![tactic(auto)]
 
-ghost use Rattle.std.specs.Prelude.{List, ◌++◌, ◌≡◌, ℕ, ◌+◌, ◌*◌, ◌≤◌, length, take, drop};
+ghost use Rattle.std.specs.Prelude.{◌++◌, ◌≡◌, ◌+◌, ◌*◌, ◌≤◌, length, drop};
 ghost use Rattle.printing.specs.Decimal.{natural, integer};
 ghost use Rattle.printing.specs.Written.{blanks, Put};
 ghost use Rattle.lines.specs.Print.{line_end};
-ghost use Rattle.lines.specs.Written.{ending_at, row_from, rows_from};
+ghost use Rattle.lines.specs.Written.{row_from, rows_from};
+ghost use Rattle.search.specs.Loop.{close_of};
 ghost use Rattle.pages.specs.Pages.{right, filled, column, row_across, last_five, heading, page as page_of, wall_sheet, page_bytes, sheet_bytes};
-ghost use Rattle.pages.specs.Parts.{foot_at, joined, rows_bytes, blank_lines};
+ghost use Rattle.pages.specs.Parts.{foot_of, joined, rows_bytes, blank_lines};
 
 use printing::{put_blanks, put_byte, put_bytes, put_integer, put_natural};
+use search::Ending;
 
 // The bytes of a page: 60 lines of 80 characters and LF.
 pub const PAGE: usize = 4860;
@@ -17,18 +19,12 @@ pub const PAGE: usize = 4860;
 // The rows of a page.
 pub const ROWS: usize = 58;
 
-// The number of no ending.
-pub const UNSAID: u32 = 4;
-
 // A word at the right end of so many columns.
 fn put_right(out: &mut [u8], at: usize, width: usize, word: &[u8]) -> usize
     ensures { Put out.old at (right width word.now) out.new result }
 {
-    if word.len() < width {
-        let p = put_blanks(out, at, width - word.len());
-        return put_bytes(out, p, word);
-    }
-    put_bytes(out, at, word)
+    let p = put_blanks(out, at, width.saturating_sub(word.len()));
+    put_bytes(out, p, word)
 }
 
 // A value in its column.
@@ -52,28 +48,25 @@ fn put_result(out: &mut [u8], at: usize, z: i32) -> usize
     put_right(out, at, 12, &digits[..n])
 }
 
-// The n values from `from` on, each in its column.
-fn put_columns(out: &mut [u8], at: usize, rows: &[i32], from: usize, n: usize) -> usize
-    requires { from + n ≤ length rows.now }
-    ensures { Put out.old at (joined column (take n (drop from rows.now))) out.new result }
+// Values, each in its column.
+fn put_columns(out: &mut [u8], at: usize, values: &[i32]) -> usize
+    ensures { Put out.old at (joined column values.now) out.new result }
 {
     let mut p = at;
-    let mut k = 0;
-    while k < n {
-        p = put_column(out, p, rows[from + k]);
-        k += 1;
+    for &z in values {
+        p = put_column(out, p, z);
     }
     p
 }
 
-// The line of the row whose ten words begin at `base`.
-fn put_row(out: &mut [u8], at: usize, rows: &[i32], base: usize) -> usize
-    requires { base + 10 ≤ length rows.now }
-    ensures { Put out.old at (filled (row_across (row_from (drop base rows.now))) ++ line_end) out.new result }
+// The line of the row whose ten words stand at the front.
+fn put_row(out: &mut [u8], at: usize, row: &[i32]) -> usize
+    requires { 10 ≤ length row.now }
+    ensures { Put out.old at (filled (row_across (row_from row.now)) ++ line_end) out.new result }
 {
-    let p = put_result(out, at, rows[base]);
-    let n = lines::value_count(ints::word(rows[base + 1]));
-    let q = put_columns(out, p, rows, base + 2, n);
+    let p = put_result(out, at, row[0]);
+    let n = lines::value_count(row[1]);
+    let q = put_columns(out, p, &row[2..2 + n]);
     let s = put_blanks(out, q, 8 * (8 - n) + 4);
     put_byte(out, s, b'\n')
 }
@@ -84,10 +77,8 @@ fn put_rows(out: &mut [u8], at: usize, rows: &[i32], from: usize, n: usize) -> u
     ensures { Put out.old at (rows_bytes (rows_from n (drop (10 * from) rows.now))) out.new result }
 {
     let mut p = at;
-    let mut k = 0;
-    while k < n {
-        p = put_row(out, p, rows, 10 * (from + k));
-        k += 1;
+    for k in 0..n {
+        p = put_row(out, p, &rows[10 * (from + k)..]);
     }
     p
 }
@@ -97,11 +88,9 @@ fn put_blank_lines(out: &mut [u8], at: usize, n: usize) -> usize
     ensures { Put out.old at (blank_lines n) out.new result }
 {
     let mut p = at;
-    let mut k = 0;
-    while k < n {
+    for _ in 0..n {
         p = put_blanks(out, p, 80);
         p = put_byte(out, p, b'\n');
-        k += 1;
     }
     p
 }
@@ -112,11 +101,8 @@ fn put_number(out: &mut [u8], at: usize, number: u32) -> usize
 {
     let mut digits = [0u8; 10];
     let n = put_natural(&mut digits, 0, number);
-    if 5 < n {
-        let first = n - 5;
-        return put_right(out, at, 5, &digits[first..n]);
-    }
-    put_right(out, at, 5, &digits[..n])
+    let first = n.saturating_sub(5);
+    put_right(out, at, 5, &digits[first..n])
 }
 
 // Line 1.
@@ -130,32 +116,27 @@ fn put_head(out: &mut [u8], at: usize, number: u32) -> usize
     put_byte(out, t, b'\n')
 }
 
-// How many letters an ending's word has.
-fn word_size(ending: u32) -> usize
-    ensures { result ≡ length (foot_at ending) }
+// The word of line 60.
+fn foot_word(ending: Option<Ending>) -> &'static [u8]
+    ensures { result.now ≡ foot_of ending }
 {
     match ending {
-        0 => 5,
-        1 => 3,
-        2 => 4,
-        3 => 5,
-        _ => 0,
+        Some(close) => lines::ending_word(close),
+        None => b"",
     }
 }
 
 // Line 60.
-fn put_foot(out: &mut [u8], at: usize, ending: u32) -> usize
-    ensures { Put out.old at (filled (foot_at ending) ++ line_end) out.new result }
+fn put_foot(out: &mut [u8], at: usize, ending: Option<Ending>) -> usize
+    ensures { Put out.old at (filled (foot_of ending) ++ line_end) out.new result }
 {
-    if 3 < ending {
-        return put_blank_lines(out, at, 1);
-    }
-    let p = lines::put_ending(out, at, ending);
-    let q = put_blanks(out, p, 80 - word_size(ending));
+    let word = foot_word(ending);
+    let p = put_bytes(out, at, word);
+    let q = put_blanks(out, p, 80 - word.len());
     put_byte(out, q, b'\n')
 }
 
-// The page with this number, with n rows from row `from` on, and an ending by its number.
+// The page with this number, with n rows from row `from` on, and an ending or none.
 pub fn put_page(
     out: &mut [u8],
     at: usize,
@@ -163,10 +144,10 @@ pub fn put_page(
     rows: &[i32],
     from: usize,
     n: usize,
-    ending: u32,
+    ending: Option<Ending>,
 ) -> usize
     requires { (n ≤ 58) × (10 * (from + n) ≤ length rows.now) }
-    ensures { Put out.old at (page_bytes (page_of number (rows_from n (drop (10 * from) rows.now)) (foot_at ending))) out.new result }
+    ensures { Put out.old at (page_bytes (page_of number (rows_from n (drop (10 * from) rows.now)) (foot_of ending))) out.new result }
 {
     let p = put_head(out, at, number);
     let q = put_rows(out, p, rows, from, n);
@@ -174,18 +155,18 @@ pub fn put_page(
     put_foot(out, s, ending)
 }
 
-// The sheet of the first n rows, with an ending by its number.
-pub fn put_pages(out: &mut [u8], rows: &[i32], n: usize, ending: u32) -> usize
-    requires { (n ≤ 1000) × (10 * n ≤ length rows.now) × (ending ≤ 3) }
-    ensures { Put out.old 0 (sheet_bytes (wall_sheet (rows_from n rows.now) (ending_at ending))) out.new result }
+// The sheet of the first n rows, with an ending.
+pub fn put_pages(out: &mut [u8], rows: &[i32], n: usize, close: Ending) -> usize
+    requires { (n ≤ 1000) × (10 * n ≤ length rows.now) }
+    ensures { Put out.old 0 (sheet_bytes (wall_sheet (rows_from n rows.now) (close_of close))) out.new result }
 {
     let mut p = 0;
     let mut number: u32 = 1;
     let mut from = 0;
     while ROWS < n - from {
-        p = put_page(out, p, number, rows, from, ROWS, UNSAID);
+        p = put_page(out, p, number, rows, from, ROWS, None);
         number += 1;
         from += ROWS;
     }
-    put_page(out, p, number, rows, from, n - from, ending)
+    put_page(out, p, number, rows, from, n - from, Some(close))
 }

@@ -1,15 +1,12 @@
 use native.Mathlib.Omega.{arith}
-use Rattle.lines.proofs.Words.{place_here, place-later, place_end}
+use mathlib.Core.Path.{◌≡◌, ◌∙◌, ap}
+use lib.ListN.{length}
+use Rattle.std.specs.Prelude.{unwrap_or}
+use Rattle.lines.specs.JobLine.{place}
+use Rattle.lines.proofs.Words.{or-length, place-le}
 use Rattle.lines.proofs.place.Goals as goal
 
-pub loop-i-init : goal.loop-i-init
-loop-i-init c = (omega arith, omega arith)
-
-pub returns-then-s-i : goal.returns-then-s-i
-returns-then-s-i c = (omega (arith, c.loop-i.invariant.1, place_here c.args.b c.args.s.now c.loop-i.i c.loop-i-test.true c.if-s-i.true), c.loop-i.invariant.0)
-
-pub loop-i-preserved : goal.loop-i-preserved
-loop-i-preserved c = (omega arith, omega (arith, c.loop-i.invariant.1, place-later c.args.b c.args.s.now c.loop-i.i c.loop-i-test.true c.if-s-i.false))
-
 pub returns : goal.returns
-returns c = (omega (arith, c.loop-i.invariant.1, place_end c.args.b c.args.s.now c.loop-i.i c.loop-i-test.false), c.loop-i.invariant.0)
+returns c =
+    let e : c.unwrap_or.result ≡ place c.args.b c.args.s.now = c.unwrap_or.ensures ∙ ap (λ o. unwrap_or o (length c.args.s.now)) c.find.ensures ∙ or-length c.args.b c.args.s.now in
+    (e, omega (arith, e, place-le c.args.b c.args.s.now))

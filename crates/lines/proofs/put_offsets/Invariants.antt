@@ -1,4 +1,4 @@
-use Prim.Native.Nat.{◌+◌, ◌-◌, ◌*◌, ◌≤◌}
+use Prim.Native.Nat.{◌+◌, ◌*◌, ◌≤◌}
 use mathlib.Core.List.{map}
 use lib.ListN.{take}
 use lib.IntN.{pos}
@@ -6,8 +6,5 @@ use Rattle.printing.specs.Written.{Put}
 use Rattle.lines.specs.Print.{spaced}
 use Rattle.lines.proofs.put_offsets.Given as goal
 
-abbrev pub invariant-loop-k : goal.invariant-loop-k
-invariant-loop-k l = (l.k ≤ l.n) × Put l.initial.out l.at (spaced (map pos (take l.k l.offsets))) l.out l.p × (l.p ≤ l.at + 12 * l.k)
-
-abbrev pub decreases-loop-k : goal.decreases-loop-k
-decreases-loop-k l = l.n - l.k
+abbrev pub invariant-loop-offset : goal.invariant-loop-offset
+invariant-loop-offset l = Put l.initial.out l.at (spaced (map pos (take l.offset-index l.offsets))) l.out l.p × (l.p ≤ l.at + 12 * l.offset-index)

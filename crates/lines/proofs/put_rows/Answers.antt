@@ -1,33 +1,17 @@
-use Prim.Native.Nat.{ℕ, ◌*◌}
+use Prim.Native.Nat.{◌+◌, ◌*◌}
 use native.Mathlib.Omega.{arith}
-use mathlib.Core.Path.{◌≡◌, ap}
-use lib.ListN.{drop}
-use Rattle.printing.proofs.Puts.{and_then, put_as, put-length, put-none}
+use Rattle.printing.proofs.Puts.{and_then, put_as, put-none}
 use Rattle.lines.specs.Print.{row_lines}
 use Rattle.lines.specs.Written.{rows_from}
+use Rattle.lines.proofs.Words.{whole-rest}
 use Rattle.lines.proofs.Lines.{rows_more}
 use Rattle.lines.proofs.put_rows.Goals as goal
 
 pub loop-k-init : goal.loop-k-init
 unfolding row_lines rows_from
-loop-k-init c = (omega arith, put-none _ _ (omega arith) (omega arith), omega arith)
-
-pub overflow_add-from : goal.overflow_add-from
-overflow_add-from c = omega (arith, c.requires, c.loop-k-test.true)
-
-pub overflow_mul-from : goal.overflow_mul-from
-overflow_mul-from c = omega (arith, c.requires, c.loop-k-test.true)
-
-pub put_row-p-requires : goal.put_row-p-requires
-put_row-p-requires c = omega (arith, c.requires, c.loop-k-test.true)
+loop-k-init c = (put-none _ _ (omega arith) (omega arith), omega arith)
 
 pub loop-k-preserved : goal.loop-k-preserved
-loop-k-preserved c = (omega arith, put_as (rows_more c.args.rows.now c.args.from c.loop-k.k) (and_then c.loop-k.invariant.1 c.put_row-p.ensures.0), omega (arith, c.loop-k.invariant.2, c.put_row-p.ensures.1))
-
-pub shape_of-out : goal.shape_of-out
-shape_of-out c = put-length c.loop-k.invariant.1
-
-pub returns : goal.returns
-returns c =
-    let e : c.loop-k.k ≡ c.args.n = omega (arith, c.loop-k.invariant.0, c.loop-k-test.false) in
-    (put_as (ap (λ (i : ℕ). row_lines (rows_from i (drop (10 * c.args.from) c.args.rows.now))) e) c.loop-k.invariant.1, omega (arith, c.loop-k.invariant.2))
+loop-k-preserved c =
+    let w = rw (whole-rest c.args.rows.now (10 * (c.args.from + c.loop-k.k))) at c.put_row-p.ensures.0 in
+    (put_as (rows_more c.args.rows.now c.args.from c.loop-k.k) (and_then c.loop-k.invariant.0 w), omega (arith, c.loop-k.invariant.1, c.put_row-p.ensures.1))

@@ -1,11 +1,8 @@
-use Prim.Native.Nat.{◌+◌, ◌-◌, ◌*◌, ◌≤◌}
-use lib.ListN.{take, drop}
+use Prim.Native.Nat.{◌+◌, ◌*◌, ◌≤◌}
+use lib.ListN.{take}
 use Rattle.printing.specs.Written.{Put}
 use Rattle.lines.specs.Print.{spaced}
 use Rattle.lines.proofs.put_values.Given as goal
 
-abbrev pub invariant-loop-k : goal.invariant-loop-k
-invariant-loop-k l = (l.k ≤ l.n) × Put l.initial.out l.at (spaced (take l.k (drop l.from l.rows))) l.out l.p × (l.p ≤ l.at + 12 * l.k)
-
-abbrev pub decreases-loop-k : goal.decreases-loop-k
-decreases-loop-k l = l.n - l.k
+abbrev pub invariant-loop-z : goal.invariant-loop-z
+invariant-loop-z l = Put l.initial.out l.at (spaced (take l.z-index l.values)) l.out l.p × (l.p ≤ l.at + 12 * l.z-index)
