@@ -1,150 +1,82 @@
--- Laws of the functions in a slice: the first one with a name, main, and what one more function adds.
-use Prim.Native.Nat.{ℕ, zero, suc, ◌+◌, ◌-◌, ◌*◌, ◌≤◌, ◌<◌}
+-- Laws of the functions in a list: the first one with a name, main, and what one more function adds.
+use Prim.Native.Nat.{ℕ, suc, ◌+◌, ◌≤◌, ◌<◌}
 use mathlib.Core.Path.{◌≡◌, refl, sym, ap, ◌∙◌}
 use mathlib.Core.Bool.{Bool, true, false, cond}
-use mathlib.Core.List.{List, [], ◌∷◌, ◌++◌, append-nil}
-use mathlib.Core.Option.{Option, none, some}
+use mathlib.Core.List.{List, [], ◌∷◌, ◌++◌, append-nil, map}
+use Rattle.std.specs.Prelude.{Option, None, Some}
+use Rattle.std.specs.List.{position, position_from, find}
+use Rattle.std.specs.Option.{option_map, unwrap_or}
+use Rattle.std.proofs.lemmas.Iterator.Adapters.{position_from-zero}
 use native.Mathlib.Omega.{arith}
 use native.Mathlib.Numerals.{add-one}
-use native.Mathlib.Nat.{add-zero, add-suc, suc-add}
-use lib.ListN.{length, get_or}
-use lib.Dec.{ltb, leb-suc-suc}
-use borrow.Author.Tests.{lt-ltb, le-ltb}
+use lib.ListN.{length, get_or, drop, drop_of_length-le}
+use lib.Seq.{drop-cons}
+use lib.Dec.{ltb}
 use Rattle.text_rules.specs.Scan.{when, least}
 use Rattle.text_rules.specs.Rules.{Head, function_of, arity_of, mains, with_parameters, bad_main}
 use Rattle.text_rules.specs.Resolve.{main_of}
-use Rattle.text_rules.specs.Answers.{head_arity, head_words, head_at, heads_from, stored_heads, least_with}
+use Rattle.text_rules.specs.Answers.{as_head, least_with}
+use Rattle.text_rules.specs.declared.heads.Head as C
 use Rattle.text_rules.proofs.Scans.{with_append, with_none}
 
--- ---- functions from a place on
+-- ---- the first function whose name has p
 
--- what is left of h functions from function k on
-abbrev pub left : List ℕ → ℕ → ℕ → List Head
-left l h k = heads_from l k (h - k)
+module _ (p : ℕ → Bool) where
+  -- its number, which the code counts from i on
+  from_is : (l : List C.Head) (i : ℕ) → unwrap_or (position_from (λ (h : C.Head). p h.name) i l) (i + length l) ≡ i + main_of p (map as_head l)
+  unfolding main_of
+  from_is [] i = refl
+  from_is (h ∷ l) i = go (p h.name) (from_is l (i + 1))
+    where
+      go : (b : Bool) → unwrap_or (position_from (λ (h : C.Head). p h.name) (i + 1) l) (i + 1 + length l) ≡ i + 1 + main_of p (map as_head l)
+          → unwrap_or (cond b (Some i) (position_from (λ (h : C.Head). p h.name) (i + 1) l)) (i + suc (length l)) ≡ i + cond b 0 (suc (main_of p (map as_head l)))
+      go true e = omega arith
+      go false e =
+          let z : i + suc (length l) ≡ i + 1 + length l = omega arith in
+          rw z (omega (arith, e))
 
-pub left-more : (l : List ℕ) (h k : ℕ) → k < h → left l h k ≡ head_at l k ∷ left l h (k + 1)
-unfolding heads_from
-left-more l h k lt =
-    let e : h - k ≡ suc (h - (k + 1)) = omega arith in
-    rw (e, ← (add-one k))
-
-pub left-none : (l : List ℕ) (h k : ℕ) → h ≤ k → left l h k ≡ []
-unfolding heads_from
-left-none l h k le =
-    let e : h - k ≡ 0 = omega arith in
-    rw e
-
-pub left-all : (l : List ℕ) (h : ℕ) → left l h 0 ≡ stored_heads l h
-left-all l h =
-    let e : h - 0 ≡ h = omega arith in
-    rw e
-
-pub length-heads : (l : List ℕ) (k m : ℕ) → length (heads_from l k m) ≡ m
-unfolding heads_from
-length-heads l k zero = refl
-length-heads l k (suc m) = ap suc (length-heads l (suc k) m)
-
--- a test of a name, as the code makes it
-pub tested : (p : ℕ → Bool) {x y : ℕ} {b t : Bool} → x ≡ y → b ≡ p x → b ≡ t → p y ≡ t
-tested p e f g = ap p (sym e) ∙ sym f ∙ g
-
--- ---- the first function whose name has p; as many as there are if none has
-
-module _ (p : ℕ → Bool) (l : List ℕ) (h : ℕ) where
-  -- what the search will answer: none before k has p
-  pub first : ℕ → ℕ
-  first k = k + main_of p (left l h k)
-
-  pub first-start : first 0 ≡ main_of p (stored_heads l h)
-  unfolding first
-  first-start = omega (arith, ap (main_of p) (left-all l h))
-
-  pub first-miss : (k : ℕ) → k < h → p (get_or l (head_words * k) 0) ≡ false → first (k + 1) ≡ first k
-  unfolding first main_of
-  first-miss k lt e =
-      let f : main_of p (left l h k) ≡ suc (main_of p (left l h (k + 1))) = ap (main_of p) (left-more l h k lt) ∙ rw e in
-      omega arith
-
-  pub first-hit : (k : ℕ) → k < h → p (get_or l (head_words * k) 0) ≡ true → first k ≡ k
-  unfolding first main_of
-  first-hit k lt e =
-      let f : main_of p (left l h k) ≡ 0 = ap (main_of p) (left-more l h k lt) ∙ rw e in
-      omega arith
-
-  pub first-none : (k : ℕ) → h ≤ k → first k ≡ k
-  unfolding first main_of
-  first-none k le =
-      let f : main_of p (left l h k) ≡ 0 = ap (main_of p) (left-none l h k le) in
-      omega arith
-
--- ---- a function's number
+  pub main-position : (l : List C.Head) → unwrap_or (position (λ (h : C.Head). p h.name) l) (length l) ≡ main_of p (map as_head l)
+  main-position l =
+      let z : 0 + length l ≡ length l = omega arith in
+      rw (position_from-zero (λ (h : C.Head). p h.name) l) (ap (unwrap_or (position_from (λ (h : C.Head). p h.name) 0 l)) (sym z) ∙ from_is l 0 ∙ omega arith)
 
 module _ (same : ℕ → ℕ → Bool) (i : ℕ) where
-  abbrev pub named : ℕ → Bool
-  named x = same x i
+  shifted : Option ℕ → ℕ → Option ℕ
+  shifted None k = None
+  shifted (Some n) k = Some (k + n)
 
-  abbrev numbered : ℕ → ℕ → Option ℕ
-  numbered m r = cond (ltb r m) (some r) none
-
-  function-is : (hs : List Head) → function_of same hs i ≡ numbered (length hs) (main_of named hs)
-  unfolding function_of main_of
-  function-is [] = refl
-  function-is (h ∷ hs) = go (same h.name i) (function-is hs)
+  function-from : (l : List C.Head) (k : ℕ) → position_from (λ (h : C.Head). same h.name i) k l ≡ shifted (function_of same (map as_head l) i) k
+  unfolding function_of shifted
+  function-from [] k = refl
+  function-from (h ∷ l) k = go (same h.name i) (function_of same (map as_head l) i) (function-from l (k + 1))
     where
-      one : (r : ℕ) (b : Bool) → ◌≡◌ {A = Option ℕ} (elim (cond b (some r) none) [ none ↦ none | some n ↦ some (suc n) ]) (cond b (some (suc r)) none)
-      one r true = refl
-      one r false = refl
+      go : (b : Bool) (o : Option ℕ) → position_from (λ (h : C.Head). same h.name i) (k + 1) l ≡ shifted o (k + 1)
+          → cond b (Some k) (position_from (λ (h : C.Head). same h.name i) (k + 1) l) ≡ shifted (cond b (Some 0) (elim o [ None ↦ None | Some n ↦ Some (suc n) ])) k
+      go true o e = ap Some (omega arith)
+      go false None e = e
+      go false (Some n) e = e ∙ ap Some (omega arith)
 
-      go : (b : Bool) → function_of same hs i ≡ numbered (length hs) (main_of named hs) → cond b (some 0) (elim (function_of same hs i) [ none ↦ none | some n ↦ some (suc n) ]) ≡ numbered (suc (length hs)) (cond b 0 (suc (main_of named hs)))
-      go true e = rw (lt-ltb 0 (suc (length hs)) (omega arith))
-      go false e =
-          rw e
-          (one (main_of named hs) (ltb (main_of named hs) (length hs))
-          ∙ ap (λ (b : Bool). cond b (some (suc (main_of named hs))) none) (sym (leb-suc-suc (suc (main_of named hs)) (length hs))))
+  unshifted : (o : Option ℕ) → shifted o 0 ≡ o
+  unfolding shifted
+  unshifted None = refl
+  unshifted (Some n) = ap Some (omega arith)
 
-  module _ (l : List ℕ) (h : ℕ) where
-    pub function-hit : (k : ℕ) → k < h → main_of named (stored_heads l h) ≡ k → some k ≡ function_of same (stored_heads l h) i
-    function-hit k lt e = sym (function-is (stored_heads l h) ∙ rw (length-heads l 0 h, e, lt-ltb k h lt))
+  pub function-position : (l : List C.Head) → position (λ (h : C.Head). same h.name i) l ≡ function_of same (map as_head l) i
+  function-position l = position_from-zero (λ (h : C.Head). same h.name i) l ∙ function-from l 0 ∙ unshifted (function_of same (map as_head l) i)
 
-    pub function-miss : (k : ℕ) → h ≤ k → main_of named (stored_heads l h) ≡ k → none ≡ function_of same (stored_heads l h) i
-    function-miss k le e = sym (function-is (stored_heads l h) ∙ rw (length-heads l 0 h, e, le-ltb k h le))
-
-  -- its number is below the count
-  function-below : (l : List ℕ) (k m n : ℕ) → function_of same (heads_from l k m) i ≡ some n → n < m
-  unfolding function_of heads_from
-  function-below l k zero n e = let z : ◌≡◌ {A = ℕ} 0 1 = cc in absurd (omega arith)
-  function-below l k (suc m) n e = go (same (get_or l (head_words * k) 0) i) (function_of same (heads_from l (suc k) m) i) (λ j. function-below l (suc k) m j) e
+  -- its arity
+  arity-found : (l : List C.Head) → option_map (λ (h : C.Head). h.arity) (find (λ (h : C.Head). same h.name i) l) ≡ arity_of same (map as_head l) i
+  unfolding arity_of
+  arity-found [] = refl
+  arity-found (h ∷ l) = go (same h.name i) (arity-found l)
     where
-      go : (b : Bool) (x : Option ℕ) → ((j : ℕ) → x ≡ some j → j < m) → cond b (some 0) (elim x [ none ↦ none | some j ↦ some (suc j) ]) ≡ some n → n < suc m
-      go true x f e = let z : 0 ≡ n = cc in omega arith
-      go false none f e = let z : ◌≡◌ {A = ℕ} 0 1 = cc in absurd (omega arith)
-      go false (some j) f e = let z : suc j ≡ n = cc in omega (arith, f j refl)
+      go : (b : Bool) → option_map (λ (h : C.Head). h.arity) (find (λ (h : C.Head). same h.name i) l) ≡ arity_of same (map as_head l) i
+          → option_map (λ (h : C.Head). h.arity) (cond b (Some h) (find (λ (h : C.Head). same h.name i) l)) ≡ cond b (Some h.arity) (arity_of same (map as_head l) i)
+      go true e = refl
+      go false e = e
 
-  pub number-below : (l : List ℕ) (h n : ℕ) → some n ≡ function_of same (stored_heads l h) i → n < h
-  number-below l h n e = function-below l 0 h n (sym e)
-
-  -- its arity stands beside its name
-  abbrev arity_at : List ℕ → ℕ → Option ℕ → Option ℕ
-  arity_at l k none = none
-  arity_at l k (some n) = some (get_or l (head_words * (k + n) + head_arity) 0)
-
-  arity-from : (l : List ℕ) (k m : ℕ) → arity_of same (heads_from l k m) i ≡ arity_at l k (function_of same (heads_from l k m) i)
-  unfolding arity_of function_of heads_from
-  arity-from l k zero = refl
-  arity-from l k (suc m) = go (same (get_or l (head_words * k) 0) i) (function_of same (heads_from l (suc k) m) i) (arity-from l (suc k) m)
-    where
-      go : (b : Bool) (x : Option ℕ) → arity_of same (heads_from l (suc k) m) i ≡ arity_at l (suc k) x → cond b (some (get_or l (head_words * k + head_arity) 0)) (arity_of same (heads_from l (suc k) m) i) ≡ arity_at l k (cond b (some 0) (elim x [ none ↦ none | some n ↦ some (suc n) ]))
-      go true x e = rw (add-zero k)
-      go false none e = e
-      go false (some n) e = e ∙ rw (suc-add k n, add-suc k n)
-
-  pub arity-is : (l : List ℕ) (h : ℕ) {n : ℕ} → some n ≡ function_of same (stored_heads l h) i → some (get_or l (head_words * n + head_arity) 0) ≡ arity_of same (stored_heads l h) i
-  arity-is l h {n} e =
-      let z : 0 + n ≡ n = omega arith in
-      sym (arity-from l 0 h ∙ rw (← e, z))
-
-  pub arity-none : (l : List ℕ) (h : ℕ) → none ≡ function_of same (stored_heads l h) i → none ≡ arity_of same (stored_heads l h) i
-  arity-none l h e = sym (arity-from l 0 h ∙ rw (← e))
+  pub arity-is : (l : List C.Head) {hs : List Head} {o : Option C.Head} → map as_head l ≡ hs → o ≡ find (λ (h : C.Head). same h.name i) l → option_map (λ (h : C.Head). h.arity) o ≡ arity_of same hs i
+  arity-is l e f = ap (option_map (λ (h : C.Head). h.arity)) f ∙ arity-found l ∙ ap (λ (hs : List Head). arity_of same hs i) e
 
 -- ---- main
 
@@ -158,30 +90,33 @@ module _ (p : ℕ → Bool) where
       go true = ap (λ (x : List ℕ). x ++ with_parameters (mains p hs)) (sym (append-nil (when (ltb 0 h.arity) h.name)))
       go false = refl
 
-  module _ (l : List ℕ) (h : ℕ) where
-    -- what the rule will have found at the end: q is the least token before function k
-    pub main_ahead : ℕ → Option ℕ → Option ℕ
-    main_ahead k q = least_with (with_parameters (mains p (left l h k))) q
+  -- what is left of the functions from function k on
+  abbrev left : List C.Head → ℕ → List Head
+  left l k = map as_head (drop k l)
 
-    pub main-start : main_ahead 0 none ≡ least (with_parameters (mains p (stored_heads l h)))
-    unfolding main_ahead
-    main-start = with_none (with_parameters (mains p (left l h 0))) ∙ ap (λ (hs : List Head). least (with_parameters (mains p hs))) (left-all l h)
+  -- what the rule will have found at the end: q is the least token before function k
+  pub main_ahead : List C.Head → ℕ → Option ℕ → Option ℕ
+  main_ahead l k q = least_with (with_parameters (mains p (left l k))) q
 
-    pub main-turn : (k : ℕ) (q : Option ℕ) {r : Option ℕ} → k < h → r ≡ least_with (with_parameters (mains p (head_at l k ∷ []))) q → main_ahead (k + 1) r ≡ main_ahead k q
-    unfolding main_ahead
-    main-turn k q lt e =
-        rw e
-        (sym
-        (ap (λ (hs : List Head). least_with (with_parameters (mains p hs)) q) (left-more l h k lt)
-        ∙ ap (λ (x : List ℕ). least_with x q) (one_more (head_at l k) (left l h (k + 1)))
-        ∙ with_append (with_parameters (mains p (head_at l k ∷ []))) (with_parameters (mains p (left l h (k + 1)))) q))
+  pub main-start : (l : List C.Head) → main_ahead l 0 None ≡ least (with_parameters (mains p (map as_head l)))
+  unfolding main_ahead
+  main-start l = with_none (with_parameters (mains p (left l 0)))
 
-    pub main-end : (k : ℕ) (q : Option ℕ) → h ≤ k → main_ahead k q ≡ q
-    unfolding main_ahead with_parameters mains least_with
-    main-end k q le = ap (λ (hs : List Head). least_with (with_parameters (mains p hs)) q) (left-none l h k le)
+  pub main-turn : (l : List C.Head) (k : ℕ) (q : Option ℕ) (d : C.Head) {r : Option ℕ} {h : C.Head} → k < length l → h ≡ get_or l k d → r ≡ least_with (with_parameters (mains p (as_head h ∷ []))) q → main_ahead l (k + 1) r ≡ main_ahead l k q
+  unfolding main_ahead
+  main-turn l k q d lt x e =
+      rw (e, x)
+      (sym
+      (ap (λ (hs : List C.Head). least_with (with_parameters (mains p (map as_head hs))) q) (drop-cons l k d lt ∙ ap (λ (n : ℕ). get_or l k d ∷ drop n l) (sym (add-one k)))
+      ∙ ap (λ (x : List ℕ). least_with x q) (one_more (as_head (get_or l k d)) (left l (k + 1)))
+      ∙ with_append (with_parameters (mains p (as_head (get_or l k d) ∷ []))) (with_parameters (mains p (left l (k + 1)))) q))
+
+  pub main-end : (l : List C.Head) (k : ℕ) (q : Option ℕ) → length l ≤ k → main_ahead l k q ≡ q
+  unfolding main_ahead with_parameters mains least_with
+  main-end l k q le = rw (drop_of_length-le l {i = k} le)
 
   -- is there a main?
-  some-main : (end : ℕ) (hs : List Head) → main_of p hs < length hs → bad_main end (mains p hs) ≡ with_parameters (mains p hs)
+  pub some-main : (end : ℕ) (hs : List Head) → main_of p hs < length hs → bad_main end (mains p hs) ≡ with_parameters (mains p hs)
   unfolding main_of mains bad_main
   some-main end [] lt = absurd (omega arith)
   some-main end (h ∷ hs) lt = go (p h.name) (some-main end hs) lt
@@ -199,9 +134,6 @@ module _ (p : ℕ → Bool) where
       go true f le = absurd (omega arith)
       go false f le = f (omega arith)
 
-  pub bad-some : (end : ℕ) (l : List ℕ) (h : ℕ) → main_of p (stored_heads l h) < h → bad_main end (mains p (stored_heads l h)) ≡ with_parameters (mains p (stored_heads l h))
-  bad-some end l h lt = some-main end (stored_heads l h) (omega (arith, length-heads l 0 h))
-
-  pub bad-none : (end : ℕ) (l : List ℕ) (h : ℕ) → h ≤ main_of p (stored_heads l h) → bad_main end (mains p (stored_heads l h)) ≡ end ∷ []
+  pub bad-none : (end : ℕ) (hs : List Head) → length hs ≤ main_of p hs → bad_main end (mains p hs) ≡ end ∷ []
   unfolding bad_main
-  bad-none end l h le = ap (bad_main end) (no_main (stored_heads l h) (omega (arith, length-heads l 0 h)))
+  bad-none end hs le = ap (bad_main end) (no_main hs le)

@@ -9,7 +9,7 @@ use mathlib.Core.List.Memᴰ.{head as here}
 use mathlib.Core.List.Memᴰ.{not-nil}
 use mathlib.Core.List.Memᴰ.{tail as there}
 use mathlib.Core.Logic.{◌⊎◌, inl, inr}
-use mathlib.Core.Option.{Option, none, some}
+use Rattle.std.specs.Prelude.{Option, None, Some}
 use native.Mathlib.Omega.{arith}
 use lib.ListN.{length, length-append}
 use Rattle.semantics.specs.Demand.{◌∈◌}
@@ -66,14 +66,14 @@ module _ (same : ℕ → ℕ → Bool) where
     after : Without newer i
     counts : compared same (b ++ ds) i ≡ length newer + 1
 
-  in-block : (b ds : List Declared) (i n : ℕ) → in_block same b i ≡ some n → InBlock b ds i n
+  in-block : (b ds : List Declared) (i n : ℕ) → in_block same b i ≡ Some n → InBlock b ds i n
   unfolding in_block compared
   in-block [] ds i n e =
       let z : ◌≡◌ {A = ℕ} 0 1 = cc in
       absurd (omega arith)
   in-block (d ∷ b) ds i n e = go (same d.name i) refl (in-block b ds i n) e
     where
-      go : (t : Bool) → same d.name i ≡ t → (in_block same b i ≡ some n → InBlock b ds i n) → cond t (some d.slot) (in_block same b i) ≡ some n → InBlock (d ∷ b) ds i n
+      go : (t : Bool) → same d.name i ≡ t → (in_block same b i ≡ Some n → InBlock b ds i n) → cond t (Some d.slot) (in_block same b i) ≡ Some n → InBlock (d ∷ b) ds i n
       go true q r f =
           let z : d.slot ≡ n = cc in
           record { newer = []; older = b; hit = d; block = refl; slot = z; has = q; after = without-none; counts = ap (λ (t : Bool). suc (cond t 0 (compared same (b ++ ds) i))) q }
@@ -95,12 +95,12 @@ module _ (same : ℕ → ℕ → Bool) where
     pub none_has : Without b i
     pub counts : compared same (b ++ ds) i ≡ length b + compared same ds i
 
-  pub not_in : (b ds : List Declared) (i : ℕ) → in_block same b i ≡ none → NotIn b ds i
+  pub not_in : (b ds : List Declared) (i : ℕ) → in_block same b i ≡ None → NotIn b ds i
   unfolding in_block compared
   not_in [] ds i e = record { none_has = without-none; counts = omega arith }
   not_in (d ∷ b) ds i e = go (same d.name i) refl (not_in b ds i) e
     where
-      go : (t : Bool) → same d.name i ≡ t → (in_block same b i ≡ none → NotIn b ds i) → cond t (some d.slot) (in_block same b i) ≡ none → NotIn (d ∷ b) ds i
+      go : (t : Bool) → same d.name i ≡ t → (in_block same b i ≡ None → NotIn b ds i) → cond t (Some d.slot) (in_block same b i) ≡ None → NotIn (d ∷ b) ds i
       go true q r f =
           let z : ◌≡◌ {A = ℕ} 0 1 = cc in
           absurd (omega arith)
@@ -112,18 +112,18 @@ module _ (same : ℕ → ℕ → Bool) where
   -- ---- all blocks
 
   abbrev either : Option ℕ → Option ℕ → Option ℕ
-  either o x = elim o [ none ↦ x | some n ↦ some n ]
+  either o x = elim o [ None ↦ x | Some n ↦ Some n ]
 
   -- "A name is sought from the innermost block outwards, and within a block among its earlier declarations"
-  pub innermost : (bs : List (List Declared)) (i n : ℕ) → sought same bs i ≡ some n → Innermost bs i n
+  pub innermost : (bs : List (List Declared)) (i n : ℕ) → sought same bs i ≡ Some n → Innermost bs i n
   unfolding sought seen
   innermost [] i n e =
       let z : ◌≡◌ {A = ℕ} 0 1 = cc in
       absurd (omega arith)
   innermost (b ∷ bs) i n e = go (in_block same b i) refl (innermost bs i n) e
     where
-      go : (o : Option ℕ) → in_block same b i ≡ o → (sought same bs i ≡ some n → Innermost bs i n) → either o (sought same bs i) ≡ some n → Innermost (b ∷ bs) i n
-      go none q r f =
+      go : (o : Option ℕ) → in_block same b i ≡ o → (sought same bs i ≡ Some n → Innermost bs i n) → either o (sought same bs i) ≡ Some n → Innermost (b ∷ bs) i n
+      go None q r f =
           let h = r f in
           let k = not_in b (seen bs) i q in
           record {
@@ -139,7 +139,7 @@ module _ (same : ℕ → ℕ → Bool) where
             after = h.after;
             counts = omega (arith, k.counts, h.counts, length-append b (seen h.inner));
           }
-      go (some m) q r f =
+      go (Some m) q r f =
           let h = in-block b (seen bs) i n (q ∙ f) in
           record {
             inner = [];
@@ -155,16 +155,16 @@ module _ (same : ℕ → ℕ → Bool) where
             counts = omega (arith, h.counts);
           }
 
-  pub not_found : (bs : List (List Declared)) (i : ℕ) → sought same bs i ≡ none → Nowhere bs i
+  pub not_found : (bs : List (List Declared)) (i : ℕ) → sought same bs i ≡ None → Nowhere bs i
   unfolding sought seen compared
   not_found [] i e = record { none_has = without-none; counts = refl }
   not_found (b ∷ bs) i e = go (in_block same b i) refl (not_found bs i) e
     where
-      go : (o : Option ℕ) → in_block same b i ≡ o → (sought same bs i ≡ none → Nowhere bs i) → either o (sought same bs i) ≡ none → Nowhere (b ∷ bs) i
-      go none q r f =
+      go : (o : Option ℕ) → in_block same b i ≡ o → (sought same bs i ≡ None → Nowhere bs i) → either o (sought same bs i) ≡ None → Nowhere (b ∷ bs) i
+      go None q r f =
           let h = r f in
           let k = not_in b (seen bs) i q in
           record { none_has = without-both k.none_has h.none_has; counts = omega (arith, k.counts, h.counts, length-append b (seen bs)) }
-      go (some m) q r f =
+      go (Some m) q r f =
           let z : ◌≡◌ {A = ℕ} 0 1 = cc in
           absurd (omega arith)

@@ -3,7 +3,7 @@ use Prim.Native.Nat.{ℕ, suc, ◌≤◌, ◌<◌}
 use mathlib.Core.Path.{◌≡◌, refl, ◌∙◌}
 use mathlib.Core.Bool.{Bool, true, false, cond}
 use mathlib.Core.List.{List, [], ◌∷◌, ◌++◌}
-use mathlib.Core.Option.{Option, none, some}
+use Rattle.std.specs.Prelude.{Option, None, Some}
 use native.Mathlib.Omega.{arith}
 use borrow.Author.Tests.{eq-eqb, eqb-true}
 use lib.Dec.{eqb}
@@ -59,8 +59,8 @@ pub data Each (P : Scope → Event → Type 0) : Scope → List Event → Type 0
 
 module _ (same : ℕ → ℕ → Bool) (hs : List Head) where
   found-ascends : {lo mid i : ℕ} {ms : List Meaning} (o : Option ℕ) → lo ≤ i → i < mid → Ascending mid ms → Ascending lo (as_found o i ++ ms)
-  found-ascends none h k a = ascending-from (omega arith) a
-  found-ascends (some n) h k a = above h (ascending-from k a)
+  found-ascends None h k a = ascending-from (omega arith) a
+  found-ascends (Some n) h k a = above h (ascending-from k a)
 
   named-ascends : (lo mid : ℕ) (s : Scope) (e : Event) {ms : List Meaning} → Between lo e mid → Ascending mid ms → Ascending lo (named_at same hs s e ++ ms)
   unfolding on_name named Between
@@ -87,19 +87,19 @@ module _ (same : ℕ → ℕ → Bool) (hs : List Head) where
   Says means s opens = Unit {0}
   Says means s closes = Unit {0}
   Says means s (declares i) = means i ≡ s.next
-  Says means s (uses i) = (n : ℕ) → sought same s.blocks i ≡ some n → means i ≡ n
-  Says means s (calls i k) = (n : ℕ) → function_of same hs i ≡ some n → means i ≡ n
+  Says means s (uses i) = (n : ℕ) → sought same s.blocks i ≡ Some n → means i ≡ n
+  Says means s (calls i k) = (n : ℕ) → function_of same hs i ≡ Some n → means i ≡ n
   Says means s (ends i b) = Unit {0}
 
   module _ (means : ℕ → ℕ) where
     first-held : {m : Meaning} {ms : List Meaning} → Held means (m ∷ ms) → means m.token ≡ m.means
     first-held (holds e h) = e
 
-    found-held : (i : ℕ) (o : Option ℕ) (ms : List Meaning) → Held means (as_found o i ++ ms) → (n : ℕ) → o ≡ some n → means i ≡ n
-    found-held i none ms h n e =
+    found-held : (i : ℕ) (o : Option ℕ) (ms : List Meaning) → Held means (as_found o i ++ ms) → (n : ℕ) → o ≡ Some n → means i ≡ n
+    found-held i None ms h n e =
         let z : ◌≡◌ {A = ℕ} 0 1 = cc in
         absurd (omega arith)
-    found-held i (some k) ms h n e =
+    found-held i (Some k) ms h n e =
         let z : k ≡ n = cc in
         first-held h ∙ z
 

@@ -7,7 +7,7 @@ use mathlib.Core.List.Memᴰ.{head as here}
 use mathlib.Core.List.Memᴰ.{not-nil}
 use mathlib.Core.List.Memᴰ.{tail as there}
 use mathlib.Core.List.{List, [], ◌∷◌}
-use mathlib.Core.Option.{Option, none, some}
+use Rattle.std.specs.Prelude.{Option, None, Some}
 use native.Mathlib.Omega.{arith}
 use borrow.Author.Tests.{eqb-true, leb-false}
 use lib.ListN.{length, get_or}
@@ -49,29 +49,29 @@ under-outer (b ∷ bs) h = under b h
 
 -- what is found can be seen
 module _ (same : ℕ → ℕ → Bool) where
-  in-block : (b : List Declared) (i n : ℕ) (ns : List ℕ) → in_block same b i ≡ some n → n ∈ before b ns
+  in-block : (b : List Declared) (i n : ℕ) (ns : List ℕ) → in_block same b i ≡ Some n → n ∈ before b ns
   unfolding in_block
   in-block [] i n ns e =
       let z : ◌≡◌ {A = ℕ} 0 1 = cc in
       absurd (omega arith)
   in-block (d ∷ b) i n ns e = go (same d.name i) (in-block b i n ns) e
     where
-      go : (t : Bool) → (in_block same b i ≡ some n → n ∈ before b ns) → cond t (some d.slot) (in_block same b i) ≡ some n → n ∈ (d.slot ∷ before b ns)
+      go : (t : Bool) → (in_block same b i ≡ Some n → n ∈ before b ns) → cond t (Some d.slot) (in_block same b i) ≡ Some n → n ∈ (d.slot ∷ before b ns)
       go true r f =
           let z : n ≡ d.slot = cc in
           here z
       go false r f = there (r f)
 
-  sought-shown : (bs : List (List Declared)) (i n : ℕ) → sought same bs i ≡ some n → n ∈ shown bs
+  sought-shown : (bs : List (List Declared)) (i n : ℕ) → sought same bs i ≡ Some n → n ∈ shown bs
   unfolding sought shown
   sought-shown [] i n e =
       let z : ◌≡◌ {A = ℕ} 0 1 = cc in
       absurd (omega arith)
   sought-shown (b ∷ bs) i n e = go (in_block same b i) refl (sought-shown bs i n) e
     where
-      go : (x : Option ℕ) → in_block same b i ≡ x → (sought same bs i ≡ some n → n ∈ shown bs) → elim x [ none ↦ sought same bs i | some k ↦ some k ] ≡ some n → n ∈ before b (shown bs)
-      go none f r e = under b (r e)
-      go (some k) f r e = in-block b i n (shown bs) (f ∙ e)
+      go : (x : Option ℕ) → in_block same b i ≡ x → (sought same bs i ≡ Some n → n ∈ shown bs) → elim x [ None ↦ sought same bs i | Some k ↦ Some k ] ≡ Some n → n ∈ before b (shown bs)
+      go None f r e = under b (r e)
+      go (Some k) f r e = in-block b i n (shown bs) (f ∙ e)
 
 -- ---- calls
 
@@ -91,22 +91,22 @@ right-count m n i h = go (eqb m n) refl h
 
 module _ (same : ℕ → ℕ → Bool) where
   -- a call that is found, and that rule 7 does not mind
-  well-called : (hs : List Head) (i n g : ℕ) → function_of same hs i ≡ some g → wrong (arity_of same hs i) i n ≡ [] → Calls hs g n
+  well-called : (hs : List Head) (i n g : ℕ) → function_of same hs i ≡ Some g → wrong (arity_of same hs i) i n ≡ [] → Calls hs g n
   unfolding function_of arity_of wrong
   well-called [] i n g e h =
       let z : ◌≡◌ {A = ℕ} 0 1 = cc in
       absurd (omega arith)
   well-called (x ∷ hs) i n g e h = go (same x.name i) (function_of same hs i) (λ k f v. well-called hs i n k f v) e h
     where
-      go : (b : Bool) (o : Option ℕ) → ((k : ℕ) → o ≡ some k → wrong (arity_of same hs i) i n ≡ [] → Calls hs k n)
-          → cond b (some 0) (elim o [ none ↦ none | some k ↦ some (suc k) ]) ≡ some g → wrong (cond b (some x.arity) (arity_of same hs i)) i n ≡ [] → Calls (x ∷ hs) g n
+      go : (b : Bool) (o : Option ℕ) → ((k : ℕ) → o ≡ Some k → wrong (arity_of same hs i) i n ≡ [] → Calls hs k n)
+          → cond b (Some 0) (elim o [ None ↦ None | Some k ↦ Some (suc k) ]) ≡ Some g → wrong (cond b (Some x.arity) (arity_of same hs i)) i n ≡ [] → Calls (x ∷ hs) g n
       go true o f e h =
           let z : 0 ≡ g = cc in
           subst (λ (k : ℕ). Calls (x ∷ hs) k n) z (record { below = omega arith; arity = right-count x.arity n i h })
-      go false none f e h =
+      go false None f e h =
           let z : ◌≡◌ {A = ℕ} 0 1 = cc in
           absurd (omega arith)
-      go false (some k) f e h =
+      go false (Some k) f e h =
           let z : suc k ≡ g = cc in
           let c = f k refl h in
           subst (λ (j : ℕ). Calls (x ∷ hs) j n) z (record { below = omega (arith, c.below); arity = c.arity })
@@ -167,11 +167,11 @@ next_low : (s : Scope) (c : Tally) → Kept s c → leb most_declarations c.decl
 next_low s c k e = omega (arith, k.next, leb-false most_declarations c.declarations e)
 
 module _ (same : ℕ → ℕ → Bool) (hs : List Head) (means : ℕ → ℕ) where
-  found : (o : Option ℕ) (i : ℕ) → unless_found o i ≡ [] → ((n : ℕ) → o ≡ some n → means i ≡ n) → o ≡ some (means i)
-  found none i u f =
+  found : (o : Option ℕ) (i : ℕ) → unless_found o i ≡ [] → ((n : ℕ) → o ≡ Some n → means i ≡ n) → o ≡ Some (means i)
+  found None i u f =
       let z : ◌≡◌ {A = ℕ} 0 1 = cc in
       absurd (omega arith)
-  found (some n) i u f = ap some (sym (f n refl))
+  found (Some n) i u f = ap Some (sym (f n refl))
 
   fits-event : (s : Scope) (c : Tally) (e : Event) → Kept s c → Says same hs means s e
       → misnamed_at same s e ≡ [] → uncalled same hs e ≡ [] → miscounted same hs e ≡ [] → over c e ≡ [] → Fits (arities hs) means s e

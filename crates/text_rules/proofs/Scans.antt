@@ -1,15 +1,18 @@
 -- One law for every rule: to go through the events with the least token so far is to take the least of all that the rule gives.
-use Prim.Native.Nat.{ℕ, suc, ◌+◌, ◌-◌, ◌≤◌, ◌<◌}
+use Prim.Native.Nat.{ℕ, ◌+◌, ◌≤◌, ◌<◌}
 use mathlib.Core.Path.{◌≡◌, refl, sym, ap, ◌∙◌}
 use mathlib.Core.Bool.{Bool, true, false, cond}
-use mathlib.Core.List.{List, [], ◌∷◌, ◌++◌}
-use mathlib.Core.Option.{Option, none, some}
+use mathlib.Core.List.{List, [], ◌∷◌, ◌++◌, map}
+use Rattle.std.specs.Prelude.{Option, None, Some}
 use native.Mathlib.Omega.{arith}
 use native.Mathlib.Numerals.{add-one}
 use lib.Dec.{leb}
+use lib.ListN.{length, get_or, drop, drop_of_length-le}
+use lib.Seq.{drop-cons}
 use borrow.Author.Tests.{leb-true, leb-false}
 use Rattle.events.specs.Event.{Event}
-use Rattle.events.specs.Stored.{event_found_at, from, stored}
+use Rattle.events.specs.Read.{as_event}
+use Rattle.events.specs.declared.event.Event as C
 use Rattle.text_rules.specs.Scan.{scan, on, lesser, least}
 use Rattle.text_rules.specs.Answers.{least_with}
 
@@ -44,8 +47,8 @@ less-turn i j k =
 
 pub lesser-turn : (i j : ℕ) (p : Option ℕ) → lesser i (lesser j p) ≡ lesser j (lesser i p)
 unfolding lesser
-lesser-turn i j none = ap some (less-swap i j)
-lesser-turn i j (some k) = ap some (less-turn i j k)
+lesser-turn i j None = ap Some (less-swap i j)
+lesser-turn i j (Some k) = ap Some (less-turn i j k)
 
 pub lesser-with : (i : ℕ) (l : List ℕ) (p : Option ℕ) → lesser i (least_with l p) ≡ least_with l (lesser i p)
 unfolding least_with
@@ -57,57 +60,46 @@ unfolding least_with
 with_append [] b p = refl
 with_append (i ∷ a) b p = ap (lesser i) (with_append a b p) ∙ lesser-with i b (least_with a p)
 
-pub with_none : (l : List ℕ) → least_with l none ≡ least l
+pub with_none : (l : List ℕ) → least_with l None ≡ least l
 unfolding least_with least
 with_none [] = refl
 with_none (i ∷ l) = ap (lesser i) (with_none l)
 
 -- ---- events from a place on
 
--- what is left of n events from event i on
-abbrev pub rest : List ℕ → ℕ → ℕ → List Event
-rest l n i = from l i (n - i)
+-- what is left of the events from event i on
+abbrev pub rest : List C.Event → ℕ → List Event
+rest l i = map as_event (drop i l)
 
-pub rest_more : (l : List ℕ) (n i : ℕ) → i < n → rest l n i ≡ event_found_at l i ∷ rest l n (i + 1)
-unfolding from
-rest_more l n i h =
-    let e : n - i ≡ suc (n - (i + 1)) = omega arith in
-    rw (e, ← (add-one i))
+pub rest_more : (l : List C.Event) (i : ℕ) (d : C.Event) → i < length l → rest l i ≡ as_event (get_or l i d) ∷ rest l (i + 1)
+rest_more l i d h = rw (drop-cons l i d h, add-one)
 
-pub rest-none : (l : List ℕ) (n i : ℕ) → n ≤ i → rest l n i ≡ []
-unfolding from
-rest-none l n i h =
-    let e : n - i ≡ 0 = omega arith in
-    rw e
-
-pub rest_all : (l : List ℕ) (n : ℕ) → rest l n 0 ≡ stored l n
-rest_all l n =
-    let e : n - 0 ≡ n = omega arith in
-    rw e
+pub rest-none : (l : List C.Event) (i : ℕ) → length l ≤ i → rest l i ≡ []
+rest-none l i h = rw (drop_of_length-le l {i = i} h)
 
 -- ---- a rule that remembers
 
 module _ {S : Type 0} (step : S → Event → S) (gives : S → Event → List ℕ) where
   -- what a rule will have found at the end: s is what it has seen before event i, p the least token so far
-  pub ahead : List ℕ → ℕ → ℕ → S → Option ℕ → Option ℕ
-  ahead l n i s p = least_with (scan step gives s (rest l n i)) p
+  pub ahead : List C.Event → ℕ → S → Option ℕ → Option ℕ
+  ahead l i s p = least_with (scan step gives s (rest l i)) p
 
-  pub ahead-start : (l : List ℕ) (n : ℕ) (s : S) → ahead l n 0 s none ≡ least (scan step gives s (stored l n))
+  pub ahead-start : (l : List C.Event) (s : S) → ahead l 0 s None ≡ least (scan step gives s (map as_event l))
   unfolding ahead
-  ahead-start l n s = with_none (scan step gives s (rest l n 0)) ∙ ap (λ (es : List Event). least (scan step gives s es)) (rest_all l n)
+  ahead-start l s = with_none (scan step gives s (rest l 0))
 
   -- a turn: event i is e, and q is the least token with it
-  pub ahead-turn : (l : List ℕ) (n i : ℕ) (s : S) (p : Option ℕ) {q : Option ℕ} {e : Event} {t : S} → i < n → e ≡ event_found_at l i → t ≡ step s e → q ≡ least_with (gives s e) p → ahead l n (i + 1) t q ≡ ahead l n i s p
+  pub ahead-turn : (l : List C.Event) (i : ℕ) (s : S) (p : Option ℕ) (d : C.Event) {q : Option ℕ} {e : C.Event} {t : S} → i < length l → e ≡ get_or l i d → t ≡ step s (as_event e) → q ≡ least_with (gives s (as_event e)) p → ahead l (i + 1) t q ≡ ahead l i s p
   unfolding ahead scan
-  ahead-turn l n i s p h x y z =
+  ahead-turn l i s p d h x y z =
       rw (z, y, x)
       (sym
-      (ap (λ (es : List Event). least_with (scan step gives s es) p) (rest_more l n i h)
-      ∙ with_append (gives s (event_found_at l i)) (scan step gives (step s (event_found_at l i)) (rest l n (i + 1))) p))
+      (ap (λ (es : List Event). least_with (scan step gives s es) p) (rest_more l i d h)
+      ∙ with_append (gives s (as_event (get_or l i d))) (scan step gives (step s (as_event (get_or l i d))) (rest l (i + 1))) p))
 
-  pub ahead-end : (l : List ℕ) (n i : ℕ) (s : S) (p : Option ℕ) → n ≤ i → ahead l n i s p ≡ p
+  pub ahead-end : (l : List C.Event) (i : ℕ) (s : S) (p : Option ℕ) → length l ≤ i → ahead l i s p ≡ p
   unfolding ahead scan least_with
-  ahead-end l n i s p h = ap (λ (es : List Event). least_with (scan step gives s es) p) (rest-none l n i h)
+  ahead-end l i s p h = ap (λ (es : List Event). least_with (scan step gives s es) p) (rest-none l i h)
 
 -- ---- a rule that has nothing to remember
 
@@ -117,17 +109,17 @@ on-scan gives [] = refl
 on-scan gives (e ∷ es) = ap (λ (l : List ℕ). gives e ++ l) (on-scan gives es)
 
 module _ (gives : Event → List ℕ) where
-  pub on_ahead : List ℕ → ℕ → ℕ → Option ℕ → Option ℕ
-  on_ahead l n i p = ahead (λ s e. s) (λ s e. gives e) l n i (tt {0}) p
+  pub on_ahead : List C.Event → ℕ → Option ℕ → Option ℕ
+  on_ahead l i p = ahead (λ s e. s) (λ s e. gives e) l i (tt {0}) p
 
-  pub on-start : (l : List ℕ) (n : ℕ) → on_ahead l n 0 none ≡ least (on gives (stored l n))
+  pub on-start : (l : List C.Event) → on_ahead l 0 None ≡ least (on gives (map as_event l))
   unfolding on_ahead
-  on-start l n = ahead-start (λ s e. s) (λ s e. gives e) l n (tt {0}) ∙ ap least (sym (on-scan gives (stored l n)))
+  on-start l = ahead-start (λ s e. s) (λ s e. gives e) l (tt {0}) ∙ ap least (sym (on-scan gives (map as_event l)))
 
-  pub on-turn : (l : List ℕ) (n i : ℕ) (p : Option ℕ) {q : Option ℕ} {e : Event} → i < n → e ≡ event_found_at l i → q ≡ least_with (gives e) p → on_ahead l n (i + 1) q ≡ on_ahead l n i p
+  pub on-turn : (l : List C.Event) (i : ℕ) (p : Option ℕ) (d : C.Event) {q : Option ℕ} {e : C.Event} → i < length l → e ≡ get_or l i d → q ≡ least_with (gives (as_event e)) p → on_ahead l (i + 1) q ≡ on_ahead l i p
   unfolding on_ahead
-  on-turn l n i p h x z = ahead-turn (λ s e. s) (λ s e. gives e) l n i (tt {0}) p h x refl z
+  on-turn l i p d h x z = ahead-turn (λ s e. s) (λ s e. gives e) l i (tt {0}) p d h x refl z
 
-  pub on-end : (l : List ℕ) (n i : ℕ) (p : Option ℕ) → n ≤ i → on_ahead l n i p ≡ p
+  pub on-end : (l : List C.Event) (i : ℕ) (p : Option ℕ) → length l ≤ i → on_ahead l i p ≡ p
   unfolding on_ahead
-  on-end l n i p h = ahead-end (λ s e. s) (λ s e. gives e) l n i (tt {0}) p h
+  on-end l i p h = ahead-end (λ s e. s) (λ s e. gives e) l i (tt {0}) p h

@@ -9,7 +9,7 @@ use mathlib.Core.List.Memᴰ.{head as here}
 use mathlib.Core.List.Memᴰ.{not-nil}
 use mathlib.Core.List.Memᴰ.{tail as there}
 use mathlib.Core.Logic.{◌⊎◌, inl, inr}
-use mathlib.Core.Option.{Option, none, some}
+use Rattle.std.specs.Prelude.{Option, None, Some}
 use native.Mathlib.Omega.{arith}
 use Rattle.syntax.specs.Ast.{Sort, Ast, params, fun, prog}
 use Rattle.syntax.specs.Ast as A
@@ -75,8 +75,8 @@ module _ (same : ℕ → ℕ → Bool) where
   new i n bs e = go (sought same bs i) refl e
     where
       go : (o : Option ℕ) → sought same bs i ≡ o → if_found o i ≡ [] → Without same (seen bs) i
-      go none q f = (not_found same bs i q).none_has
-      go (some m) q f =
+      go None q f = (not_found same bs i q).none_has
+      go (Some m) q f =
           let z : ◌≡◌ {A = ℕ} 0 1 = cc in
           absurd (omega arith)
 
@@ -200,16 +200,16 @@ module _ (same : ℕ → ℕ → Bool) where
   of_reverse (x ∷ b) d (here e) = subst (λ (l : List Declared). d ∈ l) (sym (reverse-cons x b)) (Memᴰ.append_right (reverse b) (here e))
   of_reverse (x ∷ b) d (there m) = subst (λ (l : List Declared). d ∈ l) (sym (reverse-cons x b)) (Memᴰ.append_left (x ∷ []) (of_reverse b d m))
 
-  block-without : (b : List Declared) (i : ℕ) → in_block same b i ≡ none → Without same b i
+  block-without : (b : List Declared) (i : ℕ) → in_block same b i ≡ None → Without same b i
   block-without b i e = (not_in same b [] i e).none_has
 
-  none_in : (b : List Declared) (i : ℕ) → Without same b i → in_block same b i ≡ none
+  none_in : (b : List Declared) (i : ℕ) → Without same b i → in_block same b i ≡ None
   unfolding in_block
   none_in [] i w = refl
-  none_in (d ∷ b) i w = ap (λ (t : Bool). cond t (some d.slot) (in_block same b i)) (w d (here refl)) ∙ none_in b i (λ x m. w x (there m))
+  none_in (d ∷ b) i w = ap (λ (t : Bool). cond t (Some d.slot) (in_block same b i)) (w d (here refl)) ∙ none_in b i (λ x m. w x (there m))
 
   abbrev either : Option ℕ → Option ℕ → Option ℕ
-  either o x = elim o [ none ↦ x | some n ↦ some n ]
+  either o x = elim o [ None ↦ x | Some n ↦ Some n ]
 
   in-append : (b c : List Declared) (i : ℕ) → in_block same (b ++ c) i ≡ either (in_block same b i) (in_block same c i)
   unfolding in_block
@@ -217,26 +217,26 @@ module _ (same : ℕ → ℕ → Bool) where
   in-append (d ∷ b) c i = go (same d.name i) (in-append b c i)
     where
       go : (t : Bool) → in_block same (b ++ c) i ≡ either (in_block same b i) (in_block same c i)
-          → cond t (some d.slot) (in_block same (b ++ c) i) ≡ either (cond t (some d.slot) (in_block same b i)) (in_block same c i)
+          → cond t (Some d.slot) (in_block same (b ++ c) i) ≡ either (cond t (Some d.slot) (in_block same b i)) (in_block same c i)
       go true r = refl
       go false r = r
 
   -- whether a name is found is always the same, so that rule 6 says the same of every text
   abbrev is_found : Option ℕ → Bool
-  is_found none = false
-  is_found (some n) = true
+  is_found None = false
+  is_found (Some n) = true
 
   found-in-reverse : (b : List Declared) (i : ℕ) → is_found (in_block same (reverse b) i) ≡ is_found (in_block same b i)
   found-in-reverse b i = go (in_block same b i) refl (in_block same (reverse b) i) refl
     where
       go : (o : Option ℕ) → in_block same b i ≡ o → (u : Option ℕ) → in_block same (reverse b) i ≡ u → is_found u ≡ is_found o
-      go none q none r = refl
-      go (some n) q (some m) r = refl
-      go none q (some m) r =
+      go None q None r = refl
+      go (Some n) q (Some m) r = refl
+      go None q (Some m) r =
           let e = sym r ∙ none_in (reverse b) i (λ d h. block-without b i q d (in-reverse b d h)) in
           let z : ◌≡◌ {A = ℕ} 0 1 = cc in
           absurd (omega arith)
-      go (some n) q none r =
+      go (Some n) q None r =
           let e = sym q ∙ none_in b i (λ d h. block-without (reverse b) i r d (of_reverse b d h)) in
           let z : ◌≡◌ {A = ℕ} 0 1 = cc in
           absurd (omega arith)
@@ -247,12 +247,12 @@ module _ (same : ℕ → ℕ → Bool) where
   found-as-before (b ∷ bs) i = go (in_block same (reverse b) i) (in_block same b i) (found-in-reverse b i) (found-as-before bs i)
     where
       go : (u o : Option ℕ) → is_found u ≡ is_found o → is_found (sought same (map reverse bs) i) ≡ is_found (sought same bs i) → is_found (either u (sought same (map reverse bs) i)) ≡ is_found (either o (sought same bs i))
-      go none none e r = r
-      go (some n) (some m) e r = refl
-      go none (some m) e r =
+      go None None e r = r
+      go (Some n) (Some m) e r = refl
+      go None (Some m) e r =
           let z : ◌≡◌ {A = ℕ} 0 1 = cc in
           absurd (omega arith)
-      go (some n) none e r =
+      go (Some n) None e r =
           let z : ◌≡◌ {A = ℕ} 0 1 = cc in
           absurd (omega arith)
 
@@ -276,13 +276,13 @@ module _ (same : ℕ → ℕ → Bool) where
         ∙ in-append (reverse b) (d ∷ []) i
         ∙ go (same d.name i) refl (in-reverse-same b i h.1)
       where
-        with_none : (o : Option ℕ) → either o none ≡ o
-        with_none none = refl
-        with_none (some n) = refl
+        with_none : (o : Option ℕ) → either o None ≡ o
+        with_none None = refl
+        with_none (Some n) = refl
 
         go : (t : Bool) → same d.name i ≡ t → in_block same (reverse b) i ≡ in_block same b i
-            → either (in_block same (reverse b) i) (cond t (some d.slot) none) ≡ cond t (some d.slot) (in_block same b i)
-        go true q r = ap (λ (o : Option ℕ). either o (some d.slot)) (none_in (reverse b) i (λ x m. others d b i h.0 q x (in-reverse b x m)))
+            → either (in_block same (reverse b) i) (cond t (Some d.slot) None) ≡ cond t (Some d.slot) (in_block same b i)
+        go true q r = ap (λ (o : Option ℕ). either o (Some d.slot)) (none_in (reverse b) i (λ x m. others d b i h.0 q x (in-reverse b x m)))
         go false q r = with_none (in_block same (reverse b) i) ∙ r
 
     distinct-left : (b ds : List Declared) → Distinct (b ++ ds) → Distinct b

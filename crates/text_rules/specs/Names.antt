@@ -1,6 +1,6 @@
 -- Rule 6 of a text (document 01, "Check" and "The text"): names. And what each name means.
 use Rattle.std.specs.Prelude.{ℕ, suc, ◌+◌, Bool, cond, List, [], ◌∷◌, ◌++◌, eqb}
-use Rattle.std.proofs.Math.Option.{Option, none, some}
+use Rattle.std.specs.Prelude.{Option, None, Some}
 use Rattle.syntax.specs.Ast.{Sort, Ast, stmt, stmts, params, prog}
 use Rattle.syntax.specs.Ast as A
 use Rattle.events.specs.Event.{Event, function, parameter, thing, opens, closes, declares, uses, calls, ends, events_at, events}
@@ -115,8 +115,8 @@ abbrev pub meaning : ℕ → ℕ → Meaning
 meaning i n = record { token = i; means = n }
 
 abbrev pub as_found : Option ℕ → ℕ → List Meaning
-as_found none i = []
-as_found (some n) i = meaning i n ∷ []
+as_found None i = []
+as_found (Some n) i = meaning i n ∷ []
 
 -- what each token means after some meanings; f says what it meant before
 unfoldable pub meant : (ℕ → ℕ) → List Meaning → ℕ → ℕ
@@ -125,12 +125,12 @@ meant f (m ∷ ms) i = meant (λ j. cond (eqb m.token j) m.means (f j)) ms i
 
 -- the token i, unless something was found, and if something was
 abbrev pub unless_found : Option ℕ → ℕ → List ℕ
-unless_found none i = i ∷ []
-unless_found (some n) i = []
+unless_found None i = i ∷ []
+unless_found (Some n) i = []
 
 abbrev pub if_found : Option ℕ → ℕ → List ℕ
-if_found none i = []
-if_found (some n) i = i ∷ []
+if_found None i = []
+if_found (Some n) i = i ∷ []
 
 -- "the declarations that can be seen, parameters included, from the newest back" (document 02, slip 6)
 unfoldable pub seen : List (List Declared) → List Declared
@@ -141,12 +141,12 @@ seen (b ∷ bs) = b ++ seen bs
 module _ (same : ℕ → ℕ → Bool) where
   -- "A name is sought from the innermost block outwards, and within a block among its earlier declarations": the slot found
   unfoldable pub in_block : List Declared → ℕ → Option ℕ
-  in_block [] i = none
-  in_block (d ∷ ds) i = cond (same d.name i) (some d.slot) (in_block ds i)
+  in_block [] i = None
+  in_block (d ∷ ds) i = cond (same d.name i) (Some d.slot) (in_block ds i)
 
   unfoldable pub sought : List (List Declared) → ℕ → Option ℕ
-  sought [] i = none
-  sought (b ∷ bs) i = elim (in_block b i) [ none ↦ sought bs i | some n ↦ some n ]
+  sought [] i = None
+  sought (b ∷ bs) i = elim (in_block b i) [ None ↦ sought bs i | Some n ↦ Some n ]
 
   -- "how many it compared: those up to the hit, or all of them if there is none" (document 02, slip 6)
   unfoldable pub compared : List Declared → ℕ → ℕ

@@ -1,6 +1,6 @@
 -- The rules 5 and 7 to 10 of a text (document 01, "Check"): the tokens that break each, by the events of the text.
 use Rattle.std.specs.Prelude.{ℕ, suc, Bool, not, cond, ◌||◌, List, [], ◌∷◌, ◌++◌, eqb, leb, ltb}
-use Rattle.std.proofs.Math.Option.{Option, none, some}
+use Rattle.std.specs.Prelude.{Option, None, Some}
 use Rattle.events.specs.Event.{Event, function, parameter, thing, opens, closes, declares, uses, calls, ends}
 use Rattle.text_rules.specs.Scan.{scan, on, when}
 
@@ -67,20 +67,20 @@ heads (ends i b ∷ es) = heads es
 
 -- the token i, where a call with n arguments should have another count
 unfoldable pub wrong : Option ℕ → ℕ → ℕ → List ℕ
-wrong none i n = []
-wrong (some m) i n = when (not (eqb m n)) i
+wrong None i n = []
+wrong (Some m) i n = when (not (eqb m n)) i
 
 -- `same i j`: the tokens i and j spell the same name
 module _ (same : ℕ → ℕ → Bool) where
   -- the number of the first function with the name of token i
   unfoldable pub function_of : List Head → ℕ → Option ℕ
-  function_of [] i = none
-  function_of (h ∷ hs) i = cond (same h.name i) (some 0) (elim (function_of hs i) [ none ↦ none | some n ↦ some (suc n) ])
+  function_of [] i = None
+  function_of (h ∷ hs) i = cond (same h.name i) (Some 0) (elim (function_of hs i) [ None ↦ None | Some n ↦ Some (suc n) ])
 
   -- how many arguments a call of the name of token i takes
   unfoldable pub arity_of : List Head → ℕ → Option ℕ
-  arity_of [] i = none
-  arity_of (h ∷ hs) i = cond (same h.name i) (some h.arity) (arity_of hs i)
+  arity_of [] i = None
+  arity_of (h ∷ hs) i = cond (same h.name i) (Some h.arity) (arity_of hs i)
 
   -- ---- "7 a call with a wrong count of arguments, at the called name"
 

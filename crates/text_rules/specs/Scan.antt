@@ -1,6 +1,6 @@
 -- What breaks a rule, found by going through the events in order with what has been seen so far.
 use Rattle.std.specs.Prelude.{ℕ, Bool, cond, List, [], ◌∷◌, ◌++◌, leb}
-use Rattle.std.proofs.Math.Option.{Option, none, some}
+use Rattle.std.specs.Prelude.{Option, None, Some}
 use Rattle.events.specs.Event.{Event}
 
 -- what each event gives, by what has been seen before it
@@ -19,9 +19,9 @@ when b i = cond b (i ∷ []) []
 
 -- the least number of a list
 unfoldable pub lesser : ℕ → Option ℕ → Option ℕ
-lesser i none = some i
-lesser i (some j) = some (cond (leb i j) i j)
+lesser i None = Some i
+lesser i (Some j) = Some (cond (leb i j) i j)
 
 unfoldable pub least : List ℕ → Option ℕ
-least [] = none
+least [] = None
 least (i ∷ is) = lesser i (least is)

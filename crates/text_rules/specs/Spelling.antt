@@ -1,5 +1,6 @@
 -- How the tokens of a text are spelled. A token is given by its number, and the slices of the tokens' places and values (of a name, its size).
 use Rattle.std.specs.Prelude.{ℕ, Bool, List, get_or, take, drop}
+use Rattle.syntax.specs.Source.{Source}
 use Rattle.lexer.specs.Lex.{same, bytes}
 
 module _ (text places values : List ℕ) where
@@ -11,3 +12,13 @@ module _ (text places values : List ℕ) where
 
   abbrev pub is_main : ℕ → Bool
   is_main i = same (spelled i) (bytes "main")
+
+-- the bytes of a token of a text; two tokens of it spell the same name; a token spells main
+abbrev pub spelled_in : Source → ℕ → List ℕ
+spelled_in s = spelled s.text s.places s.values
+
+abbrev pub same_in : Source → ℕ → ℕ → Bool
+same_in s = same_name s.text s.places s.values
+
+abbrev pub main_in : Source → ℕ → Bool
+main_in s = is_main s.text s.places s.values

@@ -1,103 +1,129 @@
-// The functions of a text: two words for each, its name and how many parameters it has.
-ghost use Rattle.std.specs.Prelude.{◌≡◌, ◌+◌, ◌-◌, ◌*◌, ◌^◌, ◌≤◌, ◌<◌, length, set};
-ghost use Rattle.events.specs.Stored.{event_words, from};
-ghost use Rattle.text_rules.specs.Spelling.{same_name};
-ghost use Rattle.text_rules.specs.Rules.{parameters, function_of, arity_of};
-ghost use Rattle.text_rules.specs.Answers.{head_arity, head_words, found, stored_heads, Collected};
+// The functions of a text: of each its name, and how many parameters it has.
+ghost use Rattle.std.specs.Prelude.{◌≡◌, ◌≤◌, ◌<◌, List, [], ◌∷◌, ◌++◌, length, map, take, take_while, position, find};
+ghost use Rattle.events.specs.Read.{as_event};
+ghost use Rattle.text_rules.specs.Spelling.{same_in};
+ghost use Rattle.text_rules.specs.Rules as R;
+ghost use Rattle.text_rules.specs.Answers.{as_head, is_parameter};
 
-use crate::spelling::{same_name, word};
-use events::event::{Event, event_at};
+use crate::spelling::same_name;
+use events::event::{Event, Events};
+use std::marker::Model;
+use syntax::source::Source;
 
-// The words of a function: its name, and how many parameters it has.
-pub const HEAD_WORDS: usize = 2;
+// A function: its name's token, and how many parameters it has.
+#[derive(Clone, Copy, PartialEq, Eq, Debug)]
+pub struct Head {
+    pub name: usize,
+    pub arity: usize,
+}
 
-pub const HEAD_ARITY: usize = 1;
+// How many functions there is room for: as many as events.
+pub const HEADS: usize = 4096;
 
-// A number, if there is one.
+// Functions in their order. A clause sees the list of them.
 #[derive(Drop)]
-pub enum Found {
-    Nothing,
-    Number(usize),
+pub struct Heads {
+    list: [Head; HEADS],
+    count: usize,
 }
 
-// How many parameters stand together in n events, from event k on.
-fn arity(events: &[u32], n: usize, k: usize) -> usize
-    requires { event_words * n ≤ length events.now }
-    ensures { result ≡ parameters (from events.now k (n - k)) }
-{
-    let mut i = k;
-    while i < n {
-        let Event::Parameter(_) = event_at(events, i) else {
-            return i - k;
-        };
-        i += 1;
-    }
-    i - k
+impl Model for Heads {
+    ghost Value = { List R.Head };
+
+    ghost view = { λ t. map as_head (take t.count t.list) };
+
+    ghost invariant = { λ t. (t.count ≤ 4096) × (length t.list ≡ 4096) };
 }
 
-// Writes function h.
-fn put(heads: &mut [u32], h: usize, name: usize, arity: usize)
-    requires { (head_words * h + head_words ≤ length heads.old) × (name < 2 ^ 32) × (arity < 2 ^ 32) }
-    ensures { heads.new ≡ set (set heads.old (head_words * h) name) (head_words * h + head_arity) arity }
-{
-    heads[HEAD_WORDS * h] = name as u32;
-    heads[HEAD_WORDS * h + HEAD_ARITY] = arity as u32;
-}
-
-// Writes the functions of n events, in order, and answers how many there are.
-pub fn collect_heads(events: &[u32], n: usize, heads: &mut [u32]) -> usize
-    requires { (event_words * n ≤ length events.now) × (head_words * n ≤ length heads.old) × (n < 2 ^ 32) }
-    ensures { Collected events.now n heads.old heads.new result }
-{
-    let mut h = 0;
-    let mut i = 0;
-    while i < n {
-        if let Event::Function(name) = event_at(events, i) {
-            put(heads, h, name, arity(events, n, i + 1));
-            h += 1;
+impl Heads {
+    // No functions, with room for those of every text.
+    pub fn new() -> Heads
+        ensures { result ≡ [] }
+    {
+        Heads {
+            list: [Head { name: 0, arity: 0 }; HEADS],
+            count: 0,
         }
-        i += 1;
     }
-    h
+
+    // The functions, first to last.
+    pub fn as_slice(&self) -> &[Head]
+        ensures heads { map as_head result.now ≡ self.now }
+        ensures few { length self.now ≤ 4096 }
+    {
+        &self.list[..self.count]
+    }
+
+    // Adds a function behind the others.
+    fn push(&mut self, head: Head)
+        requires { length self.old < 4096 }
+        ensures { self.new ≡ self.old ++ as_head head ∷ [] }
+    {
+        self.list[self.count] = head;
+        self.count += 1;
+    }
+
+    // Takes all functions out.
+    fn clear(&mut self)
+        ensures { self.new ≡ [] }
+    {
+        self.count = 0;
+    }
 }
 
-// The number of the first of h functions that has the name of token i.
-pub fn function_of(
-    text: &[u8],
-    places: &[u32],
-    values: &[u32],
-    heads: &[u32],
-    h: usize,
-    i: usize,
-) -> Found
-    requires { head_words * h ≤ length heads.now }
-    ensures { found result ≡ function_of (same_name text.now places.now values.now) (stored_heads heads.now h) i }
+// How many parameters some events begin with.
+fn arity(events: &[Event]) -> usize
+    ensures { result ≡ length (take_while is_parameter events.now) }
 {
-    let mut k = 0;
-    while k < h {
-        let name = word(heads, HEAD_WORDS * k);
-        if same_name(text, places, values, name, i) {
-            return Found::Number(k);
+    events
+        .iter()
+        .take_while(|event| matches!(event, Event::Parameter(_)))
+        .count()
+}
+
+// Puts the functions of some events, in order, in place of those that there were.
+pub fn collect_heads(events: &Events, heads: &mut Heads)
+    ensures { heads.new ≡ R.heads events.now }
+{
+    heads.clear();
+    let list = events.as_slice();
+    for (i, &event) in list.iter().enumerate() {
+        if let Event::Function(name) = event {
+            heads.push(Head {
+                name,
+                arity: arity(&list[i + 1..]),
+            });
         }
-        k += 1;
     }
-    Found::Nothing
+}
+
+// The number of the first of some functions that has the name of token i.
+fn position_of(source: &Source, list: &[Head], i: usize) -> Option<usize>
+    ensures { result ≡ position (λ h. same_in source.now h.name i) list.now }
+{
+    list.iter().position(|head| same_name(source, head.name, i))
+}
+
+// The number of the first function that has the name of token i.
+pub fn function_of(source: &Source, heads: &Heads, i: usize) -> Option<usize>
+    ensures { result ≡ R.function_of (same_in source.now) heads.now i }
+{
+    position_of(source, heads.as_slice(), i)
+}
+
+// The first of some functions that has the name of token i.
+fn named(source: &Source, list: &[Head], i: usize) -> Option<Head>
+    ensures { result ≡ find (λ h. same_in source.now h.name i) list.now }
+{
+    list.iter()
+        .copied()
+        .find(|head| same_name(source, head.name, i))
 }
 
 // How many arguments a call of the name of token i takes.
-pub fn arity_of(
-    text: &[u8],
-    places: &[u32],
-    values: &[u32],
-    heads: &[u32],
-    h: usize,
-    i: usize,
-) -> Found
-    requires { head_words * h ≤ length heads.now }
-    ensures { found result ≡ arity_of (same_name text.now places.now values.now) (stored_heads heads.now h) i }
+pub fn arity_of(source: &Source, heads: &Heads, i: usize) -> Option<usize>
+    ensures { result ≡ R.arity_of (same_in source.now) heads.now i }
 {
-    match function_of(text, places, values, heads, h, i) {
-        Found::Nothing => Found::Nothing,
-        Found::Number(k) => Found::Number(word(heads, HEAD_WORDS * k + HEAD_ARITY)),
-    }
+    let head = named(source, heads.as_slice(), i)?;
+    Some(head.arity)
 }

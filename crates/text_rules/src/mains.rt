@@ -1,24 +1,23 @@
 // The function main.
-ghost use Rattle.std.specs.Prelude.{◌≡◌, ◌*◌, ◌≤◌, length};
-ghost use Rattle.text_rules.specs.Spelling.{is_main};
+ghost use Rattle.std.specs.Prelude.{◌≡◌, position};
+ghost use Rattle.text_rules.specs.Spelling.{main_in};
 ghost use Rattle.text_rules.specs.Resolve.{main_of};
-ghost use Rattle.text_rules.specs.Answers.{head_words, stored_heads};
 
-use crate::heads::HEAD_WORDS;
-use crate::spelling::{is_main, word};
+use crate::heads::{Head, Heads};
+use crate::spelling::is_main;
+use syntax::source::Source;
 
-// The number of the first of h functions that is main; h if none is.
-pub fn main_number(text: &[u8], places: &[u32], values: &[u32], heads: &[u32], h: usize) -> usize
-    requires { head_words * h ≤ length heads.now }
-    ensures { result ≡ main_of (is_main text.now places.now values.now) (stored_heads heads.now h) }
+// The number of the first of some functions that is main.
+fn first_main(source: &Source, list: &[Head]) -> Option<usize>
+    ensures { result ≡ position (λ h. main_in source.now h.name) list.now }
 {
-    let mut k = 0;
-    while k < h {
-        let name = word(heads, HEAD_WORDS * k);
-        if is_main(text, places, values, name) {
-            return k;
-        }
-        k += 1;
-    }
-    h
+    list.iter().position(|head| is_main(source, head.name))
+}
+
+// The number of the first function that is main; how many there are if none is.
+pub fn main_number(source: &Source, heads: &Heads) -> usize
+    ensures { result ≡ main_of (main_in source.now) heads.now }
+{
+    let list = heads.as_slice();
+    first_main(source, list).unwrap_or(list.len())
 }

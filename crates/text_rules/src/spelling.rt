@@ -1,6 +1,8 @@
-// How the tokens of a text are spelled: a token by its number, the slices of the tokens' places and values (of a name, its size).
-ghost use Rattle.std.specs.Prelude.{◌≡◌, min, ◌+◌, ◌≤◌, get_or};
-ghost use Rattle.text_rules.specs.Spelling.{spelled, same_name, is_main};
+// How the tokens of a text are spelled: a token by its number.
+ghost use Rattle.std.specs.Prelude.{◌≡◌, get_or};
+ghost use Rattle.text_rules.specs.Spelling.{spelled_in, same_in, main_in};
+
+use syntax::source::Source;
 
 // The word at i, 0 past the end.
 pub fn word(s: &[u32], i: usize) -> usize
@@ -12,49 +14,28 @@ pub fn word(s: &[u32], i: usize) -> usize
     0
 }
 
-// The lesser of a place and an end.
-fn within(place: usize, end: usize) -> usize
-    ensures { result ≡ min place end }
-{
-    if place < end {
-        return place;
-    }
-    end
-}
-
-// At most `size` after a place, within an end.
-fn after(place: usize, size: usize, end: usize) -> usize
-    requires { place ≤ end }
-    ensures { result ≡ min (place + size) end }
-{
-    if size < end - place {
-        return place + size;
-    }
-    end
-}
-
 // The bytes of token i, as far as they lie in the text.
-pub fn spelling<'a>(text: &'a [u8], places: &[u32], values: &[u32], i: usize) -> &'a [u8]
-    ensures { result.now ≡ spelled text.now places.now values.now i }
+pub fn spelling<'a>(source: &Source<'a>, i: usize) -> &'a [u8]
+    ensures { result.now ≡ spelled_in source.now i }
 {
-    let start = within(word(places, i), text.len());
-    let end = after(start, word(values, i), text.len());
+    let text = source.text();
+    let start = (source.place(i) as usize).min(text.len());
+    let end = start
+        .saturating_add(source.value(i) as usize)
+        .min(text.len());
     &text[start..end]
 }
 
 // Whether the tokens i and j spell the same name.
-pub fn same_name(text: &[u8], places: &[u32], values: &[u32], i: usize, j: usize) -> bool
-    ensures { result ≡ same_name text.now places.now values.now i j }
+pub fn same_name(source: &Source, i: usize, j: usize) -> bool
+    ensures { result ≡ same_in source.now i j }
 {
-    lexer::same_bytes(
-        spelling(text, places, values, i),
-        spelling(text, places, values, j),
-    )
+    lexer::same_bytes(spelling(source, i), spelling(source, j))
 }
 
 // Whether the token i spells main.
-pub fn is_main(text: &[u8], places: &[u32], values: &[u32], i: usize) -> bool
-    ensures { result ≡ is_main text.now places.now values.now i }
+pub fn is_main(source: &Source, i: usize) -> bool
+    ensures { result ≡ main_in source.now i }
 {
-    lexer::same_bytes(spelling(text, places, values, i), b"main")
+    lexer::same_bytes(spelling(source, i), b"main")
 }

@@ -1,10 +1,6 @@
-use Prim.Native.Nat.{◌-◌}
 use Rattle.text_rules.proofs.Collects.{Gathered}
 use Rattle.text_rules.proofs.heads.collect_heads.Given as goal
 
--- The functions written and those of the rest are the functions of all the events.
+-- The functions of the events so far are collected.
 abbrev pub invariant-loop-i : goal.invariant-loop-i
-invariant-loop-i l = Gathered l.events l.n l.initial.heads l.heads l.h l.i
-
-abbrev pub decreases-loop-i : goal.decreases-loop-i
-decreases-loop-i l = l.n - l.i
+invariant-loop-i l = Gathered l.list l.i l.heads
