@@ -19,8 +19,9 @@ use Rattle.syntax.specs.declared.token.TokenKind.{TokenKind}
 use Rattle.syntax.proofs.SameKinds.{same-token}
 use Rattle.syntax.proofs.Rows.{Same, same_refl, same-trans, same-less, kept_at, length-row, row_same, row_is}
 use Rattle.grammar.specs.Parse.{Res, ok, bad, and_then}
-use Rattle.grammar.specs.Readers.{Found, Bad, Stored, Ready, Gives, tree, none, Fuel, Fresh, expected, Expected}
+use Rattle.grammar.specs.Readers.{Found, Bad, Added, Ready, Gives, tree, none, Fuel, Reads, expected, Expected}
 use Rattle.grammar.specs.declared.Read.{Read}
+use Rattle.grammar.specs.declared.Table.{Table}
 
 -- a token that is not the end has one after it
 pub not_last : {ks l : List ℕ} {at n k : ℕ} → Ready ks l at n → get_or ks at 0 ≡ k → eqb k 0 ≡ false → at + 1 < length ks
@@ -91,24 +92,27 @@ row-third e r = record { kind = r.kind; token = r.token; first = r.first; second
 pub room_for : {ks l : List ℕ} {at n : ℕ} → Ready ks l at n → 5 * n + 5 ≤ length l
 room_for r = omega (arith, r.inside, r.room, r.below)
 
-pub written : {l m : List ℕ} {n x k t a b c : ℕ} {r : Read} → Stored l m n x k t a b c r → 5 * n + 5 ≤ length l → Row m n k t a b c
-written {l} {m} {n} {x} {k} {t} {a} {b} {c} e h = subst (λ (o : List ℕ). Row o n k t a b c) (sym e.table) (row_is l n k t a b c h)
+-- a node that is written, and the others
+pub written : {o w : Table} {k t a b c r : ℕ} → Added o w k t a b c r → 5 * o.count + 5 ≤ length o.nodes.now → Row w.nodes.now r k t a b c
+written {o} {w} {k} {t} {a} {b} {c} {r} e h =
+    let P : ℕ → Type 0 = λ i. Row w.nodes.now i k t a b c in
+    subst P (sym e.number) (subst (λ (m : List ℕ). Row m o.count k t a b c) (sym e.row_of) (row_is o.nodes.now o.count k t a b c h))
 
-pub unwritten : {l m : List ℕ} {n x k t a b c : ℕ} {r : Read} → Stored l m n x k t a b c r → Same n l m
-unwritten {l} {m} {n} {x} {k} {t} {a} {b} {c} e = subst (λ (o : List ℕ). Same n l o) (sym e.table) (row_same l n k t a b c)
+pub unwritten : {o w : Table} {k t a b c r : ℕ} → Added o w k t a b c r → Same o.count o.nodes.now w.nodes.now
+unwritten {o} {w} {k} {t} {a} {b} {c} e = subst (λ (m : List ℕ). Same o.count o.nodes.now m) (sym e.row_of) (row_same o.nodes.now o.count k t a b c)
 
-pub stored-length : {l m : List ℕ} {n x k t a b c : ℕ} {r : Read} → Stored l m n x k t a b c r → length m ≡ length l
-stored-length {l} {m} {n} {x} {k} {t} {a} {b} {c} e = ap length e.table ∙ length-row l n k t a b c
+pub added-length : {o w : Table} {k t a b c r : ℕ} → Added o w k t a b c r → length w.nodes.now ≡ length o.nodes.now
+added-length {o} {w} {k} {t} {a} {b} {c} e = ap length e.row_of ∙ length-row o.nodes.now o.count k t a b c
 
--- what the next reader asks: after a token, in another table, after one more node
+-- what the next reader asks: after a token, after one more node
 pub ready-next : {ks l : List ℕ} {at n : ℕ} → Ready ks l at n → at + 1 < length ks → Ready ks l (at + 1) n
 ready-next r h = record { inside = h; few = r.few; room = r.room; below = omega (arith, r.below); ends = r.ends }
 
-pub ready-in : {ks l m : List ℕ} {at i n x k t a b c : ℕ} {r : Read} → Ready ks l at i → Stored l m n x k t a b c r → Ready ks m at i
-ready-in r e = record { inside = r.inside; few = r.few; room = omega (arith, r.room, stored-length e); below = r.below; ends = r.ends }
+pub ready-in : {ks : List ℕ} {at : ℕ} {o w : Table} {k t a b c r : ℕ} → Ready ks o.nodes.now at (o.count + 1) → Added o w k t a b c r → Ready ks w.nodes.now at w.count
+ready-in r e = record { inside = r.inside; few = r.few; room = omega (arith, r.room, added-length e); below = omega (arith, r.below, e.count); ends = r.ends }
 
-pub ready-stored : {ks l m : List ℕ} {at n x k t a b c : ℕ} {r : Read} → Ready ks l at n → Stored l m n x k t a b c r → n < 2 * at + 1 → Ready ks m at (n + 1)
-ready-stored r e h = record { inside = r.inside; few = r.few; room = omega (arith, r.room, stored-length e); below = omega arith; ends = r.ends }
+pub ready-added : {ks : List ℕ} {at : ℕ} {o w : Table} {k t a b c r : ℕ} → Ready ks o.nodes.now at o.count → Added o w k t a b c r → o.count < 2 * at + 1 → Ready ks w.nodes.now at w.count
+ready-added r e h = record { inside = r.inside; few = r.few; room = omega (arith, r.room, added-length e); below = omega (arith, h, e.count); ends = r.ends }
 
 pub ready_up : {ks l : List ℕ} {at n : ℕ} → Ready ks l at n → n < 2 * at + 1 → Ready ks l at (n + 1)
 ready_up r h = record { inside = r.inside; few = r.few; room = r.room; below = omega arith; ends = r.ends }
@@ -135,10 +139,10 @@ pub record Told (ks : List ℕ) (s n at x y z : ℕ) : Type 0 where
   pub more : n ≤ z
   pub fit : z + 2 * at + s ≤ n + 2 * x
 
-told-by : {c : Cat} {ks l m : List ℕ} {s n at x y z : ℕ} {v : Res c} → Gives ks l m s n at (Found x y z) v → Told ks s n at x y z
+told-by : {c : Cat} {ks l m : List ℕ} {s n at x y z : ℕ} {v : Res c} → Gives ks l m s n z at (Found x y) v → Told ks s n at x y z
 told-by (tree a b c d e f) = record { inside = a; rooted = b; more = c; fit = d }
 
-pub told : {c : Cat} {ks l m : List ℕ} {s n at rank x y z : ℕ} {read : ℕ → ℕ → Res c} → Fresh ks l m s n at rank (Found x y z) read → Told ks s n at x y z
+pub told : {c : Cat} {ks l m : List ℕ} {s n z at rank x y : ℕ} {read : ℕ → ℕ → Res c} → Reads ks l m s n z at rank (Found x y) read → Told ks s n at x y z
 told f = told-by f.gives
 
 -- a reader was called in the middle of another, and found a tree
@@ -151,7 +155,7 @@ pub record Called {c e : Cat} (ks l : List ℕ) (n at rank : ℕ) (whole : ℕ �
   pub sofar : Sofar ks l n at rank whole g f m' x' z' (λ d. k d tree x')
 
 -- what the next reader asks, after a tree
-pub ready-after : {c : Cat} {ks l m : List ℕ} {s n at rank x y z : ℕ} {read : ℕ → ℕ → Res c} → Ready ks l at n → Fresh ks l m s n at rank (Found x y z) read → Ready ks m x z
+pub ready-after : {c : Cat} {ks l m : List ℕ} {s n z at rank x y : ℕ} {read : ℕ → ℕ → Res c} → Ready ks l at n → Reads ks l m s n z at rank (Found x y) read → Ready ks m x z
 ready-after r f = let t = told f in record { inside = t.inside; few = r.few; room = omega (arith, r.room, f.long); below = omega (arith, r.below, t.fit); ends = r.ends }
 
 module _ {c : Cat} {ks l m : List ℕ} {n at rank g f x z : ℕ} {whole : ℕ → ℕ → Res c} where
@@ -186,29 +190,15 @@ module _ {c : Cat} {ks l m : List ℕ} {n at rank g f x z : ℕ} {whole : ℕ �
   pub eat : {k : ℕ} (A B : ℕ → Res c) → get_or ks x 0 ≡ k → eqb k 0 ≡ false → Sofar ks l n at rank whole g f m x z (λ d. elim (eqb (get_or ks x 0) k) [ true ↦ A d | false ↦ B d ]) → Sofar ks l n at rank whole (g + 2) (f + 2) m (x + 1) z A
   eat A B e o s = pass (not_last s.ready e o) (yes-so A B e s)
 
-  -- a node is written
-  pub wrote : {m' : List ℕ} {i k t a b v : ℕ} {q : Read} {r : ℕ → Res c} → Stored m m' z i k t a b v q → Sofar ks l n at rank whole g f m x z r → 1 ≤ g → Sofar ks l n at rank whole (g - 1) f m' x (z + 1) r
-  wrote e s h = record {
-    ready = record { inside = s.ready.inside; few = s.ready.few; room = omega (arith, s.ready.room, stored-length e); below = omega (arith, s.fit, s.under); ends = s.ready.ends };
-    from = s.from;
-    under = s.under;
-    long = stored-length e ∙ s.long;
-    same = same-trans s.same (same-less s.more (unwritten e));
-    more = omega (arith, s.more);
-    fit = omega (arith, s.fit);
-    far = s.far;
-    goes = s.goes;
-  }
-
   pub ate : {k : ℕ} {u : Unit {0}} (A : ℕ → Res c) → Expected ks x k (Ok u) → eqb k 0 ≡ false → Sofar ks l n at rank whole g f m x z (λ d. elim (eqb (get_or ks x 0) k) [ true ↦ A d | false ↦ bad x ]) → Sofar ks l n at rank whole (g + 2) (f + 2) m (x + 1) z A
   ate A e o s = eat A (λ d. bad x) (there e) o s
 
   module _ {e : Cat} {m' : List ℕ} {s rank' : ℕ} {read : ℕ → ℕ → Res e} (k : ℕ → Tree e → ℕ → Res c) where
     -- a reader is called, and finds a tree
-    pub call : {x' y z' : ℕ} → Fresh ks m m' s z x rank' (Found x' y z') read → Sofar ks l n at rank whole g f m x z (λ d. and_then (read d x) (k d)) → rank' + 1 ≤ rank + 4 * f → Called ks l n at rank whole (g + s) (f + s) m m' z x' y z' k
+    pub call : {x' y z' : ℕ} → Reads ks m m' s z z' x rank' (Found x' y) read → Sofar ks l n at rank whole g f m x z (λ d. and_then (read d x) (k d)) → rank' + 1 ≤ rank + 4 * f → Called ks l n at rank whole (g + s) (f + s) m m' z x' y z' k
     call {x'} {y} {z'} h so up = go h.res h.reads h.gives
       where
-        go : (v : Res e) → ((d : ℕ) → Fuel ks rank' d x → read d x ≡ v) → Gives ks m m' s z x (Found x' y z') v → Called ks l n at rank whole (g + s) (f + s) m m' z x' y z' k
+        go : (v : Res e) → ((d : ℕ) → Fuel ks rank' d x → read d x ≡ v) → Gives ks m m' s z z' x (Found x' y) v → Called ks l n at rank whole (g + s) (f + s) m m' z x' y z' k
         go v rd (tree {t = t} α β γ δ ε ζ) = record {
           tree = t;
           holds = ζ;
@@ -229,10 +219,10 @@ module _ {c : Cat} {ks l m : List ℕ} {n at rank g f x z : ℕ} {whole : ℕ �
         }
 
     -- it finds none
-    pub fail : {s' p : ℕ} {r : Result Read ℕ} → Fresh ks m m' s z x rank' (Bad p) read → Sofar ks l n at rank whole g f m x z (λ d. and_then (read d x) (k d)) → rank' + 1 ≤ rank + 4 * f → Passed r p → Fresh ks l m' s' n at rank r whole
-    fail {s'} {p} h so up is = subst (λ (o : Result Read ℕ). Fresh ks l m' s' n at rank o whole) (sym (passed p is)) (go h.res h.reads h.gives)
+    pub fail : {s' p z' : ℕ} {r : Result Read ℕ} → Reads ks m m' s z z' x rank' (Bad p) read → Sofar ks l n at rank whole g f m x z (λ d. and_then (read d x) (k d)) → rank' + 1 ≤ rank + 4 * f → Passed r p → Reads ks l m' s' n z' at rank r whole
+    fail {s'} {p} {z'} h so up is = subst (λ (o : Result Read ℕ). Reads ks l m' s' n z' at rank o whole) (sym (passed p is)) (go h.res h.reads h.gives)
       where
-        go : (v : Res e) → ((d : ℕ) → Fuel ks rank' d x → read d x ≡ v) → Gives ks m m' s z x (Bad p) v → Fresh ks l m' s' n at rank (Bad p) whole
+        go : (v : Res e) → ((d : ℕ) → Fuel ks rank' d x → read d x ≡ v) → Gives ks m m' s z z' x (Bad p) v → Reads ks l m' s' n z' at rank (Bad p) whole
         go v rd none = record { res = bad p; reads = all; gives = none; long = h.long ∙ so.long }
           where
             all : (d : ℕ) → Fuel ks rank d at → whole d at ≡ bad p
@@ -240,7 +230,7 @@ module _ {c : Cat} {ks l m : List ℕ} {n at rank g f x z : ℕ} {whole : ℕ �
             all (suc d) w = so.goes d w ∙ ap (λ (o : Res e). and_then o (k d)) (rd d (omega (arith, w, so.far)))
 
   -- the reader stops
-  pub stop : {s p : ℕ} → Sofar ks l n at rank whole g f m x z (λ d. bad p) → Fresh ks l m s n at rank (Bad p) whole
+  pub stop : {s p : ℕ} → Sofar ks l n at rank whole g f m x z (λ d. bad p) → Reads ks l m s n z at rank (Bad p) whole
   stop {s} {p} so = record { res = bad p; reads = all; gives = none; long = so.long }
     where
       all : (d : ℕ) → Fuel ks rank d at → whole d at ≡ bad p
@@ -248,36 +238,50 @@ module _ {c : Cat} {ks l m : List ℕ} {n at rank g f x z : ℕ} {whole : ℕ �
       all (suc d) w = so.goes d w
 
   -- it stops where an expected token is not
-  pub halt : {s p : ℕ} {r : Result Read ℕ} → p ≡ x → Passed r p → Sofar ks l n at rank whole g f m x z (λ d. bad x) → Fresh ks l m s n at rank r whole
-  halt {s} {p} e is so = subst (λ (o : Result Read ℕ). Fresh ks l m s n at rank o whole) (sym (passed p is ∙ ap Err e)) (stop so)
+  pub halt : {s p : ℕ} {r : Result Read ℕ} → p ≡ x → Passed r p → Sofar ks l n at rank whole g f m x z (λ d. bad x) → Reads ks l m s n z at rank r whole
+  halt {s} {p} e is so = subst (λ (o : Result Read ℕ). Reads ks l m s n z at rank o whole) (sym (passed p is ∙ ap Err e)) (stop so)
 
-  pub missed : {s p k : ℕ} {r : Result Read ℕ} (A : ℕ → Res c) → Expected ks x k (Err p) → Passed r p → Sofar ks l n at rank whole g f m x z (λ d. elim (eqb (get_or ks x 0) k) [ true ↦ A d | false ↦ bad x ]) → Fresh ks l m s n at rank r whole
+  pub missed : {s p k : ℕ} {r : Result Read ℕ} (A : ℕ → Res c) → Expected ks x k (Err p) → Passed r p → Sofar ks l n at rank whole g f m x z (λ d. elim (eqb (get_or ks x 0) k) [ true ↦ A d | false ↦ bad x ]) → Reads ks l m s n z at rank r whole
   missed A e is so = halt (absent e).1 is (not_so A (λ d. bad x) (gone e) so)
 
   -- it ends with a tree
-  pub found : {s y : ℕ} {t : Tree c} {r : Result Read ℕ} → Sofar ks l n at rank whole g f m x z (λ d. ok t x) → Holds m y (ast t) → y < z → s ≤ g → r ≡ Found x y z → Fresh ks l m s n at rank r whole
-  found {s} {y} {t} {r} so h b le eq = record { res = ok t x; reads = all; gives = subst (λ (o : Result Read ℕ). Gives ks l m s n at o (ok t x)) (sym eq) (tree so.ready.inside b so.more (omega (arith, so.fit)) so.same h); long = so.long }
+  pub found : {s y : ℕ} {t : Tree c} {r : Result Read ℕ} → Sofar ks l n at rank whole g f m x z (λ d. ok t x) → Holds m y (ast t) → y < z → s ≤ g → r ≡ Found x y → Reads ks l m s n z at rank r whole
+  found {s} {y} {t} {r} so h b le eq = record { res = ok t x; reads = all; gives = subst (λ (o : Result Read ℕ). Gives ks l m s n z at o (ok t x)) (sym eq) (tree so.ready.inside b so.more (omega (arith, so.fit)) so.same h); long = so.long }
     where
       all : (d : ℕ) → Fuel ks rank d at → whole d at ≡ ok t x
       all zero w = absurd (omega (arith, w, so.from))
       all (suc d) w = so.goes d w
 
   -- it hands over to another
-  pub hand : {m' : List ℕ} {s s' rank' : ℕ} {r : Result Read ℕ} {read : ℕ → ℕ → Res c} → Fresh ks m m' s' z x rank' r read → Sofar ks l n at rank whole g f m x z (λ d. read d x) → rank' + 1 ≤ rank + 4 * f → s ≤ g + s' → Fresh ks l m' s n at rank r whole
-  hand {m'} {s} {s'} {rank'} {r} {read} h so up le = record { res = h.res; reads = all; gives = go h.gives; long = h.long ∙ so.long }
+  pub hand : {m' : List ℕ} {s s' z' rank' : ℕ} {r : Result Read ℕ} {read : ℕ → ℕ → Res c} → Reads ks m m' s' z z' x rank' r read → Sofar ks l n at rank whole g f m x z (λ d. read d x) → rank' + 1 ≤ rank + 4 * f → s ≤ g + s' → Reads ks l m' s n z' at rank r whole
+  hand {m'} {s} {s'} {z'} {rank'} {r} {read} h so up le = record { res = h.res; reads = all; gives = go h.gives; long = h.long ∙ so.long }
     where
       all : (d : ℕ) → Fuel ks rank d at → whole d at ≡ h.res
       all zero w = absurd (omega (arith, w, so.from))
       all (suc d) w = so.goes d w ∙ h.reads d (omega (arith, w, so.far))
 
-      go : {o : Result Read ℕ} {v : Res c} → Gives ks m m' s' z x o v → Gives ks l m' s n at o v
+      go : {o : Result Read ℕ} {v : Res c} → Gives ks m m' s' z z' x o v → Gives ks l m' s n z' at o v
       go (tree α β γ δ ε ζ) = tree α β (omega (arith, so.more)) (omega (arith, so.fit)) (same-trans so.same (same-less so.more ε)) ζ
       go none = none
 
--- a node written before the reader began
-pub before : {c : Cat} {ks l l₁ m : List ℕ} {s n at rank i k t a b v : ℕ} {q : Read} {r : Result Read ℕ} {whole : ℕ → ℕ → Res c} → Stored l l₁ n i k t a b v q → Fresh ks l₁ m (s + 1) (n + 1) at rank r whole → Fresh ks l m s n at rank r whole
-before {c} {ks} {l} {l₁} {m} {s} {n} {at} e f = record { res = f.res; reads = f.reads; gives = go f.gives; long = f.long ∙ stored-length e }
+-- a node is written in the middle of a reader
+pub wrote : {c : Cat} {ks l : List ℕ} {n at rank g f x : ℕ} {whole : ℕ → ℕ → Res c} {q : ℕ → Res c} {o w : Table} {k t a b v r : ℕ} → Added o w k t a b v r → Sofar ks l n at rank whole g f o.nodes.now x o.count q → 1 ≤ g → Sofar ks l n at rank whole (g - 1) f w.nodes.now x w.count q
+wrote e s h = record {
+  ready = record { inside = s.ready.inside; few = s.ready.few; room = omega (arith, s.ready.room, added-length e); below = omega (arith, s.fit, s.under, e.count); ends = s.ready.ends };
+  from = s.from;
+  under = s.under;
+  long = added-length e ∙ s.long;
+  same = same-trans s.same (same-less s.more (unwritten e));
+  more = omega (arith, s.more, e.count);
+  fit = omega (arith, s.fit, e.count);
+  far = s.far;
+  goes = s.goes;
+}
+
+-- a node is written before a reader begins
+pub before : {c : Cat} {ks m : List ℕ} {s z at rank : ℕ} {r : Result Read ℕ} {whole : ℕ → ℕ → Res c} {o w : Table} {k t a b v i : ℕ} → Added o w k t a b v i → Reads ks w.nodes.now m (s + 1) w.count z at rank r whole → Reads ks o.nodes.now m s o.count z at rank r whole
+before {c} {ks} {m} {s} {z} {at} {o = o} {w} e f = record { res = f.res; reads = f.reads; gives = go f.gives; long = f.long ∙ added-length e }
   where
-    go : {o : Result Read ℕ} {v : Res c} → Gives ks l₁ m (s + 1) (n + 1) at o v → Gives ks l m s n at o v
-    go (tree α β γ δ ε ζ) = tree α β (omega arith) (omega arith) (same-trans (unwritten e) (same-less (omega arith) ε)) ζ
+    go : {q : Result Read ℕ} {u : Res c} → Gives ks w.nodes.now m (s + 1) w.count z at q u → Gives ks o.nodes.now m s o.count z at q u
+    go (tree α β γ δ ε ζ) = tree α β (omega (arith, γ, e.count)) (omega (arith, δ, e.count)) (same-trans (unwritten e) (same-less (omega (arith, e.count)) ε)) ζ
     go none = none

@@ -9,22 +9,22 @@ use Rattle.syntax.specs.declared.node.NodeKind.TheVariants.{Plus, Minus}
 use Rattle.syntax.proofs.Rows.{Same}
 use Rattle.grammar.specs.Parse.{Res, ok, bad, read_ended, more_body}
 use Rattle.grammar.specs.declared.Read.{Read}
+use Rattle.grammar.specs.declared.Table.{Table}
 
--- what a reader answers: a tree is read up to a token, its root is a node, and so many nodes are there
-abbrev pub read_to : ℕ → ℕ → ℕ → Read
-read_to x y z = record { next = x; root = y; count = z }
-
-abbrev pub Found : ℕ → ℕ → ℕ → Result Read ℕ
-Found x y z = Ok (read_to x y z)
+-- what a reader answers: the token after a tree and its root
+abbrev pub Found : ℕ → ℕ → Result Read ℕ
+Found x y = Ok (record { next = x; root = y })
 
 -- or that a token does not fit
 abbrev pub Bad : ℕ → Result Read ℕ
 Bad p = Err p
 
--- node n is written, and that is answered
-pub record Stored (l m : List ℕ) (n next k t a b c : ℕ) (r : Read) : Type 0 where
-  pub answer : r ≡ read_to next n (n + 1)
-  pub table : m ≡ row l n k t a b c
+-- a node is written behind the others, and its number answered
+pub record Added (o w : Table) (k t a b c r : ℕ) : Type 0 where
+  pub number : r ≡ o.count
+  pub count : w.count ≡ o.count + 1
+  pub row_of : w.nodes.now ≡ row o.nodes.now o.count k t a b c
+  pub same : w.nodes.ghost_name ≡ o.nodes.ghost_name
 
 -- whether a minus stands at `at`
 abbrev pub is_minus : List ℕ → ℕ → Bool
@@ -44,39 +44,47 @@ pub record Ready (ks l : List ℕ) (at n : ℕ) : Type 0 where
   pub below : n ≤ 2 * at + 1
   pub ends : (a : ℕ) → suc a ≡ length ks → get_or ks a 0 ≡ 0
 
--- what a reader that starts at `at` with n nodes answers, by what the definition gives:
+-- what a reader that starts at `at` with n nodes and ends with z answers, by what the definition gives:
 -- the tree stands in the table m, the nodes below n are as in l, and there are not more than two nodes for each token, less s
-pub data Gives (ks l m : List ℕ) (s n at : ℕ) {c : Cat} : Result Read ℕ → Res c → Type 0 where
-  tree : {t : Tree c} {next root count : ℕ} → next < length ks → root < count → n ≤ count → count + 2 * at + s ≤ n + 2 * next
-      → Same n l m → Holds m root (ast t) → Gives ks l m s n at (Found next root count) (ok t next)
-  none : {p : ℕ} → Gives ks l m s n at (Bad p) (bad p)
+pub data Gives (ks l m : List ℕ) (s n z at : ℕ) {c : Cat} : Result Read ℕ → Res c → Type 0 where
+  tree : {t : Tree c} {next root : ℕ} → next < length ks → root < z → n ≤ z → z + 2 * at + s ≤ n + 2 * next
+      → Same n l m → Holds m root (ast t) → Gives ks l m s n z at (Found next root) (ok t next)
+  none : {p : ℕ} → Gives ks l m s n z at (Bad p) (bad p)
 
 -- d is enough for the definition's reader of this rank
 abbrev pub Fuel : List ℕ → ℕ → ℕ → ℕ → Type 0
 Fuel ks rank d at = 8 * length ks + rank ≤ d + 8 * at
 
--- what a reader promises, by the definition's reader
-pub record Fresh {c : Cat} (ks l m : List ℕ) (s n at rank : ℕ) (r : Result Read ℕ) (read : ℕ → ℕ → Res c) : Type 0 where
+-- what a reader promises of its nodes, by the definition's reader
+pub record Reads {c : Cat} (ks l m : List ℕ) (s n z at rank : ℕ) (r : Result Read ℕ) (read : ℕ → ℕ → Res c) : Type 0 where
   pub res : Res c
   pub reads : (d : ℕ) → Fuel ks rank d at → read d at ≡ res
-  pub gives : Gives ks l m s n at r res
+  pub gives : Gives ks l m s n z at r res
   pub long : length m ≡ length l
 
+-- what a reader promises: these are the nodes of its table, which stays the one that was lent
+pub record Fresh {c : Cat} (ks : List ℕ) (o w : Table) (s at rank : ℕ) (r : Result Read ℕ) (read : ℕ → ℕ → Res c) : Type 0 where
+  pub same : w.nodes.ghost_name ≡ o.nodes.ghost_name
+  pub tells : Reads ks o.nodes.now w.nodes.now s o.count w.count at rank r read
+
 -- the same of a reader that goes on from a tree at node left
-pub record Rest {c e : Cat} (ks l m : List ℕ) (s n left at rank : ℕ) (r : Result Read ℕ) (more : ℕ → Tree c → ℕ → Res e) : Type 0 where
-  pub after : (u : Tree c) → Holds l left (ast u) → Fresh ks l m s n at rank r (λ d. more d u)
+pub record Rest {c e : Cat} (ks : List ℕ) (o w : Table) (s left at rank : ℕ) (r : Result Read ℕ) (more : ℕ → Tree c → ℕ → Res e) : Type 0 where
+  pub same : w.nodes.ghost_name ≡ o.nodes.ghost_name
+  pub after : (u : Tree c) → Holds o.nodes.now left (ast u) → Reads ks o.nodes.now w.nodes.now s o.count w.count at rank r (λ d. more d u)
 
 -- the same of the reader of statements with the closing brace
-pub record Bodies (ks l m : List ℕ) (n at : ℕ) (r : Result Read ℕ) : Type 0 where
-  pub all : Fresh ks l m 0 n at 8 r (λ d. more_body ks d no_stmts)
+pub record Bodies (ks : List ℕ) (o w : Table) (at : ℕ) (r : Result Read ℕ) : Type 0 where
+  pub same : w.nodes.ghost_name ≡ o.nodes.ghost_name
+  pub all : Reads ks o.nodes.now w.nodes.now 0 o.count w.count at 8 r (λ d. more_body ks d no_stmts)
 
 -- a node of kind k over an expression, with the token j, is the statement w
 pub record Makes (k j : ℕ) (w : Tree Cat.sum → Tree Cat.stmt) : Type 0 where
   pub make : {l : List ℕ} {i a : ℕ} (t : Tree Cat.sum) → Row l i k j a 0 0 → a < i → Holds l a (ast t) → Holds l i (ast (w t))
 
 -- what the reader of e ; promises
-pub record Ended (ks l m : List ℕ) (n at k j : ℕ) (r : Result Read ℕ) : Type 0 where
-  pub ended : (w : Tree Cat.sum → Tree Cat.stmt) → Makes k j w → Fresh ks l m 1 n at 5 r (read_ended ks w)
+pub record Ended (ks : List ℕ) (o w : Table) (at k j : ℕ) (r : Result Read ℕ) : Type 0 where
+  pub same : w.nodes.ghost_name ≡ o.nodes.ghost_name
+  pub ended : (v : Tree Cat.sum → Tree Cat.stmt) → Makes k j v → Reads ks o.nodes.now w.nodes.now 1 o.count w.count at 5 r (read_ended ks v)
 
 -- whether the token at `at` is of the kind k; if not, its number is told
 abbrev pub expected : Bool → ℕ → Result (Unit {0}) ℕ

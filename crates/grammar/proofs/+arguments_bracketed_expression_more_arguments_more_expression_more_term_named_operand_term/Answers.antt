@@ -1,9 +1,8 @@
-use mathlib.Core.Path.{refl, ap}
-use Rattle.std.specs.Prelude.{Ok}
+use mathlib.Core.Path.{refl}
 use Rattle.std.proofs.Common.{rules}
 use native.Mathlib.Omega.{arith}
 use Rattle.grammar.proofs.Marks.{signed, unsigned}
-use Rattle.grammar.proofs.Steps.{kept, room_for, written, unwritten, ready-next, ready-in, ready-stored, ready-after, ready_up, told, begin, same-as, yes-so, not_so, pass, eat, ate, wrote, call, fail, stop, missed, found, hand, before, none-at, not_last, clash, is_kind, not_kind}
+use Rattle.grammar.proofs.Steps.{kept, room_for, written, unwritten, ready-next, ready-in, ready-added, ready-after, ready_up, told, begin, same-as, yes-so, not_so, pass, eat, ate, wrote, call, fail, stop, missed, found, hand, before, none-at, not_last, clash, is_kind, not_kind}
 use Rattle.grammar.specs.Parse.{read_operand, read_bracket, read_call, read_args, more_args, read_term, more_term, read_sum, more_sum}
 use Rattle.syntax.specs.Abstract.{ast}
 use Rattle.syntax.specs.Table.{at_no_args, at-more-args, at_bracket, at-times, at_name, at_call, at-number, at-negative}
@@ -13,170 +12,170 @@ use Rattle.grammar.proofs.+arguments_bracketed_expression_more_arguments_more_ex
 
 pub arguments-returns-then-eq : goal.arguments-returns-then-eq
 unfolding read_operand ast
-arguments-returns-then-eq t c = before c.store.ensures (found (eat _ _ (is_kind kind.Close c.kind.ensures (search rules)) refl (begin 5 (read_args c.args.source.now.kinds) (ready-in c.requires c.store.ensures))) (record { kind = _; at = at_no_args (written c.store.ensures (omega (arith, room_for c.requires))) }) (omega arith) (omega arith) refl)
+arguments-returns-then-eq t c = record { same = cc; tells = before c.add-none.ensures (found (eat _ _ (is_kind kind.Close c.kind.ensures (search rules)) refl (begin 5 (read_args c.args.source.now.kinds) (ready-in c.requires c.add-none.ensures))) (record { kind = _; at = at_no_args (written c.add-none.ensures (omega (arith, room_for c.requires))) }) (omega arith) (omega arith) refl) }
 
 pub arguments-returns-in_err-next : goal.arguments-returns-in_err-next
 unfolding read_operand ast
-arguments-returns-in_err-next t c = before c.store.ensures (fail _ c.in_err-next.ensures (not_so _ _ (not_kind kind.Close c.kind.ensures (search rules)) (begin 5 (read_args c.args.source.now.kinds) (ready-in c.requires c.store.ensures))) (omega arith) c.from_residual.ensures)
+arguments-returns-in_err-next t c = record { same = cc; tells = before c.add-none.ensures (fail _ c.in_err-next.ensures.tells (not_so _ _ (not_kind kind.Close c.kind.ensures (search rules)) (begin 5 (read_args c.args.source.now.kinds) (ready-in c.requires c.add-none.ensures))) (omega arith) c.from_residual.ensures) }
 
-pub arguments-store-requires-2 : goal.arguments-store-requires-2
-arguments-store-requires-2 t c = let f = told c.in_ok-next.ensures in let q = ready-after (ready-in c.requires c.store.ensures) c.in_ok-next.ensures in omega (arith, room_for q, q.inside, q.few, q.below)
+pub arguments-add-first-requires : goal.arguments-add-first-requires
+arguments-add-first-requires t c = let f = told c.in_ok-next.ensures.tells in let q = ready-after (ready-in c.requires c.add-none.ensures) c.in_ok-next.ensures.tells in omega (arith, room_for q, q.inside, q.few, q.below)
 
 pub arguments-more_arguments-requires : goal.arguments-more_arguments-requires
-arguments-more_arguments-requires t c = let f = told c.in_ok-next.ensures in let q = ready-after (ready-in c.requires c.store.ensures) c.in_ok-next.ensures in (omega (arith, f.inside, f.more, f.fit, c.decreases), (ready-stored q c.store-2.ensures (omega (arith, c.requires.below, f.fit)), (omega arith)))
+arguments-more_arguments-requires t c = let f = told c.in_ok-next.ensures.tells in let q = ready-after (ready-in c.requires c.add-none.ensures) c.in_ok-next.ensures.tells in (omega (arith, f.inside, f.more, f.fit, c.decreases), (ready-added q c.add-first.ensures (omega (arith, c.requires.below, f.fit)), (omega arith)))
 
 pub arguments-returns : goal.arguments-returns
 unfolding read_operand ast
-arguments-returns t c = before c.store.ensures (let C = call _ c.in_ok-next.ensures (not_so _ _ (not_kind kind.Close c.kind.ensures (search rules)) (begin 5 (read_args c.args.source.now.kinds) (ready-in c.requires c.store.ensures))) (omega arith) in hand (c.more_arguments.ensures.after (first_arg C.tree) (record { kind = _; at = at-more-args (written c.store-2.ensures (room_for C.sofar.ready)) (omega (arith, C.more)) C.rooted (kept (unwritten c.store-2.ensures) (omega (arith, C.more)) (kept C.same (omega arith) (none-at (written c.store.ensures (omega (arith, room_for c.requires)))))).at (kept (unwritten c.store-2.ensures) C.rooted C.holds).at })) (wrote c.store-2.ensures C.sofar (omega arith)) (omega arith) (omega arith))
+arguments-returns t c = record { same = cc; tells = before c.add-none.ensures (let C = call _ c.in_ok-next.ensures.tells (not_so _ _ (not_kind kind.Close c.kind.ensures (search rules)) (begin 5 (read_args c.args.source.now.kinds) (ready-in c.requires c.add-none.ensures))) (omega arith) in hand (c.more_arguments.ensures.after (first_arg C.tree) (record { kind = _; at = at-more-args (written c.add-first.ensures (room_for C.sofar.ready)) (omega (arith, C.more)) (omega (arith, C.rooted)) (kept (unwritten c.add-first.ensures) (omega (arith, C.more)) (kept C.same (omega arith) (none-at (written c.add-none.ensures (omega (arith, room_for c.requires)))))).at (kept (unwritten c.add-first.ensures) C.rooted C.holds).at })) (wrote c.add-first.ensures C.sofar (omega arith)) (omega arith) (omega arith)) }
 
 pub bracketed-returns-in_err-next : goal.bracketed-returns-in_err-next
 unfolding read_operand ast
-bracketed-returns-in_err-next t c = fail _ c.in_err-next.ensures (pass c.requires.1 (begin 1 (read_bracket c.args.source.now.kinds) c.requires.0)) (omega arith) c.from_residual.ensures
+bracketed-returns-in_err-next t c = record { same = cc; tells = fail _ c.in_err-next.ensures.tells (pass c.requires.1 (begin 1 (read_bracket c.args.source.now.kinds) c.requires.0)) (omega arith) c.from_residual.ensures }
 
 pub bracketed-returns-in_err-expect : goal.bracketed-returns-in_err-expect
 unfolding read_operand ast
-bracketed-returns-in_err-expect t c = let C = call _ c.in_ok-next.ensures (pass c.requires.1 (begin 1 (read_bracket c.args.source.now.kinds) c.requires.0)) (omega arith) in missed _ c.in_err-expect.ensures c.from_residual-in_err-expect.ensures C.sofar
+bracketed-returns-in_err-expect t c = record { same = cc; tells = let C = call _ c.in_ok-next.ensures.tells (pass c.requires.1 (begin 1 (read_bracket c.args.source.now.kinds) c.requires.0)) (omega arith) in missed _ c.in_err-expect.ensures c.from_residual-in_err-expect.ensures C.sofar }
 
-pub bracketed-store-requires : goal.bracketed-store-requires
-bracketed-store-requires t c = let q = ready-after (ready-next c.requires.0 c.requires.1) c.in_ok-next.ensures in omega (arith, room_for q, q.inside, q.few, q.below)
+pub bracketed-add-requires : goal.bracketed-add-requires
+bracketed-add-requires t c = let q = ready-after (ready-next c.requires.0 c.requires.1) c.in_ok-next.ensures.tells in omega (arith, room_for q, q.inside, q.few, q.below)
 
 pub bracketed-returns : goal.bracketed-returns
 unfolding read_operand ast
-bracketed-returns t c = let C = call _ c.in_ok-next.ensures (pass c.requires.1 (begin 1 (read_bracket c.args.source.now.kinds) c.requires.0)) (omega arith) in found (wrote c.store.ensures (ate _ c.in_ok-expect.ensures refl C.sofar) (omega arith)) (record { kind = _; at = at_bracket (written c.store.ensures (room_for C.sofar.ready)) C.rooted (kept (unwritten c.store.ensures) C.rooted C.holds).at }) (omega arith) (omega arith) (ap Ok c.store.ensures.answer)
+bracketed-returns t c = record { same = cc; tells = let C = call _ c.in_ok-next.ensures.tells (pass c.requires.1 (begin 1 (read_bracket c.args.source.now.kinds) c.requires.0)) (omega arith) in found (wrote c.add.ensures (ate _ c.in_ok-expect.ensures refl C.sofar) (omega arith)) (record { kind = _; at = at_bracket (written c.add.ensures (room_for C.sofar.ready)) (omega (arith, C.rooted)) (kept (unwritten c.add.ensures) C.rooted C.holds).at }) (omega arith) (omega arith) refl }
 
 pub expression-returns-in_err-next : goal.expression-returns-in_err-next
 unfolding read_operand ast
-expression-returns-in_err-next t c = fail _ c.in_err-next.ensures (begin 4 (read_sum c.args.source.now.kinds) c.requires) (omega arith) c.from_residual.ensures
+expression-returns-in_err-next t c = record { same = cc; tells = fail _ c.in_err-next.ensures.tells (begin 4 (read_sum c.args.source.now.kinds) c.requires) (omega arith) c.from_residual.ensures }
 
 pub expression-more_expression-requires : goal.expression-more_expression-requires
-expression-more_expression-requires t c = let f = told c.in_ok-next.ensures in (omega (arith, f.inside, f.more, f.fit, c.decreases), (ready-after c.requires c.in_ok-next.ensures, f.rooted))
+expression-more_expression-requires t c = let f = told c.in_ok-next.ensures.tells in (omega (arith, f.inside, f.more, f.fit, c.decreases), (ready-after c.requires c.in_ok-next.ensures.tells, f.rooted))
 
 pub expression-returns : goal.expression-returns
 unfolding read_operand ast
-expression-returns t c = let C = call _ c.in_ok-next.ensures (begin 4 (read_sum c.args.source.now.kinds) c.requires) (omega arith) in hand (c.more_expression.ensures.after (addend C.tree) C.holds) C.sofar (omega arith) (omega arith)
+expression-returns t c = record { same = cc; tells = let C = call _ c.in_ok-next.ensures.tells (begin 4 (read_sum c.args.source.now.kinds) c.requires) (omega arith) in hand (c.more_expression.ensures.after (addend C.tree) C.holds) C.sofar (omega arith) (omega arith) }
 
 pub more_arguments-returns-in-Close : goal.more_arguments-returns-in-Close
 unfolding read_operand ast
-more_arguments-returns-in-Close t c = record { after = λ u h. found (eat _ _ (is_kind kind.Close c.kind.ensures c.in-Close.is) refl (not_so _ _ (clash (is_kind kind.Close c.kind.ensures c.in-Close.is) refl) (begin 1 (λ d. more_args c.args.source.now.kinds d u) c.requires.0))) h c.requires.1 (omega arith) refl }
+more_arguments-returns-in-Close t c = record { same = cc; after = λ u h. found (eat _ _ (is_kind kind.Close c.kind.ensures c.in-Close.is) refl (not_so _ _ (clash (is_kind kind.Close c.kind.ensures c.in-Close.is) refl) (begin 1 (λ d. more_args c.args.source.now.kinds d u) c.requires.0))) h c.requires.1 (omega arith) refl }
 
 pub more_arguments-expression-requires : goal.more_arguments-expression-requires
 more_arguments-expression-requires t c = let h = not_last c.requires.0 (is_kind kind.Comma c.kind.ensures c.in-Comma.is) refl in (omega (arith, h, c.requires.0.inside, c.decreases), ready-next c.requires.0 h)
 
 pub more_arguments-returns-in_err-next-in-Comma : goal.more_arguments-returns-in_err-next-in-Comma
 unfolding read_operand ast
-more_arguments-returns-in_err-next-in-Comma t c = record { after = λ u h. fail _ c.in_err-next-in-Comma.ensures (eat _ _ (is_kind kind.Comma c.kind.ensures c.in-Comma.is) refl (begin 1 (λ d. more_args c.args.source.now.kinds d u) c.requires.0)) (omega arith) c.from_residual.ensures }
+more_arguments-returns-in_err-next-in-Comma t c = record { same = cc; after = λ u h. fail _ c.in_err-next-in-Comma.ensures.tells (eat _ _ (is_kind kind.Comma c.kind.ensures c.in-Comma.is) refl (begin 1 (λ d. more_args c.args.source.now.kinds d u) c.requires.0)) (omega arith) c.from_residual.ensures }
 
-pub more_arguments-store-requires : goal.more_arguments-store-requires
-more_arguments-store-requires t c = let h = not_last c.requires.0 (is_kind kind.Comma c.kind.ensures c.in-Comma.is) refl in let f = told c.in_ok-next-in-Comma.ensures in let q = ready-after (ready-next c.requires.0 h) c.in_ok-next-in-Comma.ensures in omega (arith, room_for q, q.inside, q.few, q.below)
+pub more_arguments-add-more-requires : goal.more_arguments-add-more-requires
+more_arguments-add-more-requires t c = let h = not_last c.requires.0 (is_kind kind.Comma c.kind.ensures c.in-Comma.is) refl in let f = told c.in_ok-next-in-Comma.ensures.tells in let q = ready-after (ready-next c.requires.0 h) c.in_ok-next-in-Comma.ensures.tells in omega (arith, room_for q, q.inside, q.few, q.below)
 
 pub more_arguments-more_arguments-requires : goal.more_arguments-more_arguments-requires
-more_arguments-more_arguments-requires t c = let h = not_last c.requires.0 (is_kind kind.Comma c.kind.ensures c.in-Comma.is) refl in let f = told c.in_ok-next-in-Comma.ensures in let q = ready-after (ready-next c.requires.0 h) c.in_ok-next-in-Comma.ensures in (omega (arith, f.inside, f.more, f.fit, c.decreases), (ready-stored q c.store.ensures (omega (arith, c.requires.0.below, f.fit)), (omega arith)))
+more_arguments-more_arguments-requires t c = let h = not_last c.requires.0 (is_kind kind.Comma c.kind.ensures c.in-Comma.is) refl in let f = told c.in_ok-next-in-Comma.ensures.tells in let q = ready-after (ready-next c.requires.0 h) c.in_ok-next-in-Comma.ensures.tells in (omega (arith, f.inside, f.more, f.fit, c.decreases), (ready-added q c.add-more.ensures (omega (arith, c.requires.0.below, f.fit)), (omega arith)))
 
 pub more_arguments-returns-in_ok-next-in-Comma : goal.more_arguments-returns-in_ok-next-in-Comma
 unfolding read_operand ast
-more_arguments-returns-in_ok-next-in-Comma t c = record { after = λ u h. let C = call _ c.in_ok-next-in-Comma.ensures (eat _ _ (is_kind kind.Comma c.kind.ensures c.in-Comma.is) refl (begin 1 (λ d. more_args c.args.source.now.kinds d u) c.requires.0)) (omega arith) in hand (c.more_arguments.ensures.after (next_arg u C.tree) (record { kind = _; at = at-more-args (written c.store.ensures (room_for C.sofar.ready)) (omega (arith, c.requires.1, C.more)) C.rooted (kept (unwritten c.store.ensures) (omega (arith, c.requires.1, C.more)) (kept C.same c.requires.1 h)).at (kept (unwritten c.store.ensures) C.rooted C.holds).at })) (wrote c.store.ensures C.sofar (omega arith)) (omega arith) (omega arith) }
+more_arguments-returns-in_ok-next-in-Comma t c = record { same = cc; after = λ u h. let C = call _ c.in_ok-next-in-Comma.ensures.tells (eat _ _ (is_kind kind.Comma c.kind.ensures c.in-Comma.is) refl (begin 1 (λ d. more_args c.args.source.now.kinds d u) c.requires.0)) (omega arith) in hand (c.more_arguments.ensures.after (next_arg u C.tree) (record { kind = _; at = at-more-args (written c.add-more.ensures (room_for C.sofar.ready)) (omega (arith, c.requires.1, C.more)) (omega (arith, C.rooted)) (kept (unwritten c.add-more.ensures) (omega (arith, c.requires.1, C.more)) (kept C.same c.requires.1 h)).at (kept (unwritten c.add-more.ensures) C.rooted C.holds).at })) (wrote c.add-more.ensures C.sofar (omega arith)) (omega arith) (omega arith) }
 
 pub more_arguments-returns-in_default : goal.more_arguments-returns-in_default
 unfolding read_operand ast
-more_arguments-returns-in_default t c = record { after = λ u h. stop (not_so _ _ (not_kind kind.Close c.kind.ensures c.in_default.not-Close) (not_so _ _ (not_kind kind.Comma c.kind.ensures c.in_default.not-Comma) (begin 1 (λ d. more_args c.args.source.now.kinds d u) c.requires.0))) }
+more_arguments-returns-in_default t c = record { same = cc; after = λ u h. stop (not_so _ _ (not_kind kind.Close c.kind.ensures c.in_default.not-Close) (not_so _ _ (not_kind kind.Comma c.kind.ensures c.in_default.not-Comma) (begin 1 (λ d. more_args c.args.source.now.kinds d u) c.requires.0))) }
 
 pub more_expression-returns-in_default : goal.more_expression-returns-in_default
 unfolding read_operand ast
-more_expression-returns-in_default t c = record { after = λ u h. found (same-as (λ d. unsigned c.args.source.now.kinds _ _ c.kind.ensures c.in_default.ensures d u) (begin 1 (λ d. more_sum c.args.source.now.kinds d u) c.requires.0)) h c.requires.1 (omega arith) refl }
+more_expression-returns-in_default t c = record { same = cc; after = λ u h. found (same-as (λ d. unsigned c.args.source.now.kinds _ _ c.kind.ensures c.in_default.ensures d u) (begin 1 (λ d. more_sum c.args.source.now.kinds d u) c.requires.0)) h c.requires.1 (omega arith) refl }
 
 pub more_expression-term-requires : goal.more_expression-term-requires
 more_expression-term-requires t c = let w = signed c.args.source.now.kinds _ _ c.kind.ensures c.in-Some.ensures in let h = not_last c.requires.0 w.stands w.some in (omega (arith, h, c.requires.0.inside, c.decreases), ready-next c.requires.0 h)
 
 pub more_expression-returns-in_err-next : goal.more_expression-returns-in_err-next
 unfolding read_operand ast
-more_expression-returns-in_err-next t c = record { after = λ u h. let w = signed c.args.source.now.kinds _ _ c.kind.ensures c.in-Some.ensures in fail _ c.in_err-next.ensures (pass (not_last c.requires.0 w.stands w.some) (same-as (λ d. w.goes d u) (begin 1 (λ d. more_sum c.args.source.now.kinds d u) c.requires.0))) (omega arith) c.from_residual.ensures }
+more_expression-returns-in_err-next t c = record { same = cc; after = λ u h. let w = signed c.args.source.now.kinds _ _ c.kind.ensures c.in-Some.ensures in fail _ c.in_err-next.ensures.tells (pass (not_last c.requires.0 w.stands w.some) (same-as (λ d. w.goes d u) (begin 1 (λ d. more_sum c.args.source.now.kinds d u) c.requires.0))) (omega arith) c.from_residual.ensures }
 
-pub more_expression-store-requires : goal.more_expression-store-requires
-more_expression-store-requires t c = let w = signed c.args.source.now.kinds _ _ c.kind.ensures c.in-Some.ensures in let h = not_last c.requires.0 w.stands w.some in let f = told c.in_ok-next.ensures in let q = ready-after (ready-next c.requires.0 h) c.in_ok-next.ensures in omega (arith, room_for q, q.inside, q.few, q.below)
+pub more_expression-add-more-requires : goal.more_expression-add-more-requires
+more_expression-add-more-requires t c = let w = signed c.args.source.now.kinds _ _ c.kind.ensures c.in-Some.ensures in let h = not_last c.requires.0 w.stands w.some in let f = told c.in_ok-next.ensures.tells in let q = ready-after (ready-next c.requires.0 h) c.in_ok-next.ensures.tells in omega (arith, room_for q, q.inside, q.few, q.below)
 
 pub more_expression-more_expression-requires : goal.more_expression-more_expression-requires
-more_expression-more_expression-requires t c = let w = signed c.args.source.now.kinds _ _ c.kind.ensures c.in-Some.ensures in let h = not_last c.requires.0 w.stands w.some in let f = told c.in_ok-next.ensures in let q = ready-after (ready-next c.requires.0 h) c.in_ok-next.ensures in (omega (arith, f.inside, f.more, f.fit, c.decreases), (ready-stored q c.store.ensures (omega (arith, c.requires.0.below, f.fit)), (omega arith)))
+more_expression-more_expression-requires t c = let w = signed c.args.source.now.kinds _ _ c.kind.ensures c.in-Some.ensures in let h = not_last c.requires.0 w.stands w.some in let f = told c.in_ok-next.ensures.tells in let q = ready-after (ready-next c.requires.0 h) c.in_ok-next.ensures.tells in (omega (arith, f.inside, f.more, f.fit, c.decreases), (ready-added q c.add-more.ensures (omega (arith, c.requires.0.below, f.fit)), (omega arith)))
 
 pub more_expression-returns : goal.more_expression-returns
 unfolding read_operand ast
-more_expression-returns t c = record { after = λ u h. let w = signed c.args.source.now.kinds _ _ c.kind.ensures c.in-Some.ensures in let C = call _ c.in_ok-next.ensures (pass (not_last c.requires.0 w.stands w.some) (same-as (λ d. w.goes d u) (begin 1 (λ d. more_sum c.args.source.now.kinds d u) c.requires.0))) (omega arith) in hand (c.more_expression.ensures.after (w.op u C.tree) (w.make u C.tree (written c.store.ensures (room_for C.sofar.ready)) (omega (arith, c.requires.1, C.more)) C.rooted (kept (unwritten c.store.ensures) (omega (arith, c.requires.1, C.more)) (kept C.same c.requires.1 h)) (kept (unwritten c.store.ensures) C.rooted C.holds))) (wrote c.store.ensures C.sofar (omega arith)) (omega arith) (omega arith) }
+more_expression-returns t c = record { same = cc; after = λ u h. let w = signed c.args.source.now.kinds _ _ c.kind.ensures c.in-Some.ensures in let C = call _ c.in_ok-next.ensures.tells (pass (not_last c.requires.0 w.stands w.some) (same-as (λ d. w.goes d u) (begin 1 (λ d. more_sum c.args.source.now.kinds d u) c.requires.0))) (omega arith) in hand (c.more_expression.ensures.after (w.op u C.tree) (w.make u C.tree (written c.add-more.ensures (room_for C.sofar.ready)) (omega (arith, c.requires.1, C.more)) (omega (arith, C.rooted)) (kept (unwritten c.add-more.ensures) (omega (arith, c.requires.1, C.more)) (kept C.same c.requires.1 h)) (kept (unwritten c.add-more.ensures) C.rooted C.holds))) (wrote c.add-more.ensures C.sofar (omega arith)) (omega arith) (omega arith) }
 
 pub more_term-returns-in_default : goal.more_term-returns-in_default
 unfolding read_operand ast
-more_term-returns-in_default t c = record { after = λ u h. found (not_so _ _ (not_kind kind.Times c.kind.ensures c.in_default.not-Times) (begin 1 (λ d. more_term c.args.source.now.kinds d u) c.requires.0)) h c.requires.1 (omega arith) refl }
+more_term-returns-in_default t c = record { same = cc; after = λ u h. found (not_so _ _ (not_kind kind.Times c.kind.ensures c.in_default.not-Times) (begin 1 (λ d. more_term c.args.source.now.kinds d u) c.requires.0)) h c.requires.1 (omega arith) refl }
 
 pub more_term-operand-requires : goal.more_term-operand-requires
 more_term-operand-requires t c = let h = not_last c.requires.0 (is_kind kind.Times c.kind.ensures c.in-Times.is) refl in (omega (arith, h, c.requires.0.inside, c.decreases), ready-next c.requires.0 h)
 
 pub more_term-returns-in_err-next : goal.more_term-returns-in_err-next
 unfolding read_operand ast
-more_term-returns-in_err-next t c = record { after = λ u h. fail _ c.in_err-next.ensures (eat _ _ (is_kind kind.Times c.kind.ensures c.in-Times.is) refl (begin 1 (λ d. more_term c.args.source.now.kinds d u) c.requires.0)) (omega arith) c.from_residual.ensures }
+more_term-returns-in_err-next t c = record { same = cc; after = λ u h. fail _ c.in_err-next.ensures.tells (eat _ _ (is_kind kind.Times c.kind.ensures c.in-Times.is) refl (begin 1 (λ d. more_term c.args.source.now.kinds d u) c.requires.0)) (omega arith) c.from_residual.ensures }
 
-pub more_term-store-requires : goal.more_term-store-requires
-more_term-store-requires t c = let h = not_last c.requires.0 (is_kind kind.Times c.kind.ensures c.in-Times.is) refl in let f = told c.in_ok-next.ensures in let q = ready-after (ready-next c.requires.0 h) c.in_ok-next.ensures in omega (arith, room_for q, q.inside, q.few, q.below)
+pub more_term-add-more-requires : goal.more_term-add-more-requires
+more_term-add-more-requires t c = let h = not_last c.requires.0 (is_kind kind.Times c.kind.ensures c.in-Times.is) refl in let f = told c.in_ok-next.ensures.tells in let q = ready-after (ready-next c.requires.0 h) c.in_ok-next.ensures.tells in omega (arith, room_for q, q.inside, q.few, q.below)
 
 pub more_term-more_term-requires : goal.more_term-more_term-requires
-more_term-more_term-requires t c = let h = not_last c.requires.0 (is_kind kind.Times c.kind.ensures c.in-Times.is) refl in let f = told c.in_ok-next.ensures in let q = ready-after (ready-next c.requires.0 h) c.in_ok-next.ensures in (omega (arith, f.inside, f.more, f.fit, c.decreases), (ready-stored q c.store.ensures (omega (arith, c.requires.0.below, f.fit)), (omega arith)))
+more_term-more_term-requires t c = let h = not_last c.requires.0 (is_kind kind.Times c.kind.ensures c.in-Times.is) refl in let f = told c.in_ok-next.ensures.tells in let q = ready-after (ready-next c.requires.0 h) c.in_ok-next.ensures.tells in (omega (arith, f.inside, f.more, f.fit, c.decreases), (ready-added q c.add-more.ensures (omega (arith, c.requires.0.below, f.fit)), (omega arith)))
 
 pub more_term-returns : goal.more_term-returns
 unfolding read_operand ast
-more_term-returns t c = record { after = λ u h. let C = call _ c.in_ok-next.ensures (eat _ _ (is_kind kind.Times c.kind.ensures c.in-Times.is) refl (begin 1 (λ d. more_term c.args.source.now.kinds d u) c.requires.0)) (omega arith) in hand (c.more_term.ensures.after (times product u C.tree) (record { kind = _; at = at-times (written c.store.ensures (room_for C.sofar.ready)) (omega (arith, c.requires.1, C.more)) C.rooted (kept (unwritten c.store.ensures) (omega (arith, c.requires.1, C.more)) (kept C.same c.requires.1 h)).at (kept (unwritten c.store.ensures) C.rooted C.holds).at })) (wrote c.store.ensures C.sofar (omega arith)) (omega arith) (omega arith) }
+more_term-returns t c = record { same = cc; after = λ u h. let C = call _ c.in_ok-next.ensures.tells (eat _ _ (is_kind kind.Times c.kind.ensures c.in-Times.is) refl (begin 1 (λ d. more_term c.args.source.now.kinds d u) c.requires.0)) (omega arith) in hand (c.more_term.ensures.after (times product u C.tree) (record { kind = _; at = at-times (written c.add-more.ensures (room_for C.sofar.ready)) (omega (arith, c.requires.1, C.more)) (omega (arith, C.rooted)) (kept (unwritten c.add-more.ensures) (omega (arith, c.requires.1, C.more)) (kept C.same c.requires.1 h)).at (kept (unwritten c.add-more.ensures) C.rooted C.holds).at })) (wrote c.add-more.ensures C.sofar (omega arith)) (omega arith) (omega arith) }
 
 pub named-returns-in_default : goal.named-returns-in_default
 unfolding read_operand ast
-named-returns-in_default t c = found (wrote c.store.ensures (not_so _ _ (not_kind kind.Open c.kind.ensures c.in_default.not-Open) (pass c.requires.1 (begin 1 (read_call c.args.source.now.kinds) c.requires.0))) (omega arith)) (record { kind = _; at = at_name (written c.store.ensures (room_for c.requires.0)) }) (omega arith) (omega arith) (ap Ok c.store.ensures.answer)
+named-returns-in_default t c = record { same = cc; tells = found (wrote c.add.ensures (not_so _ _ (not_kind kind.Open c.kind.ensures c.in_default.not-Open) (pass c.requires.1 (begin 1 (read_call c.args.source.now.kinds) c.requires.0))) (omega arith)) (record { kind = _; at = at_name (written c.add.ensures (room_for c.requires.0)) }) (omega arith) (omega arith) refl }
 
 pub named-arguments-requires : goal.named-arguments-requires
 named-arguments-requires t c = let r = ready-next c.requires.0 c.requires.1 in let h = not_last r (is_kind kind.Open c.kind.ensures c.in-Open.is) refl in (omega (arith, h, c.decreases), ready_up (ready-next r h) (omega (arith, c.requires.0.below)))
 
 pub named-returns-in_err-next : goal.named-returns-in_err-next
 unfolding read_operand ast
-named-returns-in_err-next t c = fail _ c.in_err-next.ensures (eat _ _ (is_kind kind.Open c.kind.ensures c.in-Open.is) refl (pass c.requires.1 (begin 1 (read_call c.args.source.now.kinds) c.requires.0))) (omega arith) c.from_residual.ensures
+named-returns-in_err-next t c = record { same = cc; tells = fail _ c.in_err-next.ensures.tells (eat _ _ (is_kind kind.Open c.kind.ensures c.in-Open.is) refl (pass c.requires.1 (begin 1 (read_call c.args.source.now.kinds) c.requires.0))) (omega arith) c.from_residual.ensures }
 
-pub named-store-requires-2 : goal.named-store-requires-2
-named-store-requires-2 t c = let r = ready-next c.requires.0 c.requires.1 in let h = not_last r (is_kind kind.Open c.kind.ensures c.in-Open.is) refl in let q = ready-after (ready-next r h) c.in_ok-next.ensures in omega (arith, room_for q, q.inside, q.few, q.below)
+pub named-add-requires-2 : goal.named-add-requires-2
+named-add-requires-2 t c = let r = ready-next c.requires.0 c.requires.1 in let h = not_last r (is_kind kind.Open c.kind.ensures c.in-Open.is) refl in let q = ready-after (ready-next r h) c.in_ok-next.ensures.tells in omega (arith, room_for q, q.inside, q.few, q.below)
 
 pub named-returns : goal.named-returns
 unfolding read_operand ast
-named-returns t c = let C = call _ c.in_ok-next.ensures (eat _ _ (is_kind kind.Open c.kind.ensures c.in-Open.is) refl (pass c.requires.1 (begin 1 (read_call c.args.source.now.kinds) c.requires.0))) (omega arith) in found (wrote c.store-2.ensures C.sofar (omega arith)) (record { kind = _; at = at_call (written c.store-2.ensures (room_for C.sofar.ready)) C.rooted (kept (unwritten c.store-2.ensures) C.rooted C.holds).at }) (omega arith) (omega arith) (ap Ok c.store-2.ensures.answer)
+named-returns t c = record { same = cc; tells = let C = call _ c.in_ok-next.ensures.tells (eat _ _ (is_kind kind.Open c.kind.ensures c.in-Open.is) refl (pass c.requires.1 (begin 1 (read_call c.args.source.now.kinds) c.requires.0))) (omega arith) in found (wrote c.add-2.ensures C.sofar (omega arith)) (record { kind = _; at = at_call (written c.add-2.ensures (room_for C.sofar.ready)) (omega (arith, C.rooted)) (kept (unwritten c.add-2.ensures) C.rooted C.holds).at }) (omega arith) (omega arith) refl }
 
 pub operand-returns-in-Number : goal.operand-returns-in-Number
 unfolding read_operand ast
-operand-returns-in-Number t c = found (wrote c.store.ensures (eat _ _ (is_kind kind.Number c.kind.ensures c.in-Number.is) refl (begin 2 (read_operand c.args.source.now.kinds) c.requires)) (omega arith)) (record { kind = _; at = at-number (written c.store.ensures (room_for c.requires)) }) (omega arith) (omega arith) (ap Ok c.store.ensures.answer)
+operand-returns-in-Number t c = record { same = cc; tells = found (wrote c.add.ensures (eat _ _ (is_kind kind.Number c.kind.ensures c.in-Number.is) refl (begin 2 (read_operand c.args.source.now.kinds) c.requires)) (omega arith)) (record { kind = _; at = at-number (written c.add.ensures (room_for c.requires)) }) (omega arith) (omega arith) refl }
 
 pub operand-returns-in_err-expect-in-Minus : goal.operand-returns-in_err-expect-in-Minus
 unfolding read_operand ast
-operand-returns-in_err-expect-in-Minus t c = missed _ c.in_err-expect-in-Minus.ensures c.from_residual.ensures (eat _ _ (is_kind kind.Minus c.kind.ensures c.in-Minus.is) refl (not_so _ _ (clash (is_kind kind.Minus c.kind.ensures c.in-Minus.is) refl) (begin 2 (read_operand c.args.source.now.kinds) c.requires)))
+operand-returns-in_err-expect-in-Minus t c = record { same = cc; tells = missed _ c.in_err-expect-in-Minus.ensures c.from_residual.ensures (eat _ _ (is_kind kind.Minus c.kind.ensures c.in-Minus.is) refl (not_so _ _ (clash (is_kind kind.Minus c.kind.ensures c.in-Minus.is) refl) (begin 2 (read_operand c.args.source.now.kinds) c.requires))) }
 
 pub operand-returns-in_ok-expect-in-Minus : goal.operand-returns-in_ok-expect-in-Minus
 unfolding read_operand ast
-operand-returns-in_ok-expect-in-Minus t c = found (wrote c.store-in-Minus.ensures (ate _ c.in_ok-expect-in-Minus.ensures refl (eat _ _ (is_kind kind.Minus c.kind.ensures c.in-Minus.is) refl (not_so _ _ (clash (is_kind kind.Minus c.kind.ensures c.in-Minus.is) refl) (begin 2 (read_operand c.args.source.now.kinds) c.requires)))) (omega arith)) (record { kind = _; at = at-negative (written c.store-in-Minus.ensures (room_for c.requires)) }) (omega arith) (omega arith) (ap Ok c.store-in-Minus.ensures.answer)
+operand-returns-in_ok-expect-in-Minus t c = record { same = cc; tells = found (wrote c.add-in-Minus.ensures (ate _ c.in_ok-expect-in-Minus.ensures refl (eat _ _ (is_kind kind.Minus c.kind.ensures c.in-Minus.is) refl (not_so _ _ (clash (is_kind kind.Minus c.kind.ensures c.in-Minus.is) refl) (begin 2 (read_operand c.args.source.now.kinds) c.requires)))) (omega arith)) (record { kind = _; at = at-negative (written c.add-in-Minus.ensures (room_for c.requires)) }) (omega arith) (omega arith) refl }
 
 pub operand-named-requires : goal.operand-named-requires
 operand-named-requires t c = let h = not_last c.requires (is_kind kind.Name c.kind.ensures c.in-Name.is) refl in (omega (arith, c.requires.inside, c.decreases), (c.requires, h))
 
 pub operand-returns-in-Name : goal.operand-returns-in-Name
 unfolding read_operand ast
-operand-returns-in-Name t c = hand c.named.ensures (yes-so _ _ (is_kind kind.Name c.kind.ensures c.in-Name.is) (not_so _ _ (clash (is_kind kind.Name c.kind.ensures c.in-Name.is) refl) (not_so _ _ (clash (is_kind kind.Name c.kind.ensures c.in-Name.is) refl) (begin 2 (read_operand c.args.source.now.kinds) c.requires)))) (omega arith) (omega arith)
+operand-returns-in-Name t c = record { same = cc; tells = hand c.named.ensures.tells (yes-so _ _ (is_kind kind.Name c.kind.ensures c.in-Name.is) (not_so _ _ (clash (is_kind kind.Name c.kind.ensures c.in-Name.is) refl) (not_so _ _ (clash (is_kind kind.Name c.kind.ensures c.in-Name.is) refl) (begin 2 (read_operand c.args.source.now.kinds) c.requires)))) (omega arith) (omega arith) }
 
 pub operand-bracketed-requires : goal.operand-bracketed-requires
 operand-bracketed-requires t c = let h = not_last c.requires (is_kind kind.Open c.kind.ensures c.in-Open.is) refl in (omega (arith, c.requires.inside, c.decreases), (c.requires, h))
 
 pub operand-returns-in-Open : goal.operand-returns-in-Open
 unfolding read_operand ast
-operand-returns-in-Open t c = hand c.bracketed.ensures (yes-so _ _ (is_kind kind.Open c.kind.ensures c.in-Open.is) (not_so _ _ (clash (is_kind kind.Open c.kind.ensures c.in-Open.is) refl) (not_so _ _ (clash (is_kind kind.Open c.kind.ensures c.in-Open.is) refl) (not_so _ _ (clash (is_kind kind.Open c.kind.ensures c.in-Open.is) refl) (begin 2 (read_operand c.args.source.now.kinds) c.requires))))) (omega arith) (omega arith)
+operand-returns-in-Open t c = record { same = cc; tells = hand c.bracketed.ensures.tells (yes-so _ _ (is_kind kind.Open c.kind.ensures c.in-Open.is) (not_so _ _ (clash (is_kind kind.Open c.kind.ensures c.in-Open.is) refl) (not_so _ _ (clash (is_kind kind.Open c.kind.ensures c.in-Open.is) refl) (not_so _ _ (clash (is_kind kind.Open c.kind.ensures c.in-Open.is) refl) (begin 2 (read_operand c.args.source.now.kinds) c.requires))))) (omega arith) (omega arith) }
 
 pub operand-returns-in_default : goal.operand-returns-in_default
 unfolding read_operand ast
-operand-returns-in_default t c = stop (not_so _ _ (not_kind kind.Open c.kind.ensures c.in_default.not-Open) (not_so _ _ (not_kind kind.Name c.kind.ensures c.in_default.not-Name) (not_so _ _ (not_kind kind.Minus c.kind.ensures c.in_default.not-Minus) (not_so _ _ (not_kind kind.Number c.kind.ensures c.in_default.not-Number) (begin 2 (read_operand c.args.source.now.kinds) c.requires)))))
+operand-returns-in_default t c = record { same = cc; tells = stop (not_so _ _ (not_kind kind.Open c.kind.ensures c.in_default.not-Open) (not_so _ _ (not_kind kind.Name c.kind.ensures c.in_default.not-Name) (not_so _ _ (not_kind kind.Minus c.kind.ensures c.in_default.not-Minus) (not_so _ _ (not_kind kind.Number c.kind.ensures c.in_default.not-Number) (begin 2 (read_operand c.args.source.now.kinds) c.requires))))) }
 
 pub term-returns-in_err-next : goal.term-returns-in_err-next
 unfolding read_operand ast
-term-returns-in_err-next t c = fail _ c.in_err-next.ensures (begin 3 (read_term c.args.source.now.kinds) c.requires) (omega arith) c.from_residual.ensures
+term-returns-in_err-next t c = record { same = cc; tells = fail _ c.in_err-next.ensures.tells (begin 3 (read_term c.args.source.now.kinds) c.requires) (omega arith) c.from_residual.ensures }
 
 pub term-more_term-requires : goal.term-more_term-requires
-term-more_term-requires t c = let f = told c.in_ok-next.ensures in (omega (arith, f.inside, f.more, f.fit, c.decreases), (ready-after c.requires c.in_ok-next.ensures, f.rooted))
+term-more_term-requires t c = let f = told c.in_ok-next.ensures.tells in (omega (arith, f.inside, f.more, f.fit, c.decreases), (ready-after c.requires c.in_ok-next.ensures.tells, f.rooted))
 
 pub term-returns : goal.term-returns
 unfolding read_operand ast
-term-returns t c = let C = call _ c.in_ok-next.ensures (begin 3 (read_term c.args.source.now.kinds) c.requires) (omega arith) in hand (c.more_term.ensures.after (factor C.tree) C.holds) C.sofar (omega arith) (omega arith)
+term-returns t c = record { same = cc; tells = let C = call _ c.in_ok-next.ensures.tells (begin 3 (read_term c.args.source.now.kinds) c.requires) (omega arith) in hand (c.more_term.ensures.after (factor C.tree) C.holds) C.sofar (omega arith) (omega arith) }

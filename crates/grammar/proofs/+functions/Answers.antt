@@ -1,6 +1,6 @@
 use mathlib.Core.Path.{refl}
 use native.Mathlib.Omega.{arith}
-use Rattle.grammar.proofs.Steps.{kept, room_for, written, unwritten, ready-stored, ready-after, told, begin, yes-so, not_so, wrote, call, fail, found, hand, not_last, is_kind, not_kind}
+use Rattle.grammar.proofs.Steps.{kept, room_for, written, unwritten, ready-added, ready-after, told, begin, yes-so, not_so, wrote, call, fail, found, hand, not_last, is_kind, not_kind}
 use Rattle.grammar.specs.Parse.{more_prog}
 use Rattle.syntax.specs.Abstract.{ast}
 use Rattle.syntax.specs.Table.{at-more-funs}
@@ -10,21 +10,21 @@ use Rattle.grammar.proofs.+functions.Goals as goal
 
 pub returns-in_default : goal.returns-in_default
 unfolding more_prog ast
-returns-in_default t c = record { after = λ u h. found (not_so _ _ (not_kind kind.Int c.kind.ensures c.in_default.not-Int) (begin 2 (λ d. more_prog c.args.source.now.kinds d u) c.requires.0)) h c.requires.1 (omega arith) refl }
+returns-in_default t c = record { same = cc; after = λ u h. found (not_so _ _ (not_kind kind.Int c.kind.ensures c.in_default.not-Int) (begin 2 (λ d. more_prog c.args.source.now.kinds d u) c.requires.0)) h c.requires.1 (omega arith) refl }
 
 pub function-requires : goal.function-requires
 function-requires t c = (c.requires.0, not_last c.requires.0 (is_kind kind.Int c.kind.ensures c.in-Int.is) refl)
 
 pub returns-in_err-next : goal.returns-in_err-next
 unfolding more_prog ast
-returns-in_err-next t c = record { after = λ u h. fail _ c.in_err-next.ensures (yes-so _ _ (is_kind kind.Int c.kind.ensures c.in-Int.is) (begin 2 (λ d. more_prog c.args.source.now.kinds d u) c.requires.0)) (omega arith) c.from_residual.ensures }
+returns-in_err-next t c = record { same = cc; after = λ u h. fail _ c.in_err-next.ensures.tells (yes-so _ _ (is_kind kind.Int c.kind.ensures c.in-Int.is) (begin 2 (λ d. more_prog c.args.source.now.kinds d u) c.requires.0)) (omega arith) c.from_residual.ensures }
 
-pub store-requires : goal.store-requires
-store-requires t c = let q = ready-after c.requires.0 c.in_ok-next.ensures in omega (arith, room_for q, q.inside, q.few, q.below)
+pub add-more-requires : goal.add-more-requires
+add-more-requires t c = let q = ready-after c.requires.0 c.in_ok-next.ensures.tells in omega (arith, room_for q, q.inside, q.few, q.below)
 
 pub functions-requires : goal.functions-requires
-functions-requires t c = let q = ready-after c.requires.0 c.in_ok-next.ensures in let f = told c.in_ok-next.ensures in (omega (arith, f.inside, f.more, f.fit, c.decreases), (ready-stored q c.store.ensures (omega (arith, c.requires.0.below, f.fit)), (omega arith)))
+functions-requires t c = let q = ready-after c.requires.0 c.in_ok-next.ensures.tells in let f = told c.in_ok-next.ensures.tells in (omega (arith, f.inside, f.more, f.fit, c.decreases), (ready-added q c.add-more.ensures (omega (arith, c.requires.0.below, f.fit)), (omega arith)))
 
 pub returns : goal.returns
 unfolding more_prog ast
-returns t c = record { after = λ u h. let C = call _ c.in_ok-next.ensures (yes-so _ _ (is_kind kind.Int c.kind.ensures c.in-Int.is) (begin 2 (λ d. more_prog c.args.source.now.kinds d u) c.requires.0)) (omega arith) in hand (c.functions.ensures.after (more_funs u C.tree) (record { kind = _; at = at-more-funs (written c.store.ensures (room_for C.sofar.ready)) (omega (arith, c.requires.1, C.more)) C.rooted (kept (unwritten c.store.ensures) (omega (arith, c.requires.1, C.more)) (kept C.same c.requires.1 h)).at (kept (unwritten c.store.ensures) C.rooted C.holds).at })) (wrote c.store.ensures C.sofar (omega arith)) (omega arith) (omega arith) }
+returns t c = record { same = cc; after = λ u h. let C = call _ c.in_ok-next.ensures.tells (yes-so _ _ (is_kind kind.Int c.kind.ensures c.in-Int.is) (begin 2 (λ d. more_prog c.args.source.now.kinds d u) c.requires.0)) (omega arith) in hand (c.functions.ensures.after (more_funs u C.tree) (record { kind = _; at = at-more-funs (written c.add-more.ensures (room_for C.sofar.ready)) (omega (arith, c.requires.1, C.more)) (omega (arith, C.rooted)) (kept (unwritten c.add-more.ensures) (omega (arith, c.requires.1, C.more)) (kept C.same c.requires.1 h)).at (kept (unwritten c.add-more.ensures) C.rooted C.holds).at })) (wrote c.add-more.ensures C.sofar (omega arith)) (omega arith) (omega arith) }

@@ -1,6 +1,6 @@
 use mathlib.Core.Path.{refl}
 use native.Mathlib.Omega.{arith}
-use Rattle.grammar.proofs.Steps.{kept, room_for, written, unwritten, ready-next, ready-stored, ready-after, told, begin, not_so, eat, wrote, call, fail, found, hand, not_last, is_kind, not_kind}
+use Rattle.grammar.proofs.Steps.{kept, room_for, written, unwritten, ready-next, ready-added, ready-after, told, begin, not_so, eat, wrote, call, fail, found, hand, not_last, is_kind, not_kind}
 use Rattle.grammar.specs.Parse.{more_conj}
 use Rattle.syntax.specs.Abstract.{ast}
 use Rattle.syntax.specs.Table.{at_both}
@@ -10,21 +10,21 @@ use Rattle.grammar.proofs.+more_conjunction.Goals as goal
 
 pub returns-in_default : goal.returns-in_default
 unfolding more_conj ast
-returns-in_default t c = record { after = λ u h. found (not_so _ _ (not_kind kind.And c.kind.ensures c.in_default.not-And) (begin 1 (λ d. more_conj c.args.source.now.kinds d u) c.requires.0)) h c.requires.1 (omega arith) refl }
+returns-in_default t c = record { same = cc; after = λ u h. found (not_so _ _ (not_kind kind.And c.kind.ensures c.in_default.not-And) (begin 1 (λ d. more_conj c.args.source.now.kinds d u) c.requires.0)) h c.requires.1 (omega arith) refl }
 
 pub atom-requires : goal.atom-requires
 atom-requires t c = let h = not_last c.requires.0 (is_kind kind.And c.kind.ensures c.in-And.is) refl in ready-next c.requires.0 h
 
 pub returns-in_err-next : goal.returns-in_err-next
 unfolding more_conj ast
-returns-in_err-next t c = record { after = λ u h. fail _ c.in_err-next.ensures (eat _ _ (is_kind kind.And c.kind.ensures c.in-And.is) refl (begin 1 (λ d. more_conj c.args.source.now.kinds d u) c.requires.0)) (omega arith) c.from_residual.ensures }
+returns-in_err-next t c = record { same = cc; after = λ u h. fail _ c.in_err-next.ensures.tells (eat _ _ (is_kind kind.And c.kind.ensures c.in-And.is) refl (begin 1 (λ d. more_conj c.args.source.now.kinds d u) c.requires.0)) (omega arith) c.from_residual.ensures }
 
-pub store-requires : goal.store-requires
-store-requires t c = let h = not_last c.requires.0 (is_kind kind.And c.kind.ensures c.in-And.is) refl in let q = ready-after (ready-next c.requires.0 h) c.in_ok-next.ensures in omega (arith, room_for q, q.inside, q.few, q.below)
+pub add-more-requires : goal.add-more-requires
+add-more-requires t c = let h = not_last c.requires.0 (is_kind kind.And c.kind.ensures c.in-And.is) refl in let q = ready-after (ready-next c.requires.0 h) c.in_ok-next.ensures.tells in omega (arith, room_for q, q.inside, q.few, q.below)
 
 pub more_conjunction-requires : goal.more_conjunction-requires
-more_conjunction-requires t c = let h = not_last c.requires.0 (is_kind kind.And c.kind.ensures c.in-And.is) refl in let q = ready-after (ready-next c.requires.0 h) c.in_ok-next.ensures in let f = told c.in_ok-next.ensures in (omega (arith, f.inside, f.more, f.fit, c.decreases), (ready-stored q c.store.ensures (omega (arith, c.requires.0.below, f.fit)), (omega arith)))
+more_conjunction-requires t c = let h = not_last c.requires.0 (is_kind kind.And c.kind.ensures c.in-And.is) refl in let q = ready-after (ready-next c.requires.0 h) c.in_ok-next.ensures.tells in let f = told c.in_ok-next.ensures.tells in (omega (arith, f.inside, f.more, f.fit, c.decreases), (ready-added q c.add-more.ensures (omega (arith, c.requires.0.below, f.fit)), (omega arith)))
 
 pub returns : goal.returns
 unfolding more_conj ast
-returns t c = record { after = λ u h. let C = call _ c.in_ok-next.ensures (eat _ _ (is_kind kind.And c.kind.ensures c.in-And.is) refl (begin 1 (λ d. more_conj c.args.source.now.kinds d u) c.requires.0)) (omega arith) in hand (c.more_conjunction.ensures.after (both u C.tree) (record { kind = _; at = at_both (written c.store.ensures (room_for C.sofar.ready)) (omega (arith, c.requires.1, C.more)) C.rooted (kept (unwritten c.store.ensures) (omega (arith, c.requires.1, C.more)) (kept C.same c.requires.1 h)).at (kept (unwritten c.store.ensures) C.rooted C.holds).at })) (wrote c.store.ensures C.sofar (omega arith)) (omega arith) (omega arith) }
+returns t c = record { same = cc; after = λ u h. let C = call _ c.in_ok-next.ensures.tells (eat _ _ (is_kind kind.And c.kind.ensures c.in-And.is) refl (begin 1 (λ d. more_conj c.args.source.now.kinds d u) c.requires.0)) (omega arith) in hand (c.more_conjunction.ensures.after (both u C.tree) (record { kind = _; at = at_both (written c.add-more.ensures (room_for C.sofar.ready)) (omega (arith, c.requires.1, C.more)) (omega (arith, C.rooted)) (kept (unwritten c.add-more.ensures) (omega (arith, c.requires.1, C.more)) (kept C.same c.requires.1 h)).at (kept (unwritten c.add-more.ensures) C.rooted C.holds).at })) (wrote c.add-more.ensures C.sofar (omega arith)) (omega arith) (omega arith) }

@@ -14,8 +14,8 @@ ended-requires c = let r = ready-next c.requires.0 c.requires.1 in let h = not_l
 
 pub returns-then-eq : goal.returns-then-eq
 unfolding read_named ast
-returns-then-eq c = hand (c.ended.ensures.ended (assign c.args.at) (record { make = λ t r p h. record { kind = _; at = at-assign r p h.at } })) (eat _ _ (is_kind kind.Assign c.kind.ensures (search rules)) refl (pass c.requires.1 (begin 6 (read_named c.args.source.now.kinds) c.requires.0))) (omega arith) (omega arith)
+returns-then-eq c = record { same = cc; tells = hand (c.ended.ensures.ended (assign c.args.at) (record { make = λ t r p h. record { kind = _; at = at-assign r p h.at } })) (eat _ _ (is_kind kind.Assign c.kind.ensures (search rules)) refl (pass c.requires.1 (begin 6 (read_named c.args.source.now.kinds) c.requires.0))) (omega arith) (omega arith) }
 
 pub returns : goal.returns
 unfolding read_named ast
-returns c = hand (c.ended-2.ensures.ended eval (record { make = λ t r p h. record { kind = _; at = at-eval r p h.at } })) (not_so _ _ (not_kind kind.Assign c.kind.ensures (search rules)) (begin 6 (read_named c.args.source.now.kinds) c.requires.0)) (omega arith) (omega arith)
+returns c = record { same = cc; tells = hand (c.ended-2.ensures.ended eval (record { make = λ t r p h. record { kind = _; at = at-eval r p h.at } })) (not_so _ _ (not_kind kind.Assign c.kind.ensures (search rules)) (begin 6 (read_named c.args.source.now.kinds) c.requires.0)) (omega arith) (omega arith) }

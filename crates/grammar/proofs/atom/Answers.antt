@@ -1,5 +1,4 @@
-use mathlib.Core.Path.{refl, ap}
-use Rattle.std.specs.Prelude.{Ok}
+use mathlib.Core.Path.{refl}
 use native.Mathlib.Omega.{arith}
 use Rattle.grammar.proofs.Marks.{compared, uncompared}
 use Rattle.grammar.proofs.Steps.{kept, room_for, written, unwritten, ready-next, ready-after, begin, swap, not_so, pass, eat, wrote, call, fail, stop, found, not_last, clash, is_kind, not_kind, row-third}
@@ -11,30 +10,30 @@ use Rattle.grammar.proofs.atom.Goals as goal
 
 pub returns-in-True : goal.returns-in-True
 unfolding read_atom ast
-returns-in-True c = found (wrote c.store.ensures (eat _ _ (is_kind kind.True c.kind.ensures c.in-True.is) refl (begin 5 (read_atom c.args.source.now.kinds) c.requires)) (omega arith)) (record { kind = _; at = at-always (written c.store.ensures (room_for c.requires)) }) (omega arith) (omega arith) (ap Ok c.store.ensures.answer)
+returns-in-True c = record { same = cc; tells = found (wrote c.add.ensures (eat _ _ (is_kind kind.True c.kind.ensures c.in-True.is) refl (begin 5 (read_atom c.args.source.now.kinds) c.requires)) (omega arith)) (record { kind = _; at = at-always (written c.add.ensures (room_for c.requires)) }) (omega arith) (omega arith) refl }
 
 pub returns-in-False : goal.returns-in-False
 unfolding read_atom ast
-returns-in-False c = found (wrote c.store-in-False.ensures (eat _ _ (is_kind kind.False c.kind.ensures c.in-False.is) refl (not_so _ _ (clash (is_kind kind.False c.kind.ensures c.in-False.is) refl) (begin 5 (read_atom c.args.source.now.kinds) c.requires))) (omega arith)) (record { kind = _; at = at-never (written c.store-in-False.ensures (room_for c.requires)) }) (omega arith) (omega arith) (ap Ok c.store-in-False.ensures.answer)
+returns-in-False c = record { same = cc; tells = found (wrote c.add-in-False.ensures (eat _ _ (is_kind kind.False c.kind.ensures c.in-False.is) refl (not_so _ _ (clash (is_kind kind.False c.kind.ensures c.in-False.is) refl) (begin 5 (read_atom c.args.source.now.kinds) c.requires))) (omega arith)) (record { kind = _; at = at-never (written c.add-in-False.ensures (room_for c.requires)) }) (omega arith) (omega arith) refl }
 
 pub returns-in_err-next-in_default : goal.returns-in_err-next-in_default
 unfolding read_atom ast
-returns-in_err-next-in_default c = fail _ c.in_err-next-in_default.ensures (not_so _ _ (not_kind kind.False c.kind.ensures c.in_default.not-False) (not_so _ _ (not_kind kind.True c.kind.ensures c.in_default.not-True) (begin 5 (read_atom c.args.source.now.kinds) c.requires))) (omega arith) c.from_residual.ensures
+returns-in_err-next-in_default c = record { same = cc; tells = fail _ c.in_err-next-in_default.ensures.tells (not_so _ _ (not_kind kind.False c.kind.ensures c.in_default.not-False) (not_so _ _ (not_kind kind.True c.kind.ensures c.in_default.not-True) (begin 5 (read_atom c.args.source.now.kinds) c.requires))) (omega arith) c.from_residual.ensures }
 
 pub returns-in_default-comparison : goal.returns-in_default-comparison
 unfolding read_atom ast
-returns-in_default-comparison c = let C = call _ c.in_ok-next-in_default.ensures (not_so _ _ (not_kind kind.False c.kind.ensures c.in_default.not-False) (not_so _ _ (not_kind kind.True c.kind.ensures c.in_default.not-True) (begin 5 (read_atom c.args.source.now.kinds) c.requires))) (omega arith) in stop (swap _ (uncompared c.args.source.now.kinds _ _ c.kind-in_default.ensures c.in_default-comparison.ensures) C.sofar)
+returns-in_default-comparison c = record { same = cc; tells = let C = call _ c.in_ok-next-in_default.ensures.tells (not_so _ _ (not_kind kind.False c.kind.ensures c.in_default.not-False) (not_so _ _ (not_kind kind.True c.kind.ensures c.in_default.not-True) (begin 5 (read_atom c.args.source.now.kinds) c.requires))) (omega arith) in stop (swap _ (uncompared c.args.source.now.kinds _ _ c.kind-in_default.ensures c.in_default-comparison.ensures) C.sofar) }
 
 pub expression-requires-in_default : goal.expression-requires-in_default
-expression-requires-in_default c = let q = ready-after c.requires c.in_ok-next-in_default.ensures in let w = compared c.args.source.now.kinds _ _ c.kind-in_default.ensures c.in-Some.ensures in let h = not_last q w.stands w.some in ready-next q h
+expression-requires-in_default c = let q = ready-after c.requires c.in_ok-next-in_default.ensures.tells in let w = compared c.args.source.now.kinds _ _ c.kind-in_default.ensures c.in-Some.ensures in let h = not_last q w.stands w.some in ready-next q h
 
 pub returns-in_err-next-in_default-2 : goal.returns-in_err-next-in_default-2
 unfolding read_atom ast
-returns-in_err-next-in_default-2 c = let C = call _ c.in_ok-next-in_default.ensures (not_so _ _ (not_kind kind.False c.kind.ensures c.in_default.not-False) (not_so _ _ (not_kind kind.True c.kind.ensures c.in_default.not-True) (begin 5 (read_atom c.args.source.now.kinds) c.requires))) (omega arith) in let w = compared c.args.source.now.kinds _ _ c.kind-in_default.ensures c.in-Some.ensures in fail _ c.in_err-next-in_default-2.ensures (pass (not_last C.sofar.ready w.stands w.some) (swap _ w.reads C.sofar)) (omega arith) c.from_residual-in_err-next-in_default-2.ensures
+returns-in_err-next-in_default-2 c = record { same = cc; tells = let C = call _ c.in_ok-next-in_default.ensures.tells (not_so _ _ (not_kind kind.False c.kind.ensures c.in_default.not-False) (not_so _ _ (not_kind kind.True c.kind.ensures c.in_default.not-True) (begin 5 (read_atom c.args.source.now.kinds) c.requires))) (omega arith) in let w = compared c.args.source.now.kinds _ _ c.kind-in_default.ensures c.in-Some.ensures in fail _ c.in_err-next-in_default-2.ensures.tells (pass (not_last C.sofar.ready w.stands w.some) (swap _ w.reads C.sofar)) (omega arith) c.from_residual-in_err-next-in_default-2.ensures }
 
-pub store-requires-in_default : goal.store-requires-in_default
-store-requires-in_default c = let q = ready-after c.requires c.in_ok-next-in_default.ensures in let w = compared c.args.source.now.kinds _ _ c.kind-in_default.ensures c.in-Some.ensures in let h = not_last q w.stands w.some in let p = ready-after (ready-next q h) c.in_ok-next-in_default-2.ensures in omega (arith, room_for p, p.inside, p.few, p.below)
+pub add-requires-in_default : goal.add-requires-in_default
+add-requires-in_default c = let q = ready-after c.requires c.in_ok-next-in_default.ensures.tells in let w = compared c.args.source.now.kinds _ _ c.kind-in_default.ensures c.in-Some.ensures in let h = not_last q w.stands w.some in let p = ready-after (ready-next q h) c.in_ok-next-in_default-2.ensures.tells in omega (arith, room_for p, p.inside, p.few, p.below)
 
 pub returns-in_ok-next-in_default-2 : goal.returns-in_ok-next-in_default-2
 unfolding read_atom ast
-returns-in_ok-next-in_default-2 c = let C = call _ c.in_ok-next-in_default.ensures (not_so _ _ (not_kind kind.False c.kind.ensures c.in_default.not-False) (not_so _ _ (not_kind kind.True c.kind.ensures c.in_default.not-True) (begin 5 (read_atom c.args.source.now.kinds) c.requires))) (omega arith) in let w = compared c.args.source.now.kinds _ _ c.kind-in_default.ensures c.in-Some.ensures in let D = call _ c.in_ok-next-in_default-2.ensures (pass (not_last C.sofar.ready w.stands w.some) (swap _ w.reads C.sofar)) (omega arith) in found (wrote c.store-in_default.ensures D.sofar (omega arith)) (record { kind = _; at = at-compare {o = w.mark} (row-third w.number (written c.store-in_default.ensures (room_for D.sofar.ready))) (omega (arith, C.rooted, D.more)) D.rooted (kept (unwritten c.store-in_default.ensures) (omega (arith, C.rooted, D.more)) (kept D.same C.rooted C.holds)).at (kept (unwritten c.store-in_default.ensures) D.rooted D.holds).at }) (omega arith) (omega arith) (ap Ok c.store-in_default.ensures.answer)
+returns-in_ok-next-in_default-2 c = record { same = cc; tells = let C = call _ c.in_ok-next-in_default.ensures.tells (not_so _ _ (not_kind kind.False c.kind.ensures c.in_default.not-False) (not_so _ _ (not_kind kind.True c.kind.ensures c.in_default.not-True) (begin 5 (read_atom c.args.source.now.kinds) c.requires))) (omega arith) in let w = compared c.args.source.now.kinds _ _ c.kind-in_default.ensures c.in-Some.ensures in let D = call _ c.in_ok-next-in_default-2.ensures.tells (pass (not_last C.sofar.ready w.stands w.some) (swap _ w.reads C.sofar)) (omega arith) in found (wrote c.add-in_default.ensures D.sofar (omega arith)) (record { kind = _; at = at-compare {o = w.mark} (row-third w.number (written c.add-in_default.ensures (room_for D.sofar.ready))) (omega (arith, C.rooted, D.more)) (omega (arith, D.rooted)) (kept (unwritten c.add-in_default.ensures) (omega (arith, C.rooted, D.more)) (kept D.same C.rooted C.holds)).at (kept (unwritten c.add-in_default.ensures) D.rooted D.holds).at }) (omega arith) (omega arith) refl }

@@ -7,11 +7,11 @@ use Rattle.grammar.proofs.condition.Goals as goal
 
 pub returns-in_err-next : goal.returns-in_err-next
 unfolding read_cond ast
-returns-in_err-next c = fail _ c.in_err-next.ensures (begin 7 (read_cond c.args.source.now.kinds) c.requires) (omega arith) c.from_residual.ensures
+returns-in_err-next c = record { same = cc; tells = fail _ c.in_err-next.ensures.tells (begin 7 (read_cond c.args.source.now.kinds) c.requires) (omega arith) c.from_residual.ensures }
 
 pub more_condition-requires : goal.more_condition-requires
-more_condition-requires c = (ready-after c.requires c.in_ok-next.ensures, (told c.in_ok-next.ensures).rooted)
+more_condition-requires c = (ready-after c.requires c.in_ok-next.ensures.tells, (told c.in_ok-next.ensures.tells).rooted)
 
 pub returns : goal.returns
 unfolding read_cond ast
-returns c = let C = call _ c.in_ok-next.ensures (begin 7 (read_cond c.args.source.now.kinds) c.requires) (omega arith) in hand (c.more_condition.ensures.after (one_conj C.tree) C.holds) C.sofar (omega arith) (omega arith)
+returns c = record { same = cc; tells = let C = call _ c.in_ok-next.ensures.tells (begin 7 (read_cond c.args.source.now.kinds) c.requires) (omega arith) in hand (c.more_condition.ensures.after (one_conj C.tree) C.holds) C.sofar (omega arith) (omega arith) }

@@ -7,11 +7,11 @@ use Rattle.grammar.proofs.conjunction.Goals as goal
 
 pub returns-in_err-next : goal.returns-in_err-next
 unfolding read_conj ast
-returns-in_err-next c = fail _ c.in_err-next.ensures (begin 6 (read_conj c.args.source.now.kinds) c.requires) (omega arith) c.from_residual.ensures
+returns-in_err-next c = record { same = cc; tells = fail _ c.in_err-next.ensures.tells (begin 6 (read_conj c.args.source.now.kinds) c.requires) (omega arith) c.from_residual.ensures }
 
 pub more_conjunction-requires : goal.more_conjunction-requires
-more_conjunction-requires c = (ready-after c.requires c.in_ok-next.ensures, (told c.in_ok-next.ensures).rooted)
+more_conjunction-requires c = (ready-after c.requires c.in_ok-next.ensures.tells, (told c.in_ok-next.ensures.tells).rooted)
 
 pub returns : goal.returns
 unfolding read_conj ast
-returns c = let C = call _ c.in_ok-next.ensures (begin 6 (read_conj c.args.source.now.kinds) c.requires) (omega arith) in hand (c.more_conjunction.ensures.after (one_atom C.tree) C.holds) C.sofar (omega arith) (omega arith)
+returns c = record { same = cc; tells = let C = call _ c.in_ok-next.ensures.tells (begin 6 (read_conj c.args.source.now.kinds) c.requires) (omega arith) in hand (c.more_conjunction.ensures.after (one_atom C.tree) C.holds) C.sofar (omega arith) (omega arith) }

@@ -1,5 +1,4 @@
-use mathlib.Core.Path.{refl, ap}
-use Rattle.std.specs.Prelude.{Ok}
+use mathlib.Core.Path.{refl}
 use native.Mathlib.Omega.{arith}
 use Rattle.grammar.proofs.Steps.{kept, room_for, written, unwritten, ready-after, begin, ate, wrote, call, fail, missed, found}
 use Rattle.grammar.specs.Parse.{read_ended}
@@ -7,15 +6,15 @@ use Rattle.grammar.proofs.ended.Goals as goal
 
 pub returns-in_err-next : goal.returns-in_err-next
 unfolding read_ended
-returns-in_err-next c = record { ended = λ w m. fail _ c.in_err-next.ensures (begin 5 (read_ended c.args.source.now.kinds w) c.requires.0) (omega arith) c.from_residual.ensures }
+returns-in_err-next c = record { same = cc; ended = λ w m. fail _ c.in_err-next.ensures.tells (begin 5 (read_ended c.args.source.now.kinds w) c.requires.0) (omega arith) c.from_residual.ensures }
 
 pub returns-in_err-expect : goal.returns-in_err-expect
 unfolding read_ended
-returns-in_err-expect c = record { ended = λ w m. let C = call _ c.in_ok-next.ensures (begin 5 (read_ended c.args.source.now.kinds w) c.requires.0) (omega arith) in missed _ c.in_err-expect.ensures c.from_residual-in_err-expect.ensures C.sofar }
+returns-in_err-expect c = record { same = cc; ended = λ w m. let C = call _ c.in_ok-next.ensures.tells (begin 5 (read_ended c.args.source.now.kinds w) c.requires.0) (omega arith) in missed _ c.in_err-expect.ensures c.from_residual-in_err-expect.ensures C.sofar }
 
-pub store-requires : goal.store-requires
-store-requires c = let q = ready-after c.requires.0 c.in_ok-next.ensures in omega (arith, room_for q, q.inside, q.few, q.below)
+pub add-requires : goal.add-requires
+add-requires c = let q = ready-after c.requires.0 c.in_ok-next.ensures.tells in omega (arith, room_for q, q.inside, q.few, q.below)
 
 pub returns : goal.returns
 unfolding read_ended
-returns c = record { ended = λ w m. let C = call _ c.in_ok-next.ensures (begin 5 (read_ended c.args.source.now.kinds w) c.requires.0) (omega arith) in found (wrote c.store.ensures (ate _ c.in_ok-expect.ensures refl C.sofar) (omega arith)) (m.make C.tree (written c.store.ensures (room_for C.sofar.ready)) C.rooted (kept (unwritten c.store.ensures) C.rooted C.holds)) (omega arith) (omega arith) (ap Ok c.store.ensures.answer) }
+returns c = record { same = cc; ended = λ w m. let C = call _ c.in_ok-next.ensures.tells (begin 5 (read_ended c.args.source.now.kinds w) c.requires.0) (omega arith) in found (wrote c.add.ensures (ate _ c.in_ok-expect.ensures refl C.sofar) (omega arith)) (m.make C.tree (written c.add.ensures (room_for C.sofar.ready)) (omega (arith, C.rooted)) (kept (unwritten c.add.ensures) C.rooted C.holds)) (omega arith) (omega arith) refl }

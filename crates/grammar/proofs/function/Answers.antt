@@ -1,5 +1,4 @@
-use mathlib.Core.Path.{refl, ap}
-use Rattle.std.specs.Prelude.{Ok}
+use mathlib.Core.Path.{refl}
 use native.Mathlib.Omega.{arith}
 use Rattle.grammar.proofs.Steps.{kept, room_for, written, unwritten, ready-next, ready-after, ready_up, begin, pass, ate, wrote, call, fail, missed, found, not_last, there}
 use Rattle.grammar.specs.Parse.{read_fun}
@@ -9,30 +8,30 @@ use Rattle.grammar.proofs.function.Goals as goal
 
 pub returns-in_err-expect : goal.returns-in_err-expect
 unfolding read_fun ast
-returns-in_err-expect c = missed _ c.in_err-expect.ensures c.from_residual.ensures (pass c.requires.1 (begin 1 (read_fun c.args.source.now.kinds) c.requires.0))
+returns-in_err-expect c = record { same = cc; tells = missed _ c.in_err-expect.ensures c.from_residual.ensures (pass c.requires.1 (begin 1 (read_fun c.args.source.now.kinds) c.requires.0)) }
 
 pub returns-in_err-expect-2 : goal.returns-in_err-expect-2
 unfolding read_fun ast
-returns-in_err-expect-2 c = missed _ c.in_err-expect-2.ensures c.from_residual-in_err-expect-2.ensures (ate _ c.in_ok-expect.ensures refl (pass c.requires.1 (begin 1 (read_fun c.args.source.now.kinds) c.requires.0)))
+returns-in_err-expect-2 c = record { same = cc; tells = missed _ c.in_err-expect-2.ensures c.from_residual-in_err-expect-2.ensures (ate _ c.in_ok-expect.ensures refl (pass c.requires.1 (begin 1 (read_fun c.args.source.now.kinds) c.requires.0))) }
 
 pub returns-in_err-next : goal.returns-in_err-next
 unfolding read_fun ast
-returns-in_err-next c = fail _ c.in_err-next.ensures (ate _ c.in_ok-expect-2.ensures refl (ate _ c.in_ok-expect.ensures refl (pass c.requires.1 (begin 1 (read_fun c.args.source.now.kinds) c.requires.0)))) (omega arith) c.from_residual-in_err-next.ensures
+returns-in_err-next c = record { same = cc; tells = fail _ c.in_err-next.ensures.tells (ate _ c.in_ok-expect-2.ensures refl (ate _ c.in_ok-expect.ensures refl (pass c.requires.1 (begin 1 (read_fun c.args.source.now.kinds) c.requires.0)))) (omega arith) c.from_residual-in_err-next.ensures }
 
 pub returns-in_err-expect-3 : goal.returns-in_err-expect-3
 unfolding read_fun ast
-returns-in_err-expect-3 c = let C = call _ c.in_ok-next.ensures (ate _ c.in_ok-expect-2.ensures refl (ate _ c.in_ok-expect.ensures refl (pass c.requires.1 (begin 1 (read_fun c.args.source.now.kinds) c.requires.0)))) (omega arith) in missed _ c.in_err-expect-3.ensures c.from_residual-in_err-expect-3.ensures C.sofar
+returns-in_err-expect-3 c = record { same = cc; tells = let C = call _ c.in_ok-next.ensures.tells (ate _ c.in_ok-expect-2.ensures refl (ate _ c.in_ok-expect.ensures refl (pass c.requires.1 (begin 1 (read_fun c.args.source.now.kinds) c.requires.0)))) (omega arith) in missed _ c.in_err-expect-3.ensures c.from_residual-in_err-expect-3.ensures C.sofar }
 
 pub braces-requires : goal.braces-requires
-braces-requires c = let r = ready-next c.requires.0 c.requires.1 in let h = not_last r (there c.in_ok-expect.ensures) refl in let q = ready-next r h in let i = not_last q (there c.in_ok-expect-2.ensures) refl in let p = ready-next q i in let o = ready-after p c.in_ok-next.ensures in let j = not_last o (there c.in_ok-expect-3.ensures) refl in ready_up (ready-next o j) (omega (arith, o.below))
+braces-requires c = let r = ready-next c.requires.0 c.requires.1 in let h = not_last r (there c.in_ok-expect.ensures) refl in let q = ready-next r h in let i = not_last q (there c.in_ok-expect-2.ensures) refl in let p = ready-next q i in let o = ready-after p c.in_ok-next.ensures.tells in let j = not_last o (there c.in_ok-expect-3.ensures) refl in ready_up (ready-next o j) (omega (arith, o.below))
 
 pub returns-in_err-next-2 : goal.returns-in_err-next-2
 unfolding read_fun ast
-returns-in_err-next-2 c = let C = call _ c.in_ok-next.ensures (ate _ c.in_ok-expect-2.ensures refl (ate _ c.in_ok-expect.ensures refl (pass c.requires.1 (begin 1 (read_fun c.args.source.now.kinds) c.requires.0)))) (omega arith) in fail _ c.in_err-next-2.ensures.all (ate _ c.in_ok-expect-3.ensures refl C.sofar) (omega arith) c.from_residual-in_err-next-2.ensures
+returns-in_err-next-2 c = record { same = cc; tells = let C = call _ c.in_ok-next.ensures.tells (ate _ c.in_ok-expect-2.ensures refl (ate _ c.in_ok-expect.ensures refl (pass c.requires.1 (begin 1 (read_fun c.args.source.now.kinds) c.requires.0)))) (omega arith) in fail _ c.in_err-next-2.ensures.all (ate _ c.in_ok-expect-3.ensures refl C.sofar) (omega arith) c.from_residual-in_err-next-2.ensures }
 
-pub store-requires : goal.store-requires
-store-requires c = let r = ready-next c.requires.0 c.requires.1 in let h = not_last r (there c.in_ok-expect.ensures) refl in let q = ready-next r h in let i = not_last q (there c.in_ok-expect-2.ensures) refl in let p = ready-next q i in let o = ready-after p c.in_ok-next.ensures in let j = not_last o (there c.in_ok-expect-3.ensures) refl in let w = ready-after (ready-next o j) c.in_ok-next-2.ensures.all in omega (arith, room_for w, w.inside, w.few, w.below)
+pub add-requires : goal.add-requires
+add-requires c = let r = ready-next c.requires.0 c.requires.1 in let h = not_last r (there c.in_ok-expect.ensures) refl in let q = ready-next r h in let i = not_last q (there c.in_ok-expect-2.ensures) refl in let p = ready-next q i in let o = ready-after p c.in_ok-next.ensures.tells in let j = not_last o (there c.in_ok-expect-3.ensures) refl in let w = ready-after (ready-next o j) c.in_ok-next-2.ensures.all in omega (arith, room_for w, w.inside, w.few, w.below)
 
 pub returns : goal.returns
 unfolding read_fun ast
-returns c = let C = call _ c.in_ok-next.ensures (ate _ c.in_ok-expect-2.ensures refl (ate _ c.in_ok-expect.ensures refl (pass c.requires.1 (begin 1 (read_fun c.args.source.now.kinds) c.requires.0)))) (omega arith) in let D = call _ c.in_ok-next-2.ensures.all (ate _ c.in_ok-expect-3.ensures refl C.sofar) (omega arith) in found (wrote c.store.ensures D.sofar (omega arith)) (record { kind = _; at = at-function (written c.store.ensures (room_for D.sofar.ready)) (omega (arith, C.rooted, D.more)) D.rooted (kept (unwritten c.store.ensures) (omega (arith, C.rooted, D.more)) (kept D.same C.rooted C.holds)).at (kept (unwritten c.store.ensures) D.rooted D.holds).at }) (omega arith) (omega arith) (ap Ok c.store.ensures.answer)
+returns c = record { same = cc; tells = let C = call _ c.in_ok-next.ensures.tells (ate _ c.in_ok-expect-2.ensures refl (ate _ c.in_ok-expect.ensures refl (pass c.requires.1 (begin 1 (read_fun c.args.source.now.kinds) c.requires.0)))) (omega arith) in let D = call _ c.in_ok-next-2.ensures.all (ate _ c.in_ok-expect-3.ensures refl C.sofar) (omega arith) in found (wrote c.add.ensures D.sofar (omega arith)) (record { kind = _; at = at-function (written c.add.ensures (room_for D.sofar.ready)) (omega (arith, C.rooted, D.more)) (omega (arith, D.rooted)) (kept (unwritten c.add.ensures) (omega (arith, C.rooted, D.more)) (kept D.same C.rooted C.holds)).at (kept (unwritten c.add.ensures) D.rooted D.holds).at }) (omega arith) (omega arith) refl }

@@ -1,6 +1,5 @@
 use Prim.Native.Nat.{◌+◌}
-use mathlib.Core.Path.{refl, ap}
-use Rattle.std.specs.Prelude.{Ok}
+use mathlib.Core.Path.{refl}
 use native.Mathlib.Omega.{arith}
 use Rattle.grammar.proofs.Ends.{to_number, end-bits, minus-bit}
 use Rattle.grammar.proofs.Steps.{room_for, written, begin, ate, wrote, missed, found}
@@ -16,14 +15,14 @@ pub returns-in_err-expect : goal.returns-in_err-expect
 unfolding read_own ast
 returns-in_err-expect c =
     let low = to_number (λ a m. expect c.args.source.now.kinds k_dot_dot m (read_end c.args.source.now.kinds (m + 1) (λ b o. expect c.args.source.now.kinds k_semi o (ok (declare_own c.args.first a b) (o + 1))))) c.end_number-low.ensures.0 c.end_number-low.ensures.1 (begin 1 (λ d. read_own c.args.source.now.kinds c.args.first) c.requires.0) in
-    missed _ c.in_err-expect.ensures c.from_residual.ensures low
+    record { same = cc; tells = missed _ c.in_err-expect.ensures c.from_residual.ensures low }
 
 pub returns-in_err-expect-2 : goal.returns-in_err-expect-2
 unfolding read_own ast
 returns-in_err-expect-2 c =
     let low = to_number (λ a m. expect c.args.source.now.kinds k_dot_dot m (read_end c.args.source.now.kinds (m + 1) (λ b o. expect c.args.source.now.kinds k_semi o (ok (declare_own c.args.first a b) (o + 1))))) c.end_number-low.ensures.0 c.end_number-low.ensures.1 (begin 1 (λ d. read_own c.args.source.now.kinds c.args.first) c.requires.0) in
     let dots = ate _ c.in_ok-expect.ensures refl low in
-    missed _ c.in_err-expect-2.ensures c.from_residual-in_err-expect-2.ensures dots
+    record { same = cc; tells = missed _ c.in_err-expect-2.ensures c.from_residual-in_err-expect-2.ensures dots }
 
 pub returns-in_err-expect-3 : goal.returns-in_err-expect-3
 unfolding read_own ast
@@ -32,7 +31,7 @@ returns-in_err-expect-3 c =
     let dots = ate _ c.in_ok-expect.ensures refl low in
     let after = ate _ c.in_ok-expect-2.ensures refl dots in
     let high = to_number (λ b o. expect c.args.source.now.kinds k_semi o (ok (declare_own c.args.first (is_minus c.args.source.now.kinds c.args.at) b) (o + 1))) c.end_number-high.ensures.0 c.end_number-high.ensures.1 after in
-    missed _ c.in_err-expect-3.ensures c.from_residual-in_err-expect-3.ensures high
+    record { same = cc; tells = missed _ c.in_err-expect-3.ensures c.from_residual-in_err-expect-3.ensures high }
 
 pub returns-in_err-expect-4 : goal.returns-in_err-expect-4
 unfolding read_own ast
@@ -42,7 +41,7 @@ returns-in_err-expect-4 c =
     let after = ate _ c.in_ok-expect-2.ensures refl dots in
     let high = to_number (λ b o. expect c.args.source.now.kinds k_semi o (ok (declare_own c.args.first (is_minus c.args.source.now.kinds c.args.at) b) (o + 1))) c.end_number-high.ensures.0 c.end_number-high.ensures.1 after in
     let semi = ate _ c.in_ok-expect-3.ensures refl high in
-    missed _ c.in_err-expect-4.ensures c.from_residual-in_err-expect-4.ensures semi
+    record { same = cc; tells = missed _ c.in_err-expect-4.ensures c.from_residual-in_err-expect-4.ensures semi }
 
 pub returns : goal.returns
 unfolding read_own ast
@@ -53,4 +52,4 @@ returns c =
     let high = to_number (λ b o. expect c.args.source.now.kinds k_semi o (ok (declare_own c.args.first (is_minus c.args.source.now.kinds c.args.at) b) (o + 1))) c.end_number-high.ensures.0 c.end_number-high.ensures.1 after in
     let semi = ate _ c.in_ok-expect-3.ensures refl high in
     let end = ate _ c.in_ok-expect-4.ensures refl semi in
-    found (wrote c.store.ensures end (omega arith)) (record { kind = _; at = at-declare-own {a = is_minus c.args.source.now.kinds c.args.at} {b = is_minus c.args.source.now.kinds (c.end_number-low.result + 1 + 1)} (end-bits (minus-bit c.args.at c.end_number-low.result (is_minus c.args.source.now.kinds c.args.at) c.end_number-low.ensures.0) (minus-bit (c.end_number-low.result + 1 + 1) c.end_number-high.result (is_minus c.args.source.now.kinds (c.end_number-low.result + 1 + 1)) c.end_number-high.ensures.0) (written c.store.ensures (room_for c.requires.0))) }) (omega arith) (omega arith) (ap Ok c.store.ensures.answer)
+    record { same = cc; tells = found (wrote c.add.ensures end (omega arith)) (record { kind = _; at = at-declare-own {a = is_minus c.args.source.now.kinds c.args.at} {b = is_minus c.args.source.now.kinds (c.end_number-low.result + 1 + 1)} (end-bits (minus-bit c.args.at c.end_number-low.result (is_minus c.args.source.now.kinds c.args.at) c.end_number-low.ensures.0) (minus-bit (c.end_number-low.result + 1 + 1) c.end_number-high.result (is_minus c.args.source.now.kinds (c.end_number-low.result + 1 + 1)) c.end_number-high.ensures.0) (written c.add.ensures (room_for c.requires.0))) }) (omega arith) (omega arith) refl }
