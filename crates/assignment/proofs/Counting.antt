@@ -3,7 +3,7 @@ use Prim.Native.Nat.{ℕ, ◌<◌}
 use mathlib.Core.Path.{◌≡◌, refl, ◌∙◌}
 use mathlib.Core.List.{List}
 use native.Mathlib.Omega.{arith}
-use Rattle.syntax.specs.declared.Node.{Node}
+use Rattle.syntax.specs.declared.node.Node.{Node}
 use Rattle.syntax.specs.Fetch.{Fetched}
 use Rattle.syntax.specs.Ast.{Ast, params}
 use Rattle.syntax.specs.Table.{At, n_more_params, at-no-params, at-more-params}

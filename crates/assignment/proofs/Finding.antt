@@ -3,10 +3,10 @@ use Prim.Native.Nat.{ℕ}
 use mathlib.Core.Path.{◌≡◌, refl, sym, ap, ◌∙◌}
 use mathlib.Core.Bool.{Bool, false}
 use mathlib.Core.List.{List}
-use mathlib.Core.Option.{Option}
+use Rattle.std.proofs.Common.{Option}
 use native.Mathlib.Omega.{arith}
 use lib.Dec.{ltb}
-use Rattle.syntax.specs.declared.Node.{Node}
+use Rattle.syntax.specs.declared.node.Node.{Node}
 use Rattle.syntax.specs.Fetch.{Fetched}
 use Rattle.syntax.specs.Ast.{Sort, Ast, params, fun, prog}
 use Rattle.syntax.specs.Table.{At, n_more_funs, at-function, at-no-funs, at-more-funs}

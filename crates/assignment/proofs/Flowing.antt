@@ -1,11 +1,15 @@
 -- What is assigned after a statement, and what it reads, by the kind of its node.
 use Prim.Native.Nat.{ℕ, ◌+◌}
-use mathlib.Core.Path.{◌≡◌, refl, ap, ap₂, ◌∙◌}
+use mathlib.Core.Path.{◌≡◌, refl, sym, ap, ap₂, subst, ◌∙◌}
+use mathlib.Core.Logic.{◌⊎◌, inl, inr}
 use mathlib.Core.Bool.{Bool, true, ◌&&◌, ◌||◌}
 use mathlib.Core.List.{List}
-use mathlib.Core.Option.{Option}
+use Rattle.std.proofs.Common.{Option}
 use lib.Dec.{eqb}
-use Rattle.syntax.specs.declared.Node.{Node}
+use Rattle.syntax.specs.declared.node.Node.{Node}
+use Rattle.syntax.specs.declared.node.NodeKind.{NodeKind}
+use Rattle.syntax.specs.declared.node.NodeKind.TheVariants as kind
+use Rattle.syntax.specs.NodeKinds.{node_number}
 use Rattle.syntax.specs.Fetch.{Fetched}
 use Rattle.syntax.specs.Ast.{Sort, Ast, cond}
 use Rattle.syntax.specs.Table.{At, n_declare_free, n_declare_own, n_assign, n_eval, n_block, n_if_else, n_while, n_return, n_fail, n_more_stmts, n_braced, at-empty, at-declare, at-declare-free, at-declare-own, at-assign, at-eval, at_block, at-if-else, at-while, at_return, at-fail, at-no-stmts, at-more-stmts, at-braced}
@@ -62,6 +66,10 @@ more-last f R (at-more-stmts r p q c d) = child R statement (f.second ∙ r.seco
 pub data Free : ℕ → Type 0 where
   plain : Free n_declare_free
   own : Free n_declare_own
+
+pub free : {k : NodeKind} → (k ≡ kind.DeclareFree) ⊎ (k ≡ kind.DeclareOwn) → Free (node_number k)
+free (inl e) = subst Free (sym (ap node_number e)) plain
+free (inr e) = subst Free (sym (ap node_number e)) own
 
 module _ (slots : List ℕ) (base : ℕ) (a : List Bool) where
   pub free-passed : {l : List ℕ} {s : Sort} {i k : ℕ} {t : Ast s} {n : Node} {w : ℕ} {b : List Bool} (p : Option ℕ) → Free k → Fetched l i n → At l s i k t → w ≡ slot_at slots (n.token + 1)

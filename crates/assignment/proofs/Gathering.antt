@@ -3,7 +3,7 @@ use Prim.Native.Nat.{ℕ, ◌+◌, ◌<◌}
 use mathlib.Core.Path.{◌≡◌, refl, sym, ap, ap₂, ◌∙◌, fun_ext}
 use mathlib.Core.Bool.{Bool, true, false, cond, ◌&&◌, or-true}
 use mathlib.Core.List.{List, [], ◌∷◌, ◌++◌}
-use mathlib.Core.Option.{none}
+use Rattle.std.proofs.Common.{None}
 use native.Mathlib.Omega.{arith}
 use lib.Dec.{eqb, ltb}
 use borrow.Author.Tests.{ltb-true, ltb-false, lt-ltb, le-ltb}
@@ -167,7 +167,7 @@ module _ (means : ℕ → ℕ) where
   up-all m h (i ∷ l) = rw (lt-ltb (means i) m (h i)) (ap (λ (k : List ℕ). i ∷ k) (up-all m h l))
 
   -- no group yet
-  pub up_start : (l : List ℕ) → none ≡ least (up_to 0 l)
+  pub up_start : (l : List ℕ) → None ≡ least (up_to 0 l)
   unfolding least
   up_start l = sym (ap least (up_none l))
 

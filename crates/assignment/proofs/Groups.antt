@@ -7,8 +7,7 @@ use native.Mathlib.Omega.{arith}
 use lib.Dec.{leb, ltb, eqb}
 use lib.ListN.{length, get_or, set}
 use lib.Seq.{get_or-set_same, get_or-set_other}
-use borrow.Author.Count.{below_more}
-use borrow.Author.Tests.{leb-true, ltb-true, ltb-false, eqb-true, eqb-false, le-leb, lt-leb, lt-ltb, le-ltb}
+use borrow.Author.Tests.{leb-true, ltb-true, eqb-true, eqb-false, le-leb, lt-leb, lt-ltb, le-ltb}
 use Rattle.assignment.specs.Group.{group_size, among, within, only}
 
 -- a variable by whether it is in the group
@@ -83,19 +82,3 @@ only-more base a v lo hi u =
 -- one that counts as assigned
 pub within_more : (base : ℕ) (f : ℕ → Bool) (v : ℕ) → within base f v ≡ true → (u : ℕ) → within base f u ≡ (eqb v u || within base f u)
 within_more base f v h u = by_equal v u (λ b. within base f u ≡ (b || within base f u)) (λ e. ap (within base f) (sym e) ∙ h) (λ n. refl)
-
--- ---- an array that is filled in order
-
-pub fill : (f : ℕ → Bool) (r : List Bool) (k : ℕ) (x : Bool) → k < length r → x ≡ f k → ((j : ℕ) → j < k → get_or r j false ≡ f j) → (j : ℕ) → j < k + 1 → get_or (set r k x) j false ≡ f j
-fill f r k x len e h =
-    below_more (λ (j : ℕ). get_or (set r k x) j false ≡ f j) k
-    (λ j l. get_or-set_other r k j x false (λ p. omega arith) ∙ h j l)
-    (get_or-set_same r k x false len ∙ e)
-
--- two tests that say the same
-pub same-lt : (a b c d : ℕ) → (a < b → c < d) → (b ≤ a → d ≤ c) → ltb a b ≡ ltb c d
-same-lt a b c d f g = go (ltb a b) refl
-  where
-    go : (x : Bool) → ltb a b ≡ x → x ≡ ltb c d
-    go true e = sym (lt-ltb c d (f (ltb-true a b e)))
-    go false e = sym (le-ltb c d (g (ltb-false a b e)))

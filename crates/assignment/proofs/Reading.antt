@@ -1,17 +1,20 @@
 -- What an expression and arguments read, by the kind of their node.
-use Prim.Native.Nat.{ℕ, ◌≤◌, ◌<◌}
-use mathlib.Core.Path.{◌≡◌, refl, sym, ap, ◌∙◌}
+use Prim.Native.Nat.{ℕ, ◌<◌}
+use mathlib.Core.Path.{◌≡◌, refl, sym, ap, subst, ◌∙◌}
 use mathlib.Core.Bool.{Bool, true, false}
 use mathlib.Core.List.{List, ◌++◌}
-use mathlib.Core.Option.{Option}
+use Rattle.std.proofs.Common.{Option}
 use mathlib.Core.Logic.{◌⊎◌, inl, inr}
 use native.Mathlib.Omega.{arith}
-use Rattle.syntax.specs.declared.Node.{Node}
+use Rattle.syntax.specs.declared.node.Node.{Node}
+use Rattle.syntax.specs.declared.node.NodeKind.{NodeKind}
+use Rattle.syntax.specs.declared.node.NodeKind.TheVariants as kind
+use Rattle.syntax.specs.NodeKinds.{node_number}
 use Rattle.syntax.specs.Fetch.{Fetched}
 use Rattle.syntax.specs.Ast.{Sort, Ast}
-use Rattle.syntax.specs.Table.{At, n_name, n_call, n_bracket, n_times, n_plus, n_minus, n_no_args, n_more_args, at-number, at-negative, at_name, at_call, at_bracket, at-times, at-plus, at-minus, at_no_args, at-more-args}
+use Rattle.syntax.specs.Table.{At, n_name, n_call, n_bracket, n_times, n_plus, n_minus, n_more_args, at-number, at-negative, at_name, at_call, at_bracket, at-times, at-plus, at-minus, at_no_args, at-more-args}
 use Rattle.events.specs.Walk.{Rooted}
-use Rattle.events.proofs.Nodes.{moved, two-of, three-of}
+use Rattle.events.proofs.Nodes.{moved}
 use Rattle.events.proofs.Laws.{rooted-child}
 use Rattle.text_rules.specs.Scan.{lesser}
 use Rattle.text_rules.specs.Answers.{least_with}
@@ -36,27 +39,25 @@ pub data Double : ℕ → Type 0 where
   minus : Double n_minus
   more : Double n_more_args
 
-pub single : {k : ℕ} → n_name ≤ k → (k ≡ n_name → ⊥) → k < n_times → Single k
-single {k} lo other hi = two-of Single n_call k (omega (arith, other)) hi call bracket
+pub single : {k : NodeKind} → (k ≡ kind.Call) ⊎ (k ≡ kind.Bracket) → Single (node_number k)
+single (inl e) = subst Single (sym (ap node_number e)) call
+single (inr e) = subst Single (sym (ap node_number e)) bracket
 
-pub double : {k : ℕ} → n_times ≤ k → k < n_no_args → Double k
-double {k} lo hi = three-of Double n_times k lo hi times plus minus
+pub double : {k : NodeKind} → (k ≡ kind.Times) ⊎ ((k ≡ kind.Plus) ⊎ ((k ≡ kind.Minus) ⊎ (k ≡ kind.MoreArgs))) → Double (node_number k)
+double (inl e) = subst Double (sym (ap node_number e)) times
+double (inr (inl e)) = subst Double (sym (ap node_number e)) plus
+double (inr (inr (inl e))) = subst Double (sym (ap node_number e)) minus
+double (inr (inr (inr e))) = subst Double (sym (ap node_number e)) more
 
-pub not-single : {k : ℕ} → (k < n_call) ⊎ (n_times ≤ k) → Single k → ⊥
-not-single (inl h) call = omega arith
-not-single (inl h) bracket = omega arith
-not-single (inr h) call = omega arith
-not-single (inr h) bracket = omega arith
+pub not-single : {k : ℕ} → (k ≡ n_call → ⊥) → (k ≡ n_bracket → ⊥) → Single k → ⊥
+not-single n0 _ call = n0 refl
+not-single _ n1 bracket = n1 refl
 
-pub not-double : {k : ℕ} → (k < n_times) ⊎ (n_no_args ≤ k) → (k ≡ n_more_args → ⊥) → Double k → ⊥
-not-double (inl h) other times = omega arith
-not-double (inl h) other plus = omega arith
-not-double (inl h) other minus = omega arith
-not-double (inl h) other more = omega arith
-not-double (inr h) other times = omega arith
-not-double (inr h) other plus = omega arith
-not-double (inr h) other minus = omega arith
-not-double (inr h) other more = other refl
+pub not-double : {k : ℕ} → (k ≡ n_times → ⊥) → (k ≡ n_plus → ⊥) → (k ≡ n_minus → ⊥) → (k ≡ n_more_args → ⊥) → Double k → ⊥
+not-double n0 _ _ _ times = n0 refl
+not-double _ n1 _ _ plus = n1 refl
+not-double _ _ n2 _ minus = n2 refl
+not-double _ _ _ n3 more = n3 refl
 
 -- ---- a node's parts
 

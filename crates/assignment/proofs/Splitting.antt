@@ -3,9 +3,9 @@ use Prim.Native.Nat.{ℕ, ◌<◌}
 use mathlib.Core.Path.{◌≡◌, refl, ap, ap₂, ◌∙◌, fun_ext}
 use mathlib.Core.Bool.{Bool, true, false, ◌&&◌}
 use mathlib.Core.List.{List}
-use mathlib.Core.Option.{Option}
+use Rattle.std.proofs.Common.{Option}
 use native.Mathlib.Omega.{arith}
-use Rattle.syntax.specs.declared.Node.{Node}
+use Rattle.syntax.specs.declared.node.Node.{Node}
 use Rattle.syntax.specs.Fetch.{Fetched}
 use Rattle.syntax.specs.Ast.{Sort, Ast, cond}
 use Rattle.syntax.specs.Table.{At, n_always, n_never, n_compare, n_both, n_either, at-always, at-never, at-compare, at_both, at-either}

@@ -1,6 +1,5 @@
 -- What the functions of the walk ask and answer, each of a node of the table.
-use Rattle.std.specs.Prelude.{ℕ, ◌≡◌, Bool, true, false, List, get_or}
-use Rattle.std.proofs.Math.Option.{Option}
+use Rattle.std.specs.Prelude.{ℕ, ◌≡◌, Bool, true, false, List, get_or, Option}
 use Rattle.syntax.specs.Ast.{Sort, Ast, expr, args, cond, stmt, stmts, body, params, prog}
 use Rattle.syntax.specs.Table.{Holds}
 use Rattle.events.specs.Walk.{Rooted}

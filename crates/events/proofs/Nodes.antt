@@ -1,10 +1,9 @@
 -- What the kind of a node says of the tree that stands there.
-use Prim.Native.Nat.{ℕ, suc, ◌+◌, ◌*◌, ◌≤◌, ◌<◌}
+use Prim.Native.Nat.{ℕ, suc, ◌+◌, ◌*◌, ◌<◌}
 use mathlib.Core.Path.{◌≡◌, refl, sym, ap, ◌∙◌, subst}
 use mathlib.Core.Bool.{not}
 use mathlib.Core.List.{List, [], ◌∷◌, ◌++◌, append_assoc}
-use mathlib.Core.Logic.{◌⊎◌, inl, inr, ⊎_elim}
-use native.Mathlib.Nat.{eq-or-lt_of_le}
+use mathlib.Core.Logic.{◌⊎◌, inl, inr}
 use native.Mathlib.Numerals.{add-one}
 use native.Mathlib.Omega.{arith}
 use lib.ListN.{get_or}
@@ -20,13 +19,6 @@ use Rattle.syntax.specs.Table.{n_both, n_compare, n_either, n_minus, n_plus, n_t
 use Rattle.events.specs.Event.{Event, function, parameter, thing, opens, closes, uses, calls, ends, first, count, stops, closing, events_at}
 use Rattle.events.specs.Walk.{Below}
 use Rattle.events.specs.Visit.{level}
-
--- a number between two bounds
-pub two-of : (P : ℕ → Type 0) (a k : ℕ) → a ≤ k → k < a + 2 → P a → P (a + 1) → P k
-two-of P a k lo hi x y = ⊎_elim (λ e. subst P e x) (λ h. let e : a + 1 ≡ k = omega (arith, h, hi) in subst P e y) (eq-or-lt_of_le lo)
-
-pub three-of : (P : ℕ → Type 0) (a k : ℕ) → a ≤ k → k < a + 3 → P a → P (a + 1) → P (a + 2) → P k
-three-of P a k lo hi x y z = ⊎_elim (λ e. subst P e x) (λ h. two-of P (a + 1) k (omega (arith, h)) (omega (arith, hi)) y (let e : a + 2 ≡ a + 1 + 1 = omega arith in subst P e z)) (eq-or-lt_of_le lo)
 
 kind-of : {l : List ℕ} {s : Sort} {i k : ℕ} {t : Ast s} → At l s i k t → get_or l (node_words * i) 0 ≡ k
 kind-of (at-number r) = r.kind

@@ -1,4 +1,4 @@
-use Prim.Native.Nat.{ℕ, ◌-◌, ◌≤◌, ◌<◌}
+use Prim.Native.Nat.{ℕ, ◌<◌}
 use mathlib.Core.Path.{◌≡◌}
 use mathlib.Core.Bool.{false, ◌&&◌}
 use lib.ListN.{length, get_or}
@@ -7,7 +7,4 @@ use Rattle.assignment.proofs.both.Given as goal
 
 -- `both` fills its answer in order.
 abbrev pub invariant-loop-k : goal.invariant-loop-k
-invariant-loop-k l = (l.k ≤ group_size) × (length l.r ≡ group_size) × ((j : ℕ) → j < l.k → get_or l.r j false ≡ (get_or l.a j false && get_or l.b j false))
-
-abbrev pub decreases-loop-k : goal.decreases-loop-k
-decreases-loop-k l = group_size - l.k
+invariant-loop-k l = record { size : length l.set ≡ group_size; same : l.yes-items ≡ l.fn.b; filled : (j : ℕ) → j < l.k → get_or l.set j false ≡ (get_or l.a j false && get_or l.fn.b j false) }

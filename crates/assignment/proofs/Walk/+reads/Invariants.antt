@@ -1,4 +1,4 @@
-use Rattle.assignment.proofs.+reads.Given as goal
+use Rattle.assignment.proofs.Walk.+reads.Given as goal
 
 abbrev pub decreases-reads : goal.decreases-reads
 decreases-reads l = l.i

@@ -1,4 +1,4 @@
-use Rattle.assignment.proofs.+flow_sequence.Given as goal
+use Rattle.assignment.proofs.Walk.+flow_sequence.Given as goal
 
 abbrev pub decreases-flow : goal.decreases-flow
 decreases-flow l = l.i

@@ -1,4 +1,4 @@
-use Rattle.assignment.proofs.+split.Given as goal
+use Rattle.assignment.proofs.Walk.+split.Given as goal
 
 abbrev pub decreases-split : goal.decreases-split
 decreases-split l = l.i
