@@ -1,23 +1,20 @@
 // Rules in one hand: reads a text and prints it in house style, or `refused N at P`. What it prints is the writer's `printed` of what it reads.
 #![tactic(auto)]
 
-use text_input::Input;
-
-fn print_style(rt: &(impl Print + Eprint), text: &[u8]) {
+// Says what failed, where something did.
+fn print(rt: &HostRuntime) -> Result<(), &'static str> {
+    let mut buffer = [0u8; text_input::ENOUGH];
+    let read = text_input::read_text(&mut rt.stdin(), &mut buffer).map_err(
+        |_| "cannot read the input",
+    )?;
     let mut out = [0u8; writer::ROOM];
-    let n = writer::print(text, &mut out);
-    if rt.write_all(&out[..n]).is_ok() {
-        return;
-    }
-    let _ = eprintln!(rt; "house: cannot write the output");
+    let n = writer::print(&buffer[..read], &mut out);
+    rt.write_all(&out[..n])
+        .map_err(|_| "cannot write the output")
 }
 
 fn main(rt: HostRuntime) {
-    let mut buffer = [0u8; text_input::ENOUGH];
-    match text_input::read_text(&mut rt.stdin(), &mut buffer) {
-        Input::Bytes(n) => print_style(&rt, &buffer[..n]),
-        Input::Failed => {
-            let _ = eprintln!(rt; "house: cannot read the input");
-        }
+    if let Err(failure) = print(&rt) {
+        let _ = eprintln!(rt; "house: {failure}");
     }
 }

@@ -1,23 +1,20 @@
 // The plan lister: reads a job line and a text, and prints the job's plan list or a refusal. What it prints is respond's `output` of what it reads.
 #![tactic(auto)]
 
-use reading::Input;
-
-fn print_output(rt: &(impl Print + Eprint), input: &[u8]) {
+// Says what failed, where something did.
+fn list(rt: &HostRuntime) -> Result<(), &'static str> {
+    let mut buffer = [0u8; reading::ENOUGH];
+    let read = reading::read_input(&mut rt.stdin(), &mut buffer).map_err(
+        |_| "cannot read the input",
+    )?;
     let mut out = [0u8; respond::OUTPUT];
-    let n = respond::respond(input, &mut out);
-    if rt.write_all(&out[..n]).is_ok() {
-        return;
-    }
-    let _ = eprintln!(rt; "lister: cannot write the output");
+    let n = respond::respond(&buffer[..read], &mut out);
+    rt.write_all(&out[..n])
+        .map_err(|_| "cannot write the output")
 }
 
 fn main(rt: HostRuntime) {
-    let mut buffer = [0u8; reading::ENOUGH];
-    match reading::read_input(&mut rt.stdin(), &mut buffer) {
-        Input::Bytes(n) => print_output(&rt, &buffer[..n]),
-        Input::Failed => {
-            let _ = eprintln!(rt; "lister: cannot read the input");
-        }
+    if let Err(failure) = list(&rt) {
+        let _ = eprintln!(rt; "lister: {failure}");
     }
 }

@@ -1,34 +1,51 @@
-// The input of the programs that read a text and nothing else.
+// What the programs read: the front of an input, in a slice that they lend.
 #![tactic(auto)]
 
-ghost use Rattle.std.specs.Prelude.{◌≤◌, length};
-ghost use Rattle.text_input.specs.Input.{bytes_in};
+ghost use Rattle.std.specs.Prelude.{◌≤◌, length, IfOk};
 
+use std::io;
 use std::io::Read;
 
 // 2,049 bytes settle what is said of a text: one of more than 2,048 is refused.
 pub const ENOUGH: usize = 2049;
 
-// What reading came to: so many bytes at the front of the buffer, or a read that failed.
-#[derive(Drop)]
-pub enum Input {
-    Bytes(usize),
-    Failed,
+// Reads until what was read is enough, the buffer is full, the input ends or a read fails: how many bytes stand at the front of the buffer, and whether a read failed.
+pub fn fill<F: Fn(&[u8]) -> bool>(
+    input: &mut impl Read,
+    buffer: &mut [u8],
+    enough: F,
+) -> (usize, io::Result<()>)
+    requires { F.IsAlwaysCallable enough }
+    ensures { result.0 ≤ length buffer.new }
+{
+    let mut n = 0;
+    while n < buffer.len() && !enough(&buffer[..n]) {
+        match input.read(&mut buffer[n..]) {
+            Ok(0) => break,
+            Ok(more) => n += more,
+            Err(error) => return (n, Err(error)),
+        }
+    }
+    (n, Ok(()))
+}
+
+// Reads until what was read is enough, the buffer is full or the input ends: how many bytes stand at the front of the buffer.
+pub fn read_until<F: Fn(&[u8]) -> bool>(
+    input: &mut impl Read,
+    buffer: &mut [u8],
+    enough: F,
+) -> io::Result<usize>
+    requires { F.IsAlwaysCallable enough }
+    ensures { IfOk result (λ n. n ≤ length buffer.new) }
+{
+    let (n, read) = fill(input, buffer, enough);
+    read?;
+    Ok(n)
 }
 
 // Reads until the buffer is full or the input ends.
-pub fn read_text(input: &mut impl Read, buffer: &mut [u8]) -> Input
-    ensures { bytes_in result ≤ length buffer.new }
+pub fn read_text(input: &mut impl Read, buffer: &mut [u8]) -> io::Result<usize>
+    ensures { IfOk result (λ n. n ≤ length buffer.new) }
 {
-    let mut n = 0;
-    while n < buffer.len() {
-        let Ok(more) = input.read(&mut buffer[n..]) else {
-            return Input::Failed;
-        };
-        if more == 0 {
-            return Input::Bytes(n);
-        }
-        n += more;
-    }
-    Input::Bytes(n)
+    read_until(input, buffer, |_| false)
 }

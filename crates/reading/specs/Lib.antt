@@ -1,2 +1,0 @@
--- What the programs know of what they read.
-pub mod Input

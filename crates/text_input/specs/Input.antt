@@ -1,8 +1,0 @@
--- How many bytes were read.
-use Rattle.std.specs.Prelude.{ℕ}
-use Rattle.text_input.specs.declared.Input.{Input}
-use Rattle.text_input.specs.declared.Input.TheVariants.{Bytes, Failed}
-
-abbrev pub bytes_in : Input → ℕ
-bytes_in (Bytes n) = n
-bytes_in Failed = 0

@@ -1,2 +1,0 @@
--- What the program knows of what it reads.
-pub mod Input
