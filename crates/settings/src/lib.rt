@@ -205,10 +205,8 @@ fn work(mem: &mut [u32], i: usize, n: usize, k: usize)
     requires { (k ≤ 8) × Room mem.old n × Worked mem.old i k }
     ensures { Worked mem.new n k × Renumbered mem.old mem.new }
 {
-    let mut j = i;
-    while j < n {
+    for j in i..n {
         write_number(mem, k, j);
-        j += 1;
     }
 }
 
@@ -217,9 +215,7 @@ fn meets(mem: &[u32], n: usize, tests: usize) -> bool
     requires { Room mem.now n × Room mem.now tests }
     ensures { result ≡ meets_in (numbers_in mem.now n) (tests_in mem.now tests) }
 {
-    let mut j = tests;
-    while 0 < j {
-        j -= 1;
+    for j in (0..tests).rev() {
         if !holds_at(mem, n, j) {
             return false;
         }
@@ -232,10 +228,8 @@ fn start_from(mem: &mut [u32], i: usize, k: usize)
     requires { (i ≤ k) × (k ≤ 8) × (tables_place ≤ length mem.old) }
     ensures { Anew mem.old mem.new i k }
 {
-    let mut j = i;
-    while j < k {
+    for j in i..k {
         mem[layout::SETTING + j] = mem[layout::WINDOWS + layout::WINDOW * j];
-        j += 1;
     }
 }
 
@@ -244,12 +238,10 @@ fn filled(mem: &[u32], k: usize) -> bool
     requires { (k ≤ 8) × (tables_place ≤ length mem.now) }
     ensures { result ≡ filledS (windows_in mem.now k) }
 {
-    let mut i: usize = 0;
-    while i < k {
+    for i in 0..k {
         if !has_number(mem, i) {
             return false;
         }
-        i += 1;
     }
     true
 }
@@ -267,9 +259,7 @@ fn next_setting(mem: &mut [u32], k: usize) -> bool
     requires { (k ≤ 8) × (tables_place ≤ length mem.old) }
     ensures { Follows mem.old mem.new k result }
 {
-    let mut i = k;
-    while 0 < i {
-        i -= 1;
+    for i in (0..k).rev() {
         if below(mem, i) {
             raise(mem, i);
             start_from(mem, i + 1, k);
@@ -286,13 +276,7 @@ fn is_free(mem: &[u32], i: usize, j: usize) -> bool
 {
     let kind = mem[layout::NODES + layout::STRIDE * j];
     let x = mem[layout::NODE_LEFTS + layout::STRIDE * j] as usize;
-    if kind % kinds::NODE_LEFT != kinds::FREE {
-        return false;
-    }
-    if x == i {
-        return true;
-    }
-    false
+    kind % kinds::NODE_LEFT == kinds::FREE && x == i
 }
 
 // The first of n nodes that is free variable i; n, where none is.
@@ -300,12 +284,10 @@ fn free_node(mem: &[u32], i: usize, n: usize) -> usize
     requires { Room mem.now n }
     ensures { FreeNode mem.now i n result }
 {
-    let mut j: usize = 0;
-    while j < n {
+    for j in 0..n {
         if is_free(mem, i, j) {
             return j;
         }
-        j += 1;
     }
     n
 }
@@ -314,13 +296,7 @@ fn free_node(mem: &[u32], i: usize, n: usize) -> usize
 fn names(kind: u32, x: u32, a: usize) -> bool
     ensures { result ≡ false → Off a (cell_read_as kind x) }
 {
-    if kind == 0 {
-        return false;
-    }
-    if x as usize == a {
-        return true;
-    }
-    false
+    kind != 0 && x as usize == a
 }
 
 // Whether node j may differ where node a, which lies before it, does: it is a free variable, or one of its sides is node a.
@@ -331,13 +307,9 @@ fn depends(mem: &[u32], a: usize, j: usize) -> bool
     let kind = mem[layout::NODES + layout::STRIDE * j];
     let x = mem[layout::NODE_LEFTS + layout::STRIDE * j];
     let y = mem[layout::NODE_RIGHTS + layout::STRIDE * j];
-    if kind % kinds::NODE_LEFT == kinds::FREE {
-        return true;
-    }
-    if names(kind / kinds::NODE_LEFT % 2, x, a) {
-        return true;
-    }
-    names(kind / kinds::NODE_RIGHT, y, a)
+    kind % kinds::NODE_LEFT == kinds::FREE
+        || names(kind / kinds::NODE_LEFT % 2, x, a)
+        || names(kind / kinds::NODE_RIGHT, y, a)
 }
 
 // The first node behind node a, of n, that may differ where node a does; n, where none may.
@@ -348,20 +320,12 @@ fn first_behind(mem: &[u32], a: usize, n: usize) -> usize
     if n <= a {
         return n;
     }
-    let mut j = a + 1;
-    while j < n {
+    for j in a + 1..n {
         if depends(mem, a, j) {
             return j;
         }
-        j += 1;
     }
     n
-}
-
-fn larger(a: usize, b: usize) -> usize
-    ensures { (a ≤ result) × (b ≤ result) }
-{
-    if a < b { b } else { a }
 }
 
 // Where the nodes end on which a cell rests, by its two words.
@@ -382,10 +346,7 @@ fn test_end(mem: &[u32], j: usize) -> usize
     let kind = mem[layout::TESTS + layout::STRIDE * j];
     let x = mem[layout::TEST_LEFTS + layout::STRIDE * j];
     let y = mem[layout::TEST_RIGHTS + layout::STRIDE * j];
-    larger(
-        cell_end(kind / kinds::TEST_LEFT % 2, x),
-        cell_end(kind / kinds::TEST_RIGHT, y),
-    )
+    cell_end(kind / kinds::TEST_LEFT % 2, x).max(cell_end(kind / kinds::TEST_RIGHT, y))
 }
 
 // Where the nodes, of n, end on which the tests rest, from the newest test back. Once that is the end of all, no further test is looked at: a path may have made hundreds, and its newest ones rest on its newest nodes.
@@ -394,10 +355,8 @@ fn tests_end(mem: &[u32], n: usize, tests: usize) -> usize
     ensures { Front mem.now n tests result }
 {
     let mut end: usize = 0;
-    let mut j = tests;
-    while 0 < j {
-        j -= 1;
-        end = larger(end, test_end(mem, j));
+    for j in (0..tests).rev() {
+        end = end.max(test_end(mem, j));
         if n <= end {
             return n;
         }
@@ -414,9 +373,9 @@ fn plan_of(mem: &[u32], nodes: usize, tests: usize, k: usize) -> Plan
     let moving = free_node(mem, ints::monus(k, 1), upto);
     let first = first_behind(mem, moving, upto);
     Plan {
-        moving: moving,
-        first: first,
-        upto: upto,
+        moving,
+        first,
+        upto,
     }
 }
 
@@ -434,10 +393,9 @@ fn rise(mem: &mut [u32], a: usize, first: usize, k: usize)
     ensures { Rose mem.old mem.new first k }
 {
     raise(mem, k - 1);
-    if first <= a {
-        return;
+    if a < first {
+        copy_value(mem, k - 1, a);
     }
-    copy_value(mem, k - 1, a);
 }
 
 // Whether the last of k free variables is below its window's high end.
@@ -445,10 +403,7 @@ fn can_rise(mem: &[u32], k: usize) -> bool
     requires { (k ≤ 8) × (tables_place ≤ length mem.now) }
     ensures { CanRise mem.now k result }
 {
-    if k == 0 {
-        return false;
-    }
-    below(mem, k - 1)
+    0 < k && below(mem, k - 1)
 }
 
 // From the present setting on, as only the last free variable goes up, the first one that meets the tests, with so many moves at the most. The nodes before the first that then differs have their numbers.
@@ -456,19 +411,15 @@ fn sweep(mem: &mut [u32], plan: Plan, tests: usize, k: usize, most: u32) -> Swep
     requires { Holding mem.old plan.upto tests k × Apart mem.old (k - 1) plan.moving plan.first × (plan.first ≤ plan.upto) × Worked mem.old plan.first k }
     ensures { Sweeping mem.old mem.new plan.upto tests k most result × Steady mem.old mem.new }
 {
-    let first = plan.first;
-    let upto = plan.upto;
-    let mut left = most;
-    while 0 < left {
-        work(mem, first, upto, k);
-        if meets(mem, upto, tests) {
-            return Swept::Here(left);
+    for left in (0..most).rev() {
+        work(mem, plan.first, plan.upto, k);
+        if meets(mem, plan.upto, tests) {
+            return Swept::Here(left + 1);
         }
-        left -= 1;
         if !can_rise(mem, k) {
             return Swept::Top(left);
         }
-        rise(mem, plan.moving, first, k);
+        rise(mem, plan.moving, plan.first, k);
     }
     Swept::Short
 }
@@ -516,13 +467,11 @@ fn row_word(res: i32, mem: &[u32], k: usize, j: usize) -> i32
     requires { (k ≤ 8) × (tables_place ≤ length mem.now) × (j < 10) }
     ensures { result ≡ get_or (words_of (row_with res (setting_in mem.now k))) j (pos 0) }
 {
-    if j == 0 {
-        return res;
+    match j {
+        0 => res,
+        1 => k as i32,
+        _ => value(mem, k, j - 2),
     }
-    if j == 1 {
-        return k as i32;
-    }
-    value(mem, k, j - 2)
 }
 
 // Writes a row after n others: the result, and the present setting of k free variables.
@@ -530,10 +479,8 @@ fn write_row(rows: &mut [i32], n: usize, res: i32, mem: &[u32], k: usize)
     requires { (k ≤ 8) × (tables_place ≤ length mem.now) × (10 * n + 10 ≤ length rows.old) }
     ensures { Written rows.old rows.new n (row_with res (setting_in mem.now k)) }
 {
-    let mut j: usize = 0;
-    while j < 10 {
+    for j in 0..10 {
         rows[10 * n + j] = row_word(res, mem, k, j);
-        j += 1;
     }
 }
 
@@ -544,11 +491,8 @@ fn spend(t: Tally) -> Tally
 {
     Tally {
         budget: t.budget - 1,
-        skip: t.skip,
-        room: t.room,
-        written: t.written,
         moves: t.moves + 1,
-        cut: t.cut,
+        ..t
     }
 }
 
@@ -570,12 +514,8 @@ fn place(rows: &mut [i32], t: Tally, res: i32, mem: &[u32], k: usize) -> Tried
 {
     if 0 < t.skip {
         return Tried::Go(Tally {
-            budget: t.budget,
             skip: t.skip - 1,
-            room: t.room,
-            written: t.written,
-            moves: t.moves,
-            cut: t.cut,
+            ..t
         });
     }
     if t.room == 0 {
@@ -583,12 +523,9 @@ fn place(rows: &mut [i32], t: Tally, res: i32, mem: &[u32], k: usize) -> Tried
     }
     write_row(rows, t.written, res, mem, k);
     Tried::Go(Tally {
-        budget: t.budget,
-        skip: t.skip,
         room: t.room - 1,
         written: t.written + 1,
-        moves: t.moves,
-        cut: t.cut,
+        ..t
     })
 }
 
@@ -599,11 +536,8 @@ fn leaving(t: Tally, left: u32) -> Tally
 {
     Tally {
         budget: left,
-        skip: t.skip,
-        room: t.room,
-        written: t.written,
         moves: t.moves + (t.budget - left),
-        cut: t.cut,
+        ..t
     }
 }
 
@@ -667,14 +601,7 @@ pub fn trials(
 fn with_cut(t: Tally) -> Tally
     ensures { result ≡ cutting t true }
 {
-    Tally {
-        budget: t.budget,
-        skip: t.skip,
-        room: t.room,
-        written: t.written,
-        moves: t.moves,
-        cut: true,
-    }
+    Tally { cut: true, ..t }
 }
 
 // Settings of k free variables in their windows tried at a cut, until one meets the tests; none, where a cut run was found before.
@@ -682,10 +609,7 @@ pub fn probes(mem: &mut [u32], nodes: usize, tests: usize, k: usize, t: Tally) -
     requires { Holding mem.old nodes tests k × (t.moves + t.budget < 4294967296) }
     ensures { AllProbes mem.old mem.new nodes tests k t result }
 {
-    if t.cut {
-        return Tried::Go(t);
-    }
-    if !filled(mem, k) {
+    if t.cut || !filled(mem, k) {
         return Tried::Go(t);
     }
     first_setting(mem, k);

@@ -10,9 +10,6 @@ use Rattle.settings.proofs.first_behind.Goals as goal
 pub returns-then-n-a : goal.returns-then-n-a
 returns-then-n-a c = record { within = omega arith; behind = λ l. absurd (omega (arith, c.if-n-a.true)); clear = λ j l u. absurd (omega (arith, c.if-n-a.true)) }
 
-pub overflow_add-j : goal.overflow_add-j
-overflow_add-j c = omega (arith, c.if-n-a.false)
-
 pub loop-j-init : goal.loop-j-init
 loop-j-init c = (omega arith, omega (arith, c.if-n-a.false), λ q l u. absurd (omega arith))
 

@@ -5,6 +5,3 @@ use Rattle.settings.proofs.free_node.Given as goal
 
 abbrev pub invariant-loop-j : goal.invariant-loop-j
 invariant-loop-j l = (l.j ≤ l.n) × ((q : ℕ) → q < l.j → NotFree l.i (node_at l.mem q))
-
-abbrev pub decreases-loop-j : goal.decreases-loop-j
-decreases-loop-j l = l.n - l.j

@@ -2,14 +2,13 @@ use native.Mathlib.Omega.{arith}
 use Rattle.settings.specs.declared.Tried.TheVariants.{Go, Spent}
 use Rattle.settings.proofs.Loops.{some-setting, no-setting, cutting-none, cutting-before, cut-within, over-within, cutting-met, cutting-end, cutting-spent, cutting-all}
 use Rattle.settings.proofs.probes.Goals as goal
+use Rattle.settings.proofs.probes.Goals.{then-t-via-then-t, then-t-via-else-t+then-not-filled}
 
 pub returns-then-t : goal.returns-then-t
-returns-then-t c =
-    cutting-before c.args.mem.now c.args.nodes c.args.tests c.args.k c.args.t c.if-t.true
-
-pub returns-then-not-filled : goal.returns-then-not-filled
-returns-then-not-filled c =
-    cutting-none c.args.mem.now c.args.nodes c.args.tests c.args.k c.args.t (no-setting c.filled.ensures c.if-not-filled.true)
+returns-then-t c = elim c.then-t.branch [
+  | then-t-via-then-t w ↦ cutting-before c.args.mem.now c.args.nodes c.args.tests c.args.k c.args.t w.if-t.true
+  | then-t-via-else-t+then-not-filled w ↦ cutting-none c.args.mem.now c.args.nodes c.args.tests c.args.k c.args.t (no-setting w.filled.ensures w.if-not-filled.true)
+]
 
 pub overflow_sub-left : goal.overflow_sub-left
 overflow_sub-left c =

@@ -22,8 +22,8 @@ loop-j-preserved c = (
   omega arith,
   omega (arith, c.if-n-end.false),
   λ q g l. ⊎_elim
-      (λ e. subst (λ (q : ℕ). Rests c.larger-end.result (test_at c.args.mem.now q)) e (rests-more (test_at c.args.mem.now (c.loop-j.j - 1)) c.test_end.result c.larger-end.result c.larger-end.ensures.1 c.test_end.ensures))
-      (λ h. rests-more (test_at c.args.mem.now q) c.loop-j.end c.larger-end.result c.larger-end.ensures.0 (c.loop-j.invariant.2 q (omega arith) l))
+      (λ e. subst (λ (q : ℕ). Rests c.max-end.result (test_at c.args.mem.now q)) e (rests-more (test_at c.args.mem.now (c.loop-j.j - 1)) c.test_end.result c.max-end.result (omega (arith, c.max-end.ensures)) c.test_end.ensures))
+      (λ h. rests-more (test_at c.args.mem.now q) c.loop-j.end c.max-end.result (omega (arith, c.max-end.ensures)) (c.loop-j.invariant.2 q (omega arith) l))
       (eq-or-lt_of_le {n = c.loop-j.j - 1} {m = q} g),
 )
 

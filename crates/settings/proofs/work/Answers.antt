@@ -10,9 +10,6 @@ loop-j-init c = (refl, c.requires.2, renumbered-none _)
 pub write_number-requires : goal.write_number-requires
 write_number-requires c = (c.requires.0, record { words = omega (arith, c.requires.1.words, c.loop-j.invariant.0); small = omega (arith, c.requires.1.small) })
 
-pub overflow_add-j : goal.overflow_add-j
-overflow_add-j c = omega (arith, c.requires.1.small)
-
 pub loop-j-preserved : goal.loop-j-preserved
 loop-j-preserved c =
     (omega arith, worked-more c.loop-j.mem _ c.loop-j.j c.args.k c.requires.0 c.loop-j.invariant.1 c.write_number.ensures, renumbered-more c.args.mem.now c.loop-j.mem _ c.loop-j.invariant.2 (renumbered-one c.loop-j.mem _ c.loop-j.j c.write_number.ensures))
