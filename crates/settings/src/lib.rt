@@ -34,10 +34,9 @@ pub struct Tally {
     pub cut: bool,
 }
 
-// The search goes on, or is over: a row has no place, or the budget is spent.
+// Why the search is over, and what was counted: a row has no place, or the budget is spent.
 #[derive(Drop)]
-pub enum Tried {
-    Go(Tally),
+pub enum Stopped {
     Full(Tally),
     Spent(Tally),
 }
@@ -370,7 +369,7 @@ fn plan_of(mem: &[u32], nodes: usize, tests: usize, k: usize) -> Plan
     ensures { Planned mem.now nodes tests (k - 1) result }
 {
     let upto = tests_end(mem, nodes, tests);
-    let moving = free_node(mem, ints::monus(k, 1), upto);
+    let moving = free_node(mem, k.saturating_sub(1), upto);
     let first = first_behind(mem, moving, upto);
     Plan {
         moving,
@@ -484,61 +483,70 @@ fn write_row(rows: &mut [i32], n: usize, res: i32, mem: &[u32], k: usize)
     }
 }
 
-// One move more, which the budget allows.
-fn spend(t: Tally) -> Tally
-    requires { (0 < t.budget) × (t.moves + t.budget < 4294967296) }
-    ensures { result ≡ spending t }
-{
-    Tally {
-        budget: t.budget - 1,
-        moves: t.moves + 1,
-        ..t
+impl Tally {
+    // One move more, which the budget allows.
+    fn spend(self) -> Tally
+        requires { (0 < self.budget) × (self.moves + self.budget < 4294967296) }
+        ensures { result ≡ spending self }
+    {
+        Tally {
+            budget: self.budget - 1,
+            moves: self.moves + 1,
+            ..self
+        }
     }
-}
 
-// One move more, or the budget is spent.
-pub fn charge(t: Tally) -> Tried
-    requires { t.moves + t.budget < 4294967296 }
-    ensures { Charged t (λ rows. chargeS (tally_of rows t)) result }
-{
-    if t.budget == 0 {
-        return Tried::Spent(t);
+    // One move more, or the budget is spent.
+    pub fn charge(self) -> Result<Tally, Stopped>
+        requires { self.moves + self.budget < 4294967296 }
+        ensures { Charged self (λ rows. chargeS (tally_of rows self)) result }
+    {
+        if self.budget == 0 {
+            return Err(Stopped::Spent(self));
+        }
+        Ok(self.spend())
     }
-    Tried::Go(spend(t))
+
+    // What was counted, where so many moves are left of the budget.
+    pub fn leaving(self, left: u32) -> Tally
+        requires { (left ≤ self.budget) × (self.moves + self.budget < 4294967296) }
+        ensures { result ≡ leavingS self left }
+    {
+        Tally {
+            budget: left,
+            moves: self.moves + (self.budget - left),
+            ..self
+        }
+    }
+
+    // What was counted, where a cut run was found.
+    fn with_cut(self) -> Tally
+        ensures { result ≡ cutting self true }
+    {
+        Tally { cut: true, ..self }
+    }
 }
 
 // A row found: it is skipped, or written, or has no place.
-fn place(rows: &mut [i32], t: Tally, res: i32, mem: &[u32], k: usize) -> Tried
+fn place(rows: &mut [i32], t: Tally, res: i32, mem: &[u32], k: usize) -> Result<Tally, Stopped>
     requires { (k ≤ 8) × (tables_place ≤ length mem.now) × (10 * (t.written + t.room) ≤ length rows.old) }
     ensures { Placing rows.old rows.new t (placeS (row_with res (setting_in mem.now k)) (tally_of rows.old t)) result }
 {
     if 0 < t.skip {
-        return Tried::Go(Tally {
+        return Ok(Tally {
             skip: t.skip - 1,
             ..t
         });
     }
     if t.room == 0 {
-        return Tried::Full(t);
+        return Err(Stopped::Full(t));
     }
     write_row(rows, t.written, res, mem, k);
-    Tried::Go(Tally {
+    Ok(Tally {
         room: t.room - 1,
         written: t.written + 1,
         ..t
     })
-}
-
-// What was counted, where so many moves are left of the budget.
-fn leaving(t: Tally, left: u32) -> Tally
-    requires { (left ≤ t.budget) × (t.moves + t.budget < 4294967296) }
-    ensures { result ≡ leavingS t left }
-{
-    Tally {
-        budget: left,
-        moves: t.moves + (t.budget - left),
-        ..t
-    }
 }
 
 // A setting that meets the tests, at a return of v: its row. The nodes before `from` have their numbers.
@@ -550,7 +558,7 @@ fn found(
     v: Value,
     t: Tally,
     rows: &mut [i32],
-) -> Tried
+) -> Result<Tally, Stopped>
     requires { (k ≤ 8) × Room mem.old nodes × Worked mem.old from k × (10 * (t.written + t.room) ≤ length rows.old) }
     ensures { Placing rows.old rows.new t (placeS (row_with (under (setting_in mem.old k) (meaning (nodes_in mem.old nodes) (cell_of v))) (setting_in mem.old k)) (tally_of rows.old t)) result × Renumbered mem.old mem.new }
 {
@@ -567,12 +575,12 @@ pub fn trials(
     v: Value,
     t: Tally,
     rows: &mut [i32],
-) -> Tried
+) -> Result<Tally, Stopped>
     requires { Holding mem.old nodes tests k × Fair (length rows.old) t }
     ensures { AllTrials mem.old mem.new nodes tests k v rows.old rows.new t result }
 {
     if !filled(mem, k) {
-        return Tried::Go(t);
+        return Ok(t);
     }
     first_setting(mem, k);
     let p = plan_of(mem, nodes, tests, k);
@@ -580,43 +588,36 @@ pub fn trials(
     loop {
         match seek(mem, p, tests, k, u.budget) {
             Sought::Met(left) => {
-                match found(mem, p.upto, nodes, k, v, leaving(u, left - 1), rows) {
-                    Tried::Go(w) => {
-                        if !next_setting(mem, k) {
-                            return Tried::Go(w);
-                        }
-                        u = w;
-                    }
-                    Tried::Full(w) => return Tried::Full(w),
-                    Tried::Spent(w) => return Tried::Spent(w),
+                u = found(mem, p.upto, nodes, k, v, u.leaving(left - 1), rows)?;
+                if !next_setting(mem, k) {
+                    return Ok(u);
                 }
             }
-            Sought::Over(left) => return Tried::Go(leaving(u, left)),
-            Sought::Out => return Tried::Spent(leaving(u, 0)),
+            Sought::Over(left) => return Ok(u.leaving(left)),
+            Sought::Out => return Err(Stopped::Spent(u.leaving(0))),
         }
     }
 }
 
-// What was counted, where a cut run was found.
-fn with_cut(t: Tally) -> Tally
-    ensures { result ≡ cutting t true }
-{
-    Tally { cut: true, ..t }
-}
-
 // Settings of k free variables in their windows tried at a cut, until one meets the tests; none, where a cut run was found before.
-pub fn probes(mem: &mut [u32], nodes: usize, tests: usize, k: usize, t: Tally) -> Tried
+pub fn probes(
+    mem: &mut [u32],
+    nodes: usize,
+    tests: usize,
+    k: usize,
+    t: Tally,
+) -> Result<Tally, Stopped>
     requires { Holding mem.old nodes tests k × (t.moves + t.budget < 4294967296) }
     ensures { AllProbes mem.old mem.new nodes tests k t result }
 {
     if t.cut || !filled(mem, k) {
-        return Tried::Go(t);
+        return Ok(t);
     }
     first_setting(mem, k);
     let p = plan_of(mem, nodes, tests, k);
     match seek(mem, p, tests, k, t.budget) {
-        Sought::Met(left) => Tried::Go(with_cut(leaving(t, left - 1))),
-        Sought::Over(left) => Tried::Go(leaving(t, left)),
-        Sought::Out => Tried::Spent(leaving(t, 0)),
+        Sought::Met(left) => Ok(t.leaving(left - 1).with_cut()),
+        Sought::Over(left) => Ok(t.leaving(left)),
+        Sought::Out => Err(Stopped::Spent(t.leaving(0))),
     }
 }

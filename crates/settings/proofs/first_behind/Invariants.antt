@@ -1,4 +1,4 @@
-use Prim.Native.Nat.{ℕ, ◌≤◌, ◌<◌, ◌-◌}
+use Prim.Native.Nat.{ℕ, ◌≤◌, ◌<◌}
 use Rattle.machine.specs.Memory.{node_at}
 use Rattle.settings.specs.Plan.{Clear}
 use Rattle.settings.proofs.first_behind.Given as goal
