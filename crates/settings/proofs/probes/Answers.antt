@@ -1,7 +1,6 @@
 use Rattle.std.specs.Prelude.{Ok, Err}
-use native.Mathlib.Omega.{arith}
 use Rattle.settings.specs.declared.Stopped.TheVariants.{Spent}
-use Rattle.settings.proofs.Loops.{some-setting, no-setting, cutting-none, cutting-before, cut-within, over-within, cutting-met, cutting-end, cutting-spent, cutting-all}
+use Rattle.settings.proofs.Loops.{some-setting, no-setting, cutting-none, cutting-before, cutting-met, cutting-end, cutting-spent, cutting-all}
 use Rattle.settings.proofs.probes.Goals as goal
 use Rattle.settings.proofs.probes.Goals.{then-t-via-then-t, then-t-via-else-t+then-not-filled}
 
@@ -10,19 +9,6 @@ returns-then-t c = elim c.then-t.branch [
   | then-t-via-then-t w ↦ cutting-before c.args.mem.now c.args.nodes c.args.tests c.args.k c.args.t w.if-t.true
   | then-t-via-else-t+then-not-filled w ↦ cutting-none c.args.mem.now c.args.nodes c.args.tests c.args.k c.args.t (no-setting w.filled.ensures w.if-not-filled.true)
 ]
-
-pub overflow_sub-left : goal.overflow_sub-left
-overflow_sub-left c =
-    let h = some-setting c.filled.ensures c.if-not-filled.false in
-    omega (arith, (cut-within c.args.mem.now c.first_setting.new.mem c.args.nodes c.args.tests c.args.k c.args.t c.requires.0.few c.first_setting.ensures h c.if-t.false c.plan_of-p.result.upto c.plan_of-p.ensures.front c.seek.new.mem c.seek.result c.seek.ensures.0 c.seek.ensures.1 c.in-Met.left c.in-Met.is).0)
-
-pub leaving-requires : goal.leaving-requires
-leaving-requires c =
-    let h = some-setting c.filled.ensures c.if-not-filled.false in
-    (omega (arith, (cut-within c.args.mem.now c.first_setting.new.mem c.args.nodes c.args.tests c.args.k c.args.t c.requires.0.few c.first_setting.ensures h c.if-t.false c.plan_of-p.result.upto c.plan_of-p.ensures.front c.seek.new.mem c.seek.result c.seek.ensures.0 c.seek.ensures.1 c.in-Met.left c.in-Met.is).1), c.requires.1)
-
-pub leaving-requires-in-Over : goal.leaving-requires-in-Over
-leaving-requires-in-Over c = (over-within c.first_setting.new.mem c.seek.new.mem c.plan_of-p.result.upto c.args.tests c.args.k c.args.t.budget c.seek.result c.in-Over.left c.seek.ensures.0 c.in-Over.is, c.requires.1)
 
 pub returns-in-Met : goal.returns-in-Met
 returns-in-Met c =

@@ -5,12 +5,8 @@ use mir.Syntax.{w32}
 use mir.Facts.{to_z-of_z}
 use Rattle.machine.specs.Memory.{setting_in}
 use Rattle.settings.proofs.Entries.{setting-length}
-use Rattle.settings.proofs.Sheet.{word_first, word-second, word-later}
+use Rattle.settings.proofs.Sheet.{word-second, word-later}
 use Rattle.settings.proofs.row_word.Goals as goal
-
-pub returns-in-0 : goal.returns-in-0
-returns-in-0 c =
-    to_z-of_z c.ranges.res ∙ word_first c.args.res (setting_in c.args.mem.now c.args.k) c.args.j c.in-0.is
 
 pub returns-in-1 : goal.returns-in-1
 returns-in-1 c =
