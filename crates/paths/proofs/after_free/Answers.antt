@@ -26,12 +26,6 @@ write_range-requires c = (
       c.reach.ensures c.requires.4,
 )
 
-pub declare-requires : goal.declare-requires
-declare-requires c = (
-  omega (arith, c.if-p-eq0.false),
-  omega (arith, c.if-p-eq-UNKNOWNS.false, c.requires.0.tables.count),
-)
-
 pub returns : goal.returns
 returns c = (
   λ job o q next e. free_on c.args.mem.now c.args.p c.reach.new.mem
