@@ -12,26 +12,6 @@ use Rattle.checkpoints.proofs.put_numbers.Goals as goal
 pub loop-i-init : goal.loop-i-init
 loop-i-init c = (numbered-none, omega arith, refl)
 
--- src/lib.rt:90:59
-pub overflow_add-to : goal.overflow_add-to
-overflow_add-to c = omega (arith, c.requires.words, c.requires.small, c.loop-i-test.true, c.loop-i.invariant.2)
-
--- src/lib.rt:90:41
-pub overflow_mul-to : goal.overflow_mul-to
-overflow_mul-to c = omega (arith, c.requires.words, c.requires.small, c.loop-i-test.true, c.loop-i.invariant.2)
-
--- src/lib.rt:90:18
-pub overflow_add-to-in-loop-i : goal.overflow_add-to-in-loop-i
-overflow_add-to-in-loop-i c = omega (arith, c.requires.words, c.requires.small, c.loop-i-test.true, c.loop-i.invariant.2)
-
--- src/lib.rt:91:9
-pub offset_bounds-mem-to : goal.offset_bounds-mem-to
-offset_bounds-mem-to c = omega (arith, c.requires.words, c.requires.small, c.loop-i-test.true, c.loop-i.invariant.2)
-
--- src/lib.rt:91:9
-pub bounds-mem-to : goal.bounds-mem-to
-bounds-mem-to c = omega (arith, c.requires.words, c.requires.small, c.loop-i-test.true, c.loop-i.invariant.2)
-
 -- src/lib.rt:89:5
 pub loop-i-preserved : goal.loop-i-preserved
 loop-i-preserved c = (

@@ -1,5 +1,5 @@
 use native.Mathlib.Omega.{arith}
-use mathlib.Core.Path.{ap, ◌∙◌}
+use mathlib.Core.Path.{ap}
 use Prim.Native.Nat.{◌-◌}
 use Rattle.machine.proofs.Tables.{room-less}
 use Rattle.checkpoints.specs.Words.{forced}
@@ -30,4 +30,4 @@ pub returns : goal.returns
 returns c =
     let r = reaches-so c.args.cells c.args.mem.now c.args.w c.point_at-p.result c.requires.1 c.point_at-p.ensures.0 c.requires.0 in
     restored-so c.args.cells c.args.mem.now c.args.w c.point_at-p.result c.requires.1 c.point_at-p.ensures.0 c.restore_pairs.new.mem (c.args.w - c.size_of-n.result) c.restore_pairs.ensures (omega (arith, c.size_of-n.ensures, r.1)) c.restore_pairs.auto.mem
-    c.all_ranges.new.mem c.args.k c.force.result c.all_ranges.ensures c.all_ranges.auto.mem (c.force.ensures ∙ ap (forced c.point_at-p.result) c.monus.ensures)
+    c.all_ranges.new.mem c.args.k _ c.all_ranges.ensures c.all_ranges.auto.mem (ap (forced c.point_at-p.result) c.saturating_sub.ensures)
