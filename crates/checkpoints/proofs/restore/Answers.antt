@@ -6,18 +6,6 @@ use Rattle.checkpoints.specs.Words.{forced}
 use Rattle.checkpoints.proofs.Again.{reaches-so, ranges-asked, restored-so}
 use Rattle.checkpoints.proofs.restore.Goals as goal
 
--- src/lib.rt:256:34
-pub overflow_sub-w-2 : goal.overflow_sub-w-2
-overflow_sub-w-2 c =
-    let r = reaches-so c.args.cells c.args.mem.now c.args.w c.point_at-p.result c.requires.1 c.point_at-p.ensures.0 c.requires.0 in
-    omega (arith, c.size_of-n.ensures, r.1)
-
--- src/lib.rt:256:5
-pub restore_pairs-requires : goal.restore_pairs-requires
-restore_pairs-requires c =
-    let r = reaches-so c.args.cells c.args.mem.now c.args.w c.point_at-p.result c.requires.1 c.point_at-p.ensures.0 c.requires.0 in
-    (r.0, c.requires.1, room-less _ (omega (arith, c.size_of-n.ensures, r.1)) c.requires.2)
-
 -- src/lib.rt:257:5
 pub all_ranges-requires : goal.all_ranges-requires
 all_ranges-requires c =
