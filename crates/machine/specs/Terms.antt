@@ -14,7 +14,8 @@ use Rattle.simulation.specs.Machine.{Machine, machine, Doing, popped, taken, two
 use Rattle.simulation.specs.Nodes as nodes
 use Rattle.simulation.specs.Nodes.{Node, unknown, operation, meaning, Within, working}
 use Rattle.simulation.specs.Words.{code_in}
-use Rattle.ints.specs.Numbers.{comparison}
+use Rattle.ints.specs.declared.Comparison.{Comparison}
+use Rattle.ints.specs.Meaning.{of_comparison}
 use Rattle.intervals.specs.Meaning.{of_window, Filled}
 use Rattle.machine.specs.Layout.{frame_cells, frame_words, frame_place, variable_place, cell_place, caller_base, windows_place, tables_place, temp_place, node_place, node_end, range_low, index_end, words_for}
 use Rattle.machine.specs.Memory.{Sym, cell_at, node_at, nodes_in, cells, temps, frame_at, callers, machine_at}
@@ -207,10 +208,9 @@ moved r pc = record { pc = pc; flag = r.flag; base = r.base; top = r.top; depth 
 abbrev pub flagged : Run → Bool → Run
 flagged r b = record { pc = r.pc; flag = b; base = r.base; top = r.top; depth = r.depth; nodes = r.nodes }
 
--- a comparison, by its number, was reached: no word has changed
-pub record Tested (d : Doing Sym) (m : List ℕ) (n : ℕ) (m' : List ℕ) (o : ℕ) (x y : Value) (r : Run) : Type 0 where
-  pub is : d ≡ Doing.test (comparison o) (meant m n x) (meant m n y) (λ b. machine_at m (flagged r b))
-  pub six : o < 6
+-- a comparison was reached: no word has changed
+pub record Tested (d : Doing Sym) (m : List ℕ) (n : ℕ) (m' : List ℕ) (o : Comparison) (x y : Value) (r : Run) : Type 0 where
+  pub is : d ≡ Doing.test (of_comparison o) (meant m n x) (meant m n y) (λ b. machine_at m (flagged r b))
   pub same : m' ≡ m
   pub ready : Ready m r
   pub nodes : r.nodes ≡ n

@@ -13,4 +13,4 @@ take-a-requires c =
 pub returns : goal.returns
 returns c =
     paired c.args.code.now c.args.size c.args.mem.now c.args.run c.args.d c.take-a.result.value c.take-b.result.value c.take-a.result.top c.take-b.result.top c.take-b.ensures
-    (subst (λ (j : ℕ). Taking (code_in c.args.code.now c.args.size) c.args.mem.now (topped c.args.run c.take-b.result.top) j c.take-a.result.value c.take-a.result.top) c.monus.ensures c.take-a.ensures)
+    (subst (λ (j : ℕ). Taking (code_in c.args.code.now c.args.size) c.args.mem.now (topped c.args.run c.take-b.result.top) j c.take-a.result.value c.take-a.result.top) c.saturating_sub.ensures c.take-a.ensures)

@@ -20,8 +20,8 @@ returns-in-Known c =
     let z : ℤ = c.in-Known.z in
     let f : SFits w32 z = subst (λ (v : Value). Sized v) c.in-Known.is c.requires.1 in
     let e : c.word.result ≡ of_z w32 z = simp (to_z-of_z f) at c.word.ensures in
-    put_two c.args.mem.now c.args.at 0 c.word.result c.requires.0 (cell_of c.args.c.value) (ap nodes.Known (ap (to_z w32) e ∙ to_z-of_z f) ∙ ap cell_of (sym c.in-Known.is))
+    put_two c.args.mem.now c.args.at 0 c.word.result c.requires.0 (cell_of c.args.v) (ap nodes.Known (ap (to_z w32) e ∙ to_z-of_z f) ∙ ap cell_of (sym c.in-Known.is))
 
 pub returns-in-Open : goal.returns-in-Open
 returns-in-Open c =
-    put_two c.args.mem.now c.args.at 1 c.in-Open.j c.requires.0 (cell_of c.args.c.value) (ap cell_of (sym c.in-Open.is))
+    put_two c.args.mem.now c.args.at 1 c.in-Open.j c.requires.0 (cell_of c.args.v) (ap cell_of (sym c.in-Open.is))
