@@ -9,12 +9,6 @@ use Rattle.intervals.specs.Meaning.{of_windows}
 use Rattle.intervals.proofs.Windows.{window-at, windows_set}
 use Rattle.narrowing.proofs.narrow_at.Goals as goal
 
-pub narrow-requires : goal.narrow-requires
-narrow-requires c =
-    let zero : code.Window = record { low = pos 0; high = pos 0 } in
-    let n : c.args.i < length c.args.ws = search rules in
-    rw (to_z-of_z c.ranges.k, ← window-at c.args.ws c.args.i zero n) c.requires.1
-
 pub returns : goal.returns
 returns c =
     let zero : code.Window = record { low = pos 0; high = pos 0 } in
