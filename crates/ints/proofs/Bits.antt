@@ -30,9 +30,6 @@ sub_low (negsuc a) (pos zero) f g = omega (arith, f.sfits, low-sub 0 (suc a) (om
 sub_low (negsuc a) (pos (suc b)) f g = omega (arith, f.sfits, g.sfits)
 sub_low (negsuc a) (negsuc b) f g = omega (arith, f.sfits, g.sfits, low-sub (suc b) (suc a) (omega (arith, f.sfits)))
 
-pub sub_same : (r l y x : ℕ) → r < 2 ^ 32 → l < 2 ^ 32 → (r + y) % 2 ^ 32 ≡ x → (l + y) % 2 ^ 32 ≡ x → r ≡ l
-sub_same r l y x f g p q = omega arith
-
 pub low-lt : (z : ℤ) → low32 z < 2 ^ 32
 unfolding low32
 low-lt (pos n) = omega arith

@@ -1,6 +1,6 @@
 -- One entry worked, by its kind.
 use mathlib.Core.Path.{◌≡◌, refl, sym, ap, ap₂, ◌∙◌, subst}
-use mathlib.Core.Bool.{Bool, true, false, beq}
+use mathlib.Core.Bool.{Bool, true, false}
 use mathlib.Core.Option.{none, some}
 use mathlib.Core.List.{List, []}
 use mathlib.Core.Logic.{⊎_elim}
@@ -57,19 +57,6 @@ up {lo} {k} a b = omega arith
 pub past_all : (k : ℕ) → 13 ≤ k → (k ≡ 13 → ⊥) → (k ≡ 14 → ⊥) → (k ≡ 15 → ⊥) → (k ≡ 16 → ⊥) → (k ≡ 17 → ⊥) → (k ≡ 18 → ⊥) → (k ≡ 19 → ⊥) → (k ≡ 20 → ⊥) → (k ≡ 21 → ⊥) → (k ≡ 22 → ⊥)
     → (k ≡ 23 → ⊥) → (k ≡ 24 → ⊥) → 24 < k
 past_all k b c d e f g h i j l m n o = up (up (up (up (up (up (up (up (up (up (up (up b c) d) e) f) g) h) i) j) l) m) n) o
-
--- a jump made or not
-pub land-over : (o b : Bool) (w i : ℕ) → beq b o ≡ true → landing o b w (suc i) ≡ i + 1 + w
-land-over true true w i e = omega arith
-land-over true false w i e = let z : ◌≡◌ {A = ℕ} 0 1 = cc in absurd (omega arith)
-land-over false true w i e = let z : ◌≡◌ {A = ℕ} 0 1 = cc in absurd (omega arith)
-land-over false false w i e = omega arith
-
-pub land-next : (o b : Bool) (w i : ℕ) → beq b o ≡ false → landing o b w (suc i) ≡ i + 1
-land-next true true w i e = let z : ◌≡◌ {A = ℕ} 0 1 = cc in absurd (omega arith)
-land-next true false w i e = omega arith
-land-next false true w i e = omega arith
-land-next false false w i e = let z : ◌≡◌ {A = ℕ} 0 1 = cc in absurd (omega arith)
 
 -- ---- the machine goes on with another state
 
@@ -154,7 +141,7 @@ module _ (ws : List ℕ) (size : ℕ) (m : List ℕ) (r : Run) where
     adv-op a b o e = rw e (sym (adv _ (kind-op W K a b)))
 
     pub adv-cmp : 7 ≤ K → K < 13 → (o : Comparison) → of_comparison o ≡ comparison (K - 7) → (x y : Value) (top : ℕ) → Ready m r → Paired (code_in ws size) m r W x y top
-        → Tested goes m r.nodes m o x y (record { pc = r.pc + 1; flag = r.flag; base = r.base; top = top; depth = r.depth; nodes = r.nodes })
+        → Tested goes m r.nodes m o x y (record r { pc = r.pc + 1; top = top })
     adv-cmp a b o e x y top h p = record {
       is = rw e (adv _ (kind-cmp W K a b)
           ∙ ap (λ t. Doing.test (comparison (K - 7)) t.first t.second (λ q. machine (suc r.pc) q t.rest fr cs (32 - r.depth)))

@@ -150,7 +150,7 @@ pub record Blank (m m' : List ℕ) (i n : ℕ) : Type 0 where
   pub cell : (k : ℕ) → k < n → cell_at m' (i + 2 * k) ≡ nodes.Known (pos 0)
 
 abbrev pub topped : Run → ℕ → Run
-topped r top = record { pc = r.pc; flag = r.flag; base = r.base; top = top; depth = r.depth; nodes = r.nodes }
+topped r top = record r { top = top }
 
 -- of n arguments all but k were taken into the next frame, and the last of those k ends just before entry j
 pub record Gathering (c : Code) (m m' : List ℕ) (r : Run) (n k j top : ℕ) : Type 0 where
@@ -203,10 +203,10 @@ pub record Freed (d : Doing Sym) (job w : Window) (m : List ℕ) (n : ℕ) (m' :
   pub asked : Asked next m n m' k r
 
 abbrev pub moved : Run → ℕ → Run
-moved r pc = record { pc = pc; flag = r.flag; base = r.base; top = r.top; depth = r.depth; nodes = r.nodes }
+moved r pc = record r { pc = pc }
 
 abbrev pub flagged : Run → Bool → Run
-flagged r b = record { pc = r.pc; flag = b; base = r.base; top = r.top; depth = r.depth; nodes = r.nodes }
+flagged r b = record r { flag = b }
 
 -- a comparison was reached: no word has changed
 pub record Tested (d : Doing Sym) (m : List ℕ) (n : ℕ) (m' : List ℕ) (o : Comparison) (x y : Value) (r : Run) : Type 0 where

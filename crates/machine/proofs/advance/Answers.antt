@@ -1,6 +1,5 @@
-use Prim.Native.Nat.{◌+◌, ◌*◌}
+use Prim.Native.Nat.{◌*◌}
 use mathlib.Core.Path.{refl}
-use native.Mathlib.Omega.{arith}
 use lib.ListN.{get_or}
 use Rattle.intervals.specs.Meaning.{of_window}
 use Rattle.machine.proofs.Entries.{past_all, goes-run, goes-from, adv-out, adv-fail, adv-big, adv-leaf, adv-op, adv-cmp, adv-cut, adv-call, adv-false, adv-true, adv-jump-false, adv-jump-true, adv-skip, adv-again, adv-begin, adv-ask, adv-own, adv-store, adv-return, adv-returned}
@@ -10,44 +9,14 @@ pub returns-then-size-run : goal.returns-then-size-run
 returns-then-size-run c =
     (adv-out c.args.code.now c.args.size c.args.mem.now c.args.run c.if-size-run.true, refl)
 
-pub overflow_cast-w : goal.overflow_cast-w
-overflow_cast-w c = omega (arith, c.type_inv.code (2 * c.args.run.pc + 1))
-
 pub returns-then-run-eq-DEPTH : goal.returns-then-run-eq-DEPTH
 returns-then-run-eq-DEPTH c =
     (adv-cut c.args.code.now c.args.size c.args.mem.now c.args.run c.if-size-run.false c.in-13.is c.if-run-eq-DEPTH.true, refl)
-
-pub enter-requires : goal.enter-requires
-enter-requires c =
-    (c.requires.0, c.requires.2, omega (arith, c.if-run-eq-DEPTH.false, c.requires.2.deep), c.if-size-run.false, c.requires.1, omega arith)
-
-pub landing-requires : goal.landing-requires
-landing-requires c =
-    (omega (arith, c.if-size-run.false, c.requires.1), omega (arith, c.type_inv.code (2 * c.args.run.pc + 1)))
-
-pub landing-requires-in-17 : goal.landing-requires-in-17
-landing-requires-in-17 c =
-    (omega (arith, c.if-size-run.false, c.requires.1), omega (arith, c.type_inv.code (2 * c.args.run.pc + 1)))
-
-pub overflow_add-run-in-18 : goal.overflow_add-run-in-18
-overflow_add-run-in-18 c =
-    record { fits = omega (arith, c.type_inv.code (2 * c.args.run.pc + 1), c.if-size-run.false, c.requires.1) }
 
 pub returns-then-run-eq0 : goal.returns-then-run-eq0
 returns-then-run-eq0 c =
     adv-returned c.args.code.now c.args.size c.args.mem.now c.args.run c.if-size-run.false
     c.in-23.is c.if-run-eq0.true c.take.result.value c.take.result.top c.take.ensures
-
-pub operate-requires : goal.operate-requires
-operate-requires c = (
-  c.requires.2,
-  omega (arith, c.if-size-run.false, c.requires.1),
-  c.requires.3,
-  c.requires.4,
-  c.pair-p.ensures.left-sized,
-  c.pair-p.ensures.right-sized,
-  c.pair-p.ensures.high,
-)
 
 pub returns-then-kind-lt-COMPARE : goal.returns-then-kind-lt-COMPARE
 returns-then-kind-lt-COMPARE c =

@@ -1,11 +1,6 @@
-use Prim.Native.Nat.{◌+◌, ◌*◌}
-use native.Mathlib.Omega.{arith}
 use Rattle.machine.proofs.Arguments.{extent-is, extent-other, extent-out}
 use Rattle.machine.proofs.extent.Goals as goal
 use Rattle.machine.proofs.extent.Goals.{else-e-size-via-then-e-size+else-code-e-eq-ARGUMENT, else-e-size-via-else-e-size}
-
-pub overflow_cast-result : goal.overflow_cast-result
-overflow_cast-result c = omega (arith, c.type_inv.code (2 * c.args.e + 1))
 
 pub returns-then-code-e-eq-ARGUMENT : goal.returns-then-code-e-eq-ARGUMENT
 returns-then-code-e-eq-ARGUMENT c =

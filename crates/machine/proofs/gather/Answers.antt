@@ -10,13 +10,6 @@ pub loop-k-init : goal.loop-k-init
 loop-k-init c =
     gathering-none c.args.code.now c.args.size c.args.mem.now c.args.run c.args.n c.requires.2 c.blank.new.mem c.requires.1 (omega (arith, c.blank.auto.mem)) c.blank.ensures
 
-pub take-t-requires : goal.take-t-requires
-take-t-requires c = (c.requires.0, c.loop-k.invariant.ready)
-
-pub put-requires : goal.put-requires
-put-requires c =
-    (omega (arith, c.loop-k.invariant.ready.tops.words, c.requires.2, c.if-k-lt-CELLS.true), c.take-t.ensures.sized)
-
 pub loop-k-preserved-then-k-lt-CELLS : goal.loop-k-preserved-then-k-lt-CELLS
 loop-k-preserved-then-k-lt-CELLS c =
     gathering-turn c.args.code.now c.args.size c.blank.new.mem c.args.run c.args.n c.requires.2 c.loop-k.mem c.saturating_sub-e.result c.take-t.result.value c.loop-k.top c.take-t.result.top c.extent-d.result c.saturating_sub-j.result

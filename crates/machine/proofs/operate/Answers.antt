@@ -3,10 +3,6 @@ use Rattle.ints.specs.Meaning.{of_operation}
 use Rattle.machine.proofs.Moves.{operated}
 use Rattle.machine.proofs.operate.Goals as goal
 
-pub put-requires : goal.put-requires
-put-requires c =
-    (omega (arith, c.work-made.auto.mem, c.requires.6, c.requires.2.words), c.work-made.ensures.sized)
-
 pub returns : goal.returns
 returns c =
     λ x d h. operated x c.args.mem.now c.work-made.new.mem c.put.new.mem c.args.run (of_operation c.args.op) d c.args.p.left c.args.p.right c.work-made.result.value c.args.p.top c.work-made.result.nodes
