@@ -10,7 +10,7 @@ ghost use Rattle.simulation.specs.Lister.{charge as chargeS, place as placeS};
 ghost use Rattle.machine.specs.Layout.{value_place, tables_place, number_place};
 ghost use Rattle.semantics.specs.Int.{holds};
 ghost use Rattle.semantics.specs.Search.{under};
-ghost use Rattle.ints.specs.Numbers.{comparison};
+ghost use Rattle.ints.specs.Meaning.{of_comparison};
 ghost use Rattle.machine.specs.Memory.{cell_read_as, node_at, nodes_in, test_as, test_at, windows_in, setting_in, numbers_in, tests_in};
 ghost use Rattle.machine.specs.Terms.{Room, cell_of};
 ghost use Rattle.settings.specs.Table.{window_at, value_at, number_at, holds_by, holds_at, Wrote, Worked, Anew, First, Follows, Renumbered, Steady, Holding};
@@ -19,6 +19,7 @@ ghost use Rattle.settings.specs.Seek.{CanRise, Rising, Rose, Sweeping, Seeking};
 ghost use Rattle.settings.specs.Rows.{words_of, row_with, Written};
 ghost use Rattle.settings.specs.Tries.{tally_of, spending, leaving as leavingS, cutting, Fair, Charged, Placing, AllTrials, AllProbes};
 
+use ints::{Comparison, Operation};
 use machine::{Value, kinds, layout};
 
 mod arms;
@@ -103,19 +104,18 @@ fn number_at(mem: &[u32], k: usize, j: usize) -> i32
     if op == kinds::FREE {
         return value(mem, k, x as usize);
     }
-    ints::operate(
-        op - kinds::OPERATION,
+    Operation::from(op - kinds::OPERATION).apply(
         number(mem, j, kind / kinds::NODE_LEFT % 2, x),
         number(mem, j, kind / kinds::NODE_RIGHT, y),
     )
 }
 
 // Whether a comparison of two cells holds, each by whether it is open and its second word, where n nodes have their numbers.
-fn compared(mem: &[u32], n: usize, c: u32, left: u32, x: u32, right: u32, y: u32) -> bool
+fn compared(mem: &[u32], n: usize, c: Comparison, left: u32, x: u32, right: u32, y: u32) -> bool
     requires { Room mem.now n }
-    ensures { result ≡ holds (comparison c) (number_in (numbers_in mem.now n) (cell_read_as left x)) (number_in (numbers_in mem.now n) (cell_read_as right y)) }
+    ensures { result ≡ holds (of_comparison c) (number_in (numbers_in mem.now n) (cell_read_as left x)) (number_in (numbers_in mem.now n) (cell_read_as right y)) }
 {
-    ints::holds(c, number(mem, n, left, x), number(mem, n, right, y))
+    c.holds(number(mem, n, left, x), number(mem, n, right, y))
 }
 
 // Whether a test holds, by its three words. There is an arm for each kind that a path makes, so that a kind is looked at once.
@@ -124,28 +124,28 @@ fn holds_by(mem: &[u32], n: usize, kind: u32, x: u32, y: u32) -> bool
     ensures { result ≡ holds_by mem.now n (test_as kind x y) }
 {
     match kind {
-        arms::LT_OPEN_KNOWN => compared(mem, n, arms::LT, arms::OPEN, x, arms::KNOWN, y),
-        arms::LE_OPEN_KNOWN => compared(mem, n, arms::LE, arms::OPEN, x, arms::KNOWN, y),
-        arms::GT_OPEN_KNOWN => compared(mem, n, arms::GT, arms::OPEN, x, arms::KNOWN, y),
-        arms::GE_OPEN_KNOWN => compared(mem, n, arms::GE, arms::OPEN, x, arms::KNOWN, y),
-        arms::EQ_OPEN_KNOWN => compared(mem, n, arms::EQ, arms::OPEN, x, arms::KNOWN, y),
-        arms::NE_OPEN_KNOWN => compared(mem, n, arms::NE, arms::OPEN, x, arms::KNOWN, y),
-        arms::LT_KNOWN_OPEN => compared(mem, n, arms::LT, arms::KNOWN, x, arms::OPEN, y),
-        arms::LE_KNOWN_OPEN => compared(mem, n, arms::LE, arms::KNOWN, x, arms::OPEN, y),
-        arms::GT_KNOWN_OPEN => compared(mem, n, arms::GT, arms::KNOWN, x, arms::OPEN, y),
-        arms::GE_KNOWN_OPEN => compared(mem, n, arms::GE, arms::KNOWN, x, arms::OPEN, y),
-        arms::EQ_KNOWN_OPEN => compared(mem, n, arms::EQ, arms::KNOWN, x, arms::OPEN, y),
-        arms::NE_KNOWN_OPEN => compared(mem, n, arms::NE, arms::KNOWN, x, arms::OPEN, y),
-        arms::LT_OPEN_OPEN => compared(mem, n, arms::LT, arms::OPEN, x, arms::OPEN, y),
-        arms::LE_OPEN_OPEN => compared(mem, n, arms::LE, arms::OPEN, x, arms::OPEN, y),
-        arms::GT_OPEN_OPEN => compared(mem, n, arms::GT, arms::OPEN, x, arms::OPEN, y),
-        arms::GE_OPEN_OPEN => compared(mem, n, arms::GE, arms::OPEN, x, arms::OPEN, y),
-        arms::EQ_OPEN_OPEN => compared(mem, n, arms::EQ, arms::OPEN, x, arms::OPEN, y),
-        arms::NE_OPEN_OPEN => compared(mem, n, arms::NE, arms::OPEN, x, arms::OPEN, y),
+        arms::LT_OPEN_KNOWN => compared(mem, n, Comparison::Less, arms::OPEN, x, arms::KNOWN, y),
+        arms::LE_OPEN_KNOWN => compared(mem, n, Comparison::AtMost, arms::OPEN, x, arms::KNOWN, y),
+        arms::GT_OPEN_KNOWN => compared(mem, n, Comparison::Greater, arms::OPEN, x, arms::KNOWN, y),
+        arms::GE_OPEN_KNOWN => compared(mem, n, Comparison::AtLeast, arms::OPEN, x, arms::KNOWN, y),
+        arms::EQ_OPEN_KNOWN => compared(mem, n, Comparison::Equal, arms::OPEN, x, arms::KNOWN, y),
+        arms::NE_OPEN_KNOWN => compared(mem, n, Comparison::Unequal, arms::OPEN, x, arms::KNOWN, y),
+        arms::LT_KNOWN_OPEN => compared(mem, n, Comparison::Less, arms::KNOWN, x, arms::OPEN, y),
+        arms::LE_KNOWN_OPEN => compared(mem, n, Comparison::AtMost, arms::KNOWN, x, arms::OPEN, y),
+        arms::GT_KNOWN_OPEN => compared(mem, n, Comparison::Greater, arms::KNOWN, x, arms::OPEN, y),
+        arms::GE_KNOWN_OPEN => compared(mem, n, Comparison::AtLeast, arms::KNOWN, x, arms::OPEN, y),
+        arms::EQ_KNOWN_OPEN => compared(mem, n, Comparison::Equal, arms::KNOWN, x, arms::OPEN, y),
+        arms::NE_KNOWN_OPEN => compared(mem, n, Comparison::Unequal, arms::KNOWN, x, arms::OPEN, y),
+        arms::LT_OPEN_OPEN => compared(mem, n, Comparison::Less, arms::OPEN, x, arms::OPEN, y),
+        arms::LE_OPEN_OPEN => compared(mem, n, Comparison::AtMost, arms::OPEN, x, arms::OPEN, y),
+        arms::GT_OPEN_OPEN => compared(mem, n, Comparison::Greater, arms::OPEN, x, arms::OPEN, y),
+        arms::GE_OPEN_OPEN => compared(mem, n, Comparison::AtLeast, arms::OPEN, x, arms::OPEN, y),
+        arms::EQ_OPEN_OPEN => compared(mem, n, Comparison::Equal, arms::OPEN, x, arms::OPEN, y),
+        arms::NE_OPEN_OPEN => compared(mem, n, Comparison::Unequal, arms::OPEN, x, arms::OPEN, y),
         _ => compared(
             mem,
             n,
-            kind % kinds::TEST_LEFT,
+            Comparison::from(kind % kinds::TEST_LEFT),
             kind / kinds::TEST_LEFT % 2,
             x,
             kind / kinds::TEST_RIGHT,
