@@ -50,13 +50,8 @@ fn save_frames(mem: &mut [u32], cells: usize, d: usize, w: usize)
     ensures { FramesSaved cells mem.old mem.new d w }
 {
     for j in 0..d {
-        save_row(
-            mem,
-            layout::FRAME * (j + 1),
-            layout::CELL,
-            cells,
-            w + cells * j,
-        );
+        let to = w + cells * j;
+        save_row(mem, layout::FRAME * (j + 1), layout::CELL, cells, to);
     }
 }
 
@@ -170,13 +165,8 @@ fn restore_frames(mem: &mut [u32], cells: usize, d: usize, w: usize)
     ensures { FramesBack cells mem.old mem.new d w }
 {
     for j in 0..d {
-        restore_row(
-            mem,
-            layout::FRAME * (j + 1),
-            layout::CELL,
-            cells,
-            w + cells * j,
-        );
+        let from = w + cells * j;
+        restore_row(mem, layout::FRAME * (j + 1), layout::CELL, cells, from);
     }
 }
 
