@@ -23,6 +23,6 @@ returns-then-p-eq0 c =
     ap (λ (f : ℕ). c.args.left - moves f (c.args.p.steps - c.args.steps)) (sym c.if-p-eq0.true)
 
 -- src/lib.rt:393:1
-pub returns : goal.returns
-returns c =
+pub returns-else-p-eq0 : goal.returns-else-p-eq0
+returns-else-p-eq0 c =
     forced-all c.args.p.forced (c.args.p.steps - c.args.steps) c.args.left c.if-p-eq0.false
