@@ -8,10 +8,6 @@ use Rattle.known_steps.specs.Turns.{OneOrTwo, twice}
 use Rattle.known_steps.proofs.Working.{result-made}
 use Rattle.known_steps.proofs.assign.Goals as goal
 
--- src/lib.rt:271:13
-pub overflow_cast-w : goal.overflow_cast-w
-overflow_cast-w c = omega (arith, c.type_inv.code (2 * c.args.p.run.pc + 1))
-
 -- src/lib.rt:260:1
 pub returns : goal.returns
 returns c = (

@@ -11,10 +11,6 @@ use Rattle.known_steps.proofs.make.Goals as goal
 pub loop-next-init : goal.loop-next-init
 loop-next-init c = (none refl refl, c.requires.2, c.requires.3, refl)
 
--- src/lib.rt:373:13
-pub one-requires : goal.one-requires
-one-requires c = (c.requires.0, c.requires.1, c.loop-next.invariant.1, c.loop-next.invariant.2)
-
 -- src/lib.rt:372:5
 pub loop-next-smaller : goal.loop-next-smaller
 loop-next-smaller c =

@@ -1,6 +1,4 @@
-use Prim.Native.Nat.{◌+◌, ◌*◌}
 use mathlib.Core.Path.{refl}
-use native.Mathlib.Omega.{arith}
 use Rattle.simulation.specs.Words.{code_in}
 use Rattle.machine.proofs.Entries.{goes-run, adv-leaf}
 use Rattle.known_steps.specs.Turns.{no}
@@ -14,18 +12,6 @@ returns-then-kind-lt-ADD c =
     (silent-made (code_in c.args.code.now c.args.size) c.args.mem.now c.args.p c.requires.2 c.args.mem.now _ refl
     (goes-run refl (adv-leaf c.args.code.now c.args.size c.args.mem.now c.args.p.run c.if-size-run.false c.if-kind-lt-NUMBER.false c.if-kind-lt-ADD.true c.requires.2.ready)))
     c.requires.3
-
--- src/lib.rt:356:13
-pub overflow_cast-w : goal.overflow_cast-w
-overflow_cast-w c = omega (arith, c.type_inv.code (2 * c.args.p.run.pc + 1))
-
-pub act-requires : goal.act-requires
-act-requires c =
-    (c.requires.0, c.requires.1, c.requires.2, c.if-size-run.false, refl, refl, omega (arith, c.type_inv.code (2 * c.args.p.run.pc + 1)), c.requires.3)
-
-pub work-requires : goal.work-requires
-work-requires c =
-    (c.requires.0, c.requires.1, c.requires.2, c.if-size-run.false, refl, refl, c.if-kind-lt-ADD.false, omega (arith, c.if-kind-gt-COMPARE_LAST.false), omega (arith, c.if-p-floor.false, c.requires.3))
 
 pub returns-then-size-run : goal.returns-then-size-run
 returns-then-size-run c = no refl

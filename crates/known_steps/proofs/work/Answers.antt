@@ -7,18 +7,6 @@ use Rattle.known_steps.proofs.Making.{one-both, one-made}
 use Rattle.known_steps.proofs.Working.{op-left, cmp-made}
 use Rattle.known_steps.proofs.work.Goals as goal
 
-pub overflow_mul-b : goal.overflow_mul-b
-overflow_mul-b c = omega (arith, c.in_ok-b.ensures.high, c.requires.2.tops.small)
-
-pub overflow_add-b : goal.overflow_add-b
-overflow_add-b c = omega (arith, c.in_ok-b.ensures.high, c.requires.2.tops.small)
-
-pub put-requires : goal.put-requires
-put-requires c = omega (arith, c.in_ok-b.ensures.high, c.requires.2.tops.words)
-
-pub overflow_add-b-then-kind-lt-COMPARE : goal.overflow_add-b-then-kind-lt-COMPARE
-overflow_add-b-then-kind-lt-COMPARE c = omega (arith, c.in_ok-b.ensures.high, c.requires.2.tops.small)
-
 pub assign-requires : goal.assign-requires
 assign-requires c =
     let h = op-left c.args.code.now c.args.size c.args.mem.now c.args.p c.requires.2 c.requires.3 c.args.kind c.args.d c.requires.4 c.requires.5 (omega (arith, c.requires.8)) c.in_ok-b.b.left c.in_ok-b.b.right c.in_ok-b.b.top c.in_ok-b.ensures
