@@ -2,11 +2,12 @@
 use mathlib.Core.Path.{◌≡◌, refl, sym, ap, ◌∙◌, subst}
 use mathlib.Core.Bool.{Bool, true, false}
 use mathlib.Core.Logic.{⊎_elim}
-use mathlib.Core.List.{List}
-use Prim.Native.Nat.{ℕ, ◌+◌, ◌*◌, ◌≤◌, ◌<◌}
+use mathlib.Core.List.{List, ◌++◌}
+use Prim.Native.Nat.{ℕ, ◌+◌, ◌-◌, ◌*◌, ◌≤◌, ◌<◌}
 use native.Mathlib.Omega.{arith}
-use lib.ListN.{length, get_or, set, length-set}
-use lib.Seq.{get_or-set_same, get_or-set_other}
+use lib.ListN.{length, get_or, set, take, drop, replicate, length-set}
+use lib.Seq.{get_or-set_same, get_or-set_other, get_or-append_right}
+use Rattle.std.proofs.lemmas.List.{get_or_append_left, get_or-replicate, get_or-drop, length-replicate, length-take-le}
 use Rattle.machine.specs.Layout.{frame_place, variable_place, mark_place, mark_number, index_end}
 use Rattle.machine.proofs.Stays.{three}
 use Rattle.checkpoints.specs.Live.{framed, Row, RowSaved, RowBack, FramesSaved, FramesBack, Cleared}
@@ -147,11 +148,18 @@ module _ (n : ℕ) (m m₁ m₂ : List ℕ) (j w : ℕ) (few : n ≤ 16) (deep :
 
 -- ---- words made 0
 
-pub cleared-none : {m : List ℕ} → Cleared m m 0
-cleared-none = record { blank = λ x l. absurd (omega arith); other = λ x l. refl }
+abbrev blanks : ℕ → List ℕ
+blanks n = replicate n 0
 
-pub cleared-on : (m m₁ : List ℕ) (i : ℕ) → i < length m₁ → Cleared m m₁ i → Cleared m (set m₁ i 0) (i + 1)
-cleared-on m m₁ i len c = record {
-  blank = λ x l. ⊎_elim (λ e. ap (λ (q : ℕ). get_or (set m₁ i 0) q 0) e ∙ get_or-set_same m₁ i 0 0 len) (λ h. ⊎_elim (λ h. get_or-set_other m₁ i x 0 0 (λ e. omega arith) ∙ c.blank x h) (λ h. absurd (omega arith)) h) (three x i);
-  other = λ x l. get_or-set_other m₁ i x 0 0 (λ e. omega arith) ∙ c.other x (omega arith);
+-- zeros before all that lies from n on
+pub cleared-filled : (m z : List ℕ) (n : ℕ) → n ≤ length m → z ≡ blanks (length (take n m)) → Cleared m (z ++ drop n m) n
+cleared-filled m z n l e = subst (λ (z : List ℕ). Cleared m (z ++ drop n m) n) (sym (e ∙ ap blanks len)) record {
+  blank = λ x h. get_or_append_left (blanks n) (drop n m) 0 x (omega (arith, zeros, h)) ∙ get_or-replicate n x 0 0 h;
+  other = λ x h. get_or-append_right (blanks n) (drop n m) x 0 (omega (arith, zeros, h)) ∙ get_or-drop n m (x - length (blanks n)) 0 ∙ ap (λ (k : ℕ). get_or m k 0) {x = n + (x - length (blanks n))} {y = x} (omega (arith, zeros, h));
 }
+  where
+    len : length (take n m) ≡ n
+    len = length-take-le n m l
+
+    zeros : length (blanks n) ≡ n
+    zeros = length-replicate n 0

@@ -7,7 +7,7 @@ ghost use Rattle.machine.specs.Terms.{Room};
 ghost use Rattle.paths.specs.declared.Point as point;
 ghost use Rattle.paths.specs.Point.{Going};
 ghost use Rattle.checkpoints.specs.Live.{framed, live_pairs, size_of, number_count, Small, HasLive, Unused, Row, Marking, RowSaved, RowBack, FramesSaved, FramesBack, Cleared};
-ghost use Rattle.checkpoints.specs.Words.{bit_of, numbers_of, number_at, point_at, WordSized, Numbered, Lives, Back, Saved, Agrees, forced as forcedS, Restored, EndsBefore};
+ghost use Rattle.checkpoints.specs.Words.{numbers_of, number_at, point_at, WordSized, Numbered, Lives, Back, Saved, Agrees, Restored, EndsBefore};
 
 use machine::{Run, layout};
 use paths::Point;
@@ -20,8 +20,7 @@ fn live_pairs(p: Point, cells: usize) -> usize
     requires { Small p × (cells ≤ frame_cells) }
     ensures { result ≡ live_pairs cells p }
 {
-    let run = p.run;
-    cells * run.depth + run.depth + p.windows + run.top
+    cells * p.run.depth + p.run.depth + p.windows + p.run.top
 }
 
 // The marks of a checkpoint.
@@ -29,8 +28,7 @@ pub fn size_of(p: Point, cells: usize) -> usize
     requires { Small p × (cells ≤ frame_cells) }
     ensures { result ≡ size_of cells p }
 {
-    let n = live_pairs(p, cells);
-    if n < NUMBERS { NUMBERS } else { n }
+    live_pairs(p, cells).max(NUMBERS)
 }
 
 // Copies n pairs from x on, each s words behind the one before, to the marks from w on.
@@ -38,14 +36,11 @@ fn save_row(mem: &mut [u32], x: usize, s: usize, n: usize, w: usize)
     requires { Row mem.old x s n × Room mem.old (w + n) }
     ensures { RowSaved mem.old mem.new x s n w }
 {
-    let mut i: usize = 0;
-    let mut from = x;
-    while i < n {
+    for i in 0..n {
+        let from = x + s * i;
         let to = layout::MARKS + layout::STRIDE * (w + i);
         mem[to] = mem[from];
         mem[to + 1] = mem[from + 1];
-        from += s;
-        i += 1;
     }
 }
 
@@ -54,12 +49,9 @@ fn save_frames(mem: &mut [u32], cells: usize, d: usize, w: usize)
     requires { (cells ≤ frame_cells) × (d ≤ 32) × (tables_place ≤ length mem.old) × Room mem.old (w + framed cells d) }
     ensures { FramesSaved cells mem.old mem.new d w }
 {
-    let mut j: usize = 0;
-    let mut to = w;
-    while j < d {
+    for j in 0..d {
+        let to = w + cells * j;
         save_row(mem, layout::FRAME * (j + 1), layout::CELL, cells, to);
-        to += cells;
-        j += 1;
     }
 }
 
@@ -83,18 +75,9 @@ fn put_numbers(mem: &mut [u32], h: [u32; NUMBERS], w: usize)
     requires { Room mem.old (w + number_count) }
     ensures { Numbered mem.old mem.new h w number_count }
 {
-    let mut i: usize = 0;
-    while i < NUMBERS {
-        let to = layout::MARK_NUMBERS + layout::STRIDE * (w + i);
-        mem[to] = h[i];
-        i += 1;
+    for (i, &number) in h.iter().enumerate() {
+        mem[layout::MARK_NUMBERS + layout::STRIDE * (w + i)] = number;
     }
-}
-
-fn bit(o: bool) -> u32
-    ensures { result ≡ bit_of o }
-{
-    if o { 1 } else { 0 }
 }
 
 // The numbers of a point, in a row.
@@ -105,7 +88,7 @@ fn numbers_of(p: Point) -> [u32; NUMBERS]
     let run = p.run;
     [
         run.pc as u32,
-        bit(run.flag),
+        u32::from(run.flag),
         run.base as u32,
         run.top as u32,
         run.depth as u32,
@@ -160,11 +143,7 @@ fn clear(mem: &mut [u32], n: usize)
     requires { n ≤ length mem.old }
     ensures { Cleared mem.old mem.new n }
 {
-    let mut i: usize = 0;
-    while i < n {
-        mem[i] = 0;
-        i += 1;
-    }
+    mem[..n].fill(0);
 }
 
 // Copies n pairs of the marks from w on to the words from x on, each s words behind the one before.
@@ -172,14 +151,11 @@ fn restore_row(mem: &mut [u32], x: usize, s: usize, n: usize, w: usize)
     requires { Row mem.old x s n × Room mem.old (w + n) }
     ensures { RowBack mem.old mem.new x s n w }
 {
-    let mut i: usize = 0;
-    let mut to = x;
-    while i < n {
+    for i in 0..n {
         let from = layout::MARKS + layout::STRIDE * (w + i);
+        let to = x + s * i;
         mem[to] = mem[from];
         mem[to + 1] = mem[from + 1];
-        to += s;
-        i += 1;
     }
 }
 
@@ -188,12 +164,9 @@ fn restore_frames(mem: &mut [u32], cells: usize, d: usize, w: usize)
     requires { (cells ≤ frame_cells) × (d ≤ 32) × (tables_place ≤ length mem.old) × Room mem.old (w + framed cells d) }
     ensures { FramesBack cells mem.old mem.new d w }
 {
-    let mut j: usize = 0;
-    let mut from = w;
-    while j < d {
+    for j in 0..d {
+        let from = w + cells * j;
         restore_row(mem, layout::FRAME * (j + 1), layout::CELL, cells, from);
-        from += cells;
-        j += 1;
     }
 }
 
@@ -213,29 +186,17 @@ fn restore_pairs(mem: &mut [u32], p: Point, cells: usize, w: usize)
     restore_row(mem, layout::TEMPORARIES, layout::STRIDE, run.top, temps);
 }
 
-// The same point with f outcomes forced.
-fn force(p: Point, f: usize) -> Point
-    ensures { result ≡ forcedS p f }
-{
-    let run = p.run;
-    Point {
-        run: run,
-        steps: p.steps,
-        windows: p.windows,
-        choices: p.choices,
-        forced: f,
-    }
-}
-
 // Comes back to the checkpoint that ends before mark w, with the outcomes of choices up to number k forced: what stands in the memory is what stood when it was saved.
 pub fn restore(mem: &mut [u32], cells: usize, w: usize, k: usize) -> Point
     requires { EndsBefore cells mem.old w × (cells ≤ frame_cells) × Room mem.old w }
     ensures { (m₀ : List ℕ) (p : point.Point) (v : ℕ) → w ≡ v + size_of cells p → Saved cells mem.old m₀ p v → Agrees mem.old m₀ p → Restored mem.old m₀ mem.new p result (k - p.choices) }
 {
     let p = point_at(mem, w - NUMBERS);
-    let run = p.run;
     let n = size_of(p, cells);
     restore_pairs(mem, p, cells, w - n);
-    paths::all_ranges(mem, p.windows, run.nodes);
-    force(p, ints::monus(k, p.choices))
+    paths::all_ranges(mem, p.windows, p.run.nodes);
+    Point {
+        forced: k.saturating_sub(p.choices),
+        ..p
+    }
 }

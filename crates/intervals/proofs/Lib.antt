@@ -1,2 +1,3 @@
 pub mod Undecided
 pub mod Narrow
+pub mod Windows

@@ -1,21 +1,28 @@
 -- What narrowing keeps, by the cases that the code tells apart, and what fits 32 bits there.
-use mathlib.Core.Path.{◌≡◌, refl, sym, ap, ap₂, ◌∙◌, subst}
-use mathlib.Core.Bool.{true, false}
+use mathlib.Core.Path.{◌≡◌, refl, sym, ap₂, ◌∙◌, subst}
+use mathlib.Core.Bool.{Bool, true, false, not, cond}
 use mathlib.Core.Option.{none}
 use native.Mathlib.Omega.{arith}
 use lib.IntN.{ℤ, pos, suc_ℤ, pred_ℤ, ◌+ℤ◌, ◌-ℤ◌, +ℤ_one, -ℤ_one}
-use lib.Signed.{lt_z, le_z}
+use lib.Signed.{le_z}
 use lib.Dec.{T, not_T}
 use mir.Syntax.{w32}
 use mir.Val.{SFits}
-use Rattle.semantics.specs.Int.{lt, le, gt, ge, eq, ne, eq_z}
+use Rattle.std.specs.Int.{int_min, int_max}
+use Rattle.semantics.specs.Int.{eq, ne, eq_z}
 use Rattle.semantics.specs.Program.{Window}
 use Rattle.semantics.specs.Search.{to, min_z, max_z, decided, clip}
-use Rattle.semantics.proofs.Order.{◌≼◌, ◌≺◌, cond_cases, le_z→, →leZ, lt_z→, nlt_z→, nle_z→, antisym, eq_z→, eq_z-refl, of-suc, of-pred}
+use Rattle.semantics.proofs.Order.{◌≼◌, ◌≺◌, cond_cases, le_z→, →leZ, antisym, eq_z→, eq_z-refl, of-suc, of-pred}
 use Rattle.ints.proofs.Fits.{within, fits}
-use Rattle.intervals.proofs.Undecided.{yes, no, false_of, true_of, around}
+use Rattle.intervals.proofs.Undecided.{not-le, false_of, true_of, around}
 
 -- ---- one more and one less
+
+pub less-one : (k : ℤ) → k -ℤ pos 1 ≡ pred_ℤ k
+less-one k = -ℤ_one k
+
+pub more-one : (k : ℤ) → k +ℤ pos 1 ≡ suc_ℤ k
+more-one k = +ℤ_one k
 
 pub pred_fits : (l k : ℤ) → SFits w32 l → SFits w32 k → l ≺ k → SFits w32 (k -ℤ pos 1)
 pred_fits l k f g h = subst (SFits w32) (sym (-ℤ_one k)) (fits (pred_ℤ k) (omega (arith, of-pred k, within k g)) (omega (arith, of-pred k, within l f)))
@@ -23,12 +30,26 @@ pred_fits l k f g h = subst (SFits w32) (sym (-ℤ_one k)) (fits (pred_ℤ k) (o
 pub suc-fits : (k h : ℤ) → SFits w32 k → SFits w32 h → k ≺ h → SFits w32 (k +ℤ pos 1)
 suc-fits k h f g l = subst (SFits w32) (sym (+ℤ_one k)) (fits (suc_ℤ k) (omega (arith, of-suc k, within h g)) (omega (arith, of-suc k, within k f)))
 
--- ---- the least and the greatest of two, where the order is known
+-- ---- the least and the greatest of two
 
-min-first : (a b : ℤ) → a ≼ b → min_z a b ≡ a
+-- those of the library are those of `semantics`
+pub min-is : (a b : ℤ) → int_min a b ≡ min_z a b
 unfolding min_z
-min-first a b h = rw (true_of (le_z a b) (→leZ a b h))
+min-is a b = rw (not-le a b) (go (le_z a b))
+  where
+    go : (t : Bool) → cond (not t) b a ≡ cond t a b
+    go true = refl
+    go false = refl
 
+pub max-is : (a b : ℤ) → int_max a b ≡ max_z a b
+unfolding max_z
+max-is a b = rw (not-le a b) (go (le_z a b))
+  where
+    go : (t : Bool) → cond (not t) a b ≡ cond t b a
+    go true = refl
+    go false = refl
+
+-- where the order is known
 min-second : (a b : ℤ) → b ≼ a → min_z a b ≡ b
 unfolding min_z
 min-second a b h = cond_cases (le_z a b) (λ (m : ℤ). m ≡ b) (λ t. antisym a b (le_z→ a b t) h) (λ t. refl)
@@ -37,48 +58,12 @@ max-second : (a b : ℤ) → a ≼ b → max_z a b ≡ b
 unfolding max_z
 max-second a b h = rw (true_of (le_z a b) (→leZ a b h))
 
-max-first : (a b : ℤ) → b ≼ a → max_z a b ≡ a
-unfolding max_z
-max-first a b h = cond_cases (le_z a b) (λ (m : ℤ). m ≡ a) (λ t. antisym b a h (le_z→ a b t)) (λ t. refl)
-
 -- ---- the cases
 
 pub same : (a b : ℤ) → a ≡ b → eq_z a b ≡ true
 same a b e = true_of (eq_z a b) (subst (λ (z : ℤ). T (eq_z a z)) e (eq_z-refl a))
 
 module _ (w : Window) (k : ℤ) where
-  pub lt-kept : lt_z w.high k ≡ true → clip lt k w ≡ w
-  unfolding clip
-  lt-kept e = ap (to w.low) (min-first w.high (pred_ℤ k) (omega (arith, of-pred k, lt_z→ w.high k (yes e))))
-
-  pub lt-cut : lt_z w.high k ≡ false → clip lt k w ≡ to w.low (k -ℤ pos 1)
-  unfolding clip
-  lt-cut e = ap (to w.low) (min-second w.high (pred_ℤ k) (omega (arith, of-pred k, nlt_z→ w.high k (no e))) ∙ sym (-ℤ_one k))
-
-  pub le-kept : le_z w.high k ≡ true → clip le k w ≡ w
-  unfolding clip
-  le-kept e = ap (to w.low) (min-first w.high k (le_z→ w.high k (yes e)))
-
-  pub le-cut : le_z w.high k ≡ false → clip le k w ≡ to w.low k
-  unfolding clip
-  le-cut e = ap (to w.low) (min-second w.high k (omega (arith, nle_z→ w.high k (no e))))
-
-  pub gt-cut : le_z w.low k ≡ true → clip gt k w ≡ to (k +ℤ pos 1) w.high
-  unfolding clip
-  gt-cut e = ap (λ (l : ℤ). to l w.high) (max-second w.low (suc_ℤ k) (omega (arith, of-suc k, le_z→ w.low k (yes e))) ∙ sym (+ℤ_one k))
-
-  pub gt-kept : le_z w.low k ≡ false → clip gt k w ≡ w
-  unfolding clip
-  gt-kept e = ap (λ (l : ℤ). to l w.high) (max-first w.low (suc_ℤ k) (omega (arith, of-suc k, nle_z→ w.low k (no e))))
-
-  pub ge-cut : le_z w.low k ≡ true → clip ge k w ≡ to k w.high
-  unfolding clip
-  ge-cut e = ap (λ (l : ℤ). to l w.high) (max-second w.low k (le_z→ w.low k (yes e)))
-
-  pub ge-kept : le_z w.low k ≡ false → clip ge k w ≡ w
-  unfolding clip
-  ge-kept e = ap (λ (l : ℤ). to l w.high) (max-first w.low k (omega (arith, nle_z→ w.low k (no e))))
-
   pub eq-cut : decided eq w (to k k) ≡ none → clip eq k w ≡ to k k
   unfolding clip
   eq-cut e =

@@ -5,93 +5,94 @@ ghost use Rattle.std.specs.Prelude.{◌≡◌};
 ghost use Rattle.std.proofs.Math.Option.{none};
 ghost use Rattle.semantics.specs.Int.{lt, le, gt, ge, eq, ne};
 ghost use Rattle.semantics.specs.Search.{to, decided, clip};
-ghost use Rattle.ints.specs.Numbers.{comparison};
-ghost use Rattle.intervals.specs.Meaning.{of_window, of_pair};
+ghost use Rattle.ints.specs.Meaning.{of_comparison};
+ghost use Rattle.intervals.specs.Meaning.{of_window};
+
+use ints::Comparison;
 
 // From low to high; none, where low is above high.
-#[derive(Clone, Copy)]
+#[derive(Clone, Copy, PartialEq, Eq, Debug)]
 pub struct Window {
     pub low: i32,
     pub high: i32,
 }
 
-// A window narrows by a comparison with a number that the ranges do not decide: each method hands back the narrowed pair.
+// A window narrows by a comparison with a number that the ranges do not decide: each method hands back the narrowed window.
 impl Window {
-    pub fn below(self, k: i32) -> [i32; 2]
+    pub fn below(self, k: i32) -> Window
         requires { decided lt (of_window self) (to k k) ≡ none }
-        ensures { of_pair result ≡ clip lt k (of_window self) }
+        ensures { of_window result ≡ clip lt k (of_window self) }
     {
-        if self.high < k {
-            [self.low, self.high]
-        } else {
-            [self.low, k - 1]
+        Window {
+            high: self.high.min(k - 1),
+            ..self
         }
     }
 
-    pub fn at_most(self, k: i32) -> [i32; 2]
-        ensures { of_pair result ≡ clip le k (of_window self) }
+    pub fn at_most(self, k: i32) -> Window
+        ensures { of_window result ≡ clip le k (of_window self) }
     {
-        if self.high <= k {
-            [self.low, self.high]
-        } else {
-            [self.low, k]
+        Window {
+            high: self.high.min(k),
+            ..self
         }
     }
 
-    pub fn above(self, k: i32) -> [i32; 2]
+    pub fn above(self, k: i32) -> Window
         requires { decided gt (of_window self) (to k k) ≡ none }
-        ensures { of_pair result ≡ clip gt k (of_window self) }
+        ensures { of_window result ≡ clip gt k (of_window self) }
     {
-        if self.low <= k {
-            [k + 1, self.high]
-        } else {
-            [self.low, self.high]
+        Window {
+            low: self.low.max(k + 1),
+            ..self
         }
     }
 
-    pub fn at_least(self, k: i32) -> [i32; 2]
-        ensures { of_pair result ≡ clip ge k (of_window self) }
+    pub fn at_least(self, k: i32) -> Window
+        ensures { of_window result ≡ clip ge k (of_window self) }
     {
-        if self.low <= k {
-            [k, self.high]
-        } else {
-            [self.low, self.high]
+        Window {
+            low: self.low.max(k),
+            ..self
         }
     }
 
-    pub fn only(self, k: i32) -> [i32; 2]
+    pub fn only(self, k: i32) -> Window
         requires { decided eq (of_window self) (to k k) ≡ none }
-        ensures { of_pair result ≡ clip eq k (of_window self) }
+        ensures { of_window result ≡ clip eq k (of_window self) }
     {
-        [k, k]
+        Window { low: k, high: k }
     }
 
     // Only an end goes.
-    pub fn without(self, k: i32) -> [i32; 2]
+    pub fn without(self, k: i32) -> Window
         requires { decided ne (of_window self) (to k k) ≡ none }
-        ensures { of_pair result ≡ clip ne k (of_window self) }
+        ensures { of_window result ≡ clip ne k (of_window self) }
     {
         if self.low == k {
-            return [k + 1, self.high];
+            Window { low: k + 1, ..self }
+        } else if self.high == k {
+            Window {
+                high: k - 1,
+                ..self
+            }
+        } else {
+            self
         }
-        if self.high == k {
-            return [self.low, k - 1];
-        }
-        [self.low, self.high]
     }
 
-    // By the comparison with this number.
-    pub fn narrow(self, c: u32, k: i32) -> [i32; 2]
-        requires { decided (comparison c) (of_window self) (to k k) ≡ none }
-        ensures { of_pair result ≡ clip (comparison c) k (of_window self) }
+    // By a comparison.
+    pub fn narrow(self, c: Comparison, k: i32) -> Window
+        requires { decided (of_comparison c) (of_window self) (to k k) ≡ none }
+        ensures { of_window result ≡ clip (of_comparison c) k (of_window self) }
     {
         match c {
-            0 => self.below(k),
-            1 => self.at_most(k),
-            2 => self.above(k),
-            3 => self.at_least(k),
-            4 => self.only(k),
-            _ => self.without(k),
+            Comparison::Less => self.below(k),
+            Comparison::AtMost => self.at_most(k),
+            Comparison::Greater => self.above(k),
+            Comparison::AtLeast => self.at_least(k),
+            Comparison::Equal => self.only(k),
+            Comparison::Unequal => self.without(k),
         }
     }
 }

@@ -1,9 +1,6 @@
 -- The 32 bits of a number: low bits of sums, differences and products, and the casts between words and numbers.
-use Rattle.std.proofs.Common.{◌≡◌, ℕ, zero, suc, ◌+◌, ◌-◌, ◌*◌, ◌%◌, ◌^◌, ◌<◌, ◌≤◌, Bool, true, false, cond, T, ltb, ℤ, pos, negsuc, ◌+ℤ◌, ◌-ℤ◌, ◌*ℤ◌, neg_ℤ, nat_abs, sym, refl, ap, ◌∙◌, subst, true≢false, le_trans, mul-le-mul_right, add-mul, mul-le-mul_left, mul-add, arith, w32, w64, Fits, SFits, to_z, of_z, ltb-false, ltb-true, le-ltb, lt-ltb}
+use Rattle.std.proofs.Common.{◌≡◌, ℕ, zero, suc, ◌+◌, ◌-◌, ◌*◌, ◌%◌, ◌^◌, ◌<◌, ◌≤◌, Bool, true, false, cond, ltb, ℤ, pos, negsuc, ◌+ℤ◌, ◌-ℤ◌, ◌*ℤ◌, neg_ℤ, refl, ◌∙◌, add-mul, mul-add, arith, w32, SFits, of_z, ltb-false, ltb-true}
 use lib.IntN.{sub_ℕ}
-use lib.Signed.{lt_z, non_neg}
-use mir.ValLaws.{to_z_pos}
-use mir.Val.{sel}
 use Rattle.semantics.specs.Int.{low32}
 
 -- ---- the low 32 bits of an exact result
@@ -32,9 +29,6 @@ sub_low (pos a) (negsuc b) f g = omega (arith, f.sfits, g.sfits)
 sub_low (negsuc a) (pos zero) f g = omega (arith, f.sfits, low-sub 0 (suc a) (omega (arith, f.sfits)))
 sub_low (negsuc a) (pos (suc b)) f g = omega (arith, f.sfits, g.sfits)
 sub_low (negsuc a) (negsuc b) f g = omega (arith, f.sfits, g.sfits, low-sub (suc b) (suc a) (omega (arith, f.sfits)))
-
-pub sub_same : (r l y x : ℕ) → r < 2 ^ 32 → l < 2 ^ 32 → (r + y) % 2 ^ 32 ≡ x → (l + y) % 2 ^ 32 ≡ x → r ≡ l
-sub_same r l y x f g p q = omega arith
 
 pub low-lt : (z : ℤ) → low32 z < 2 ^ 32
 unfolding low32
@@ -73,49 +67,8 @@ mul_low (negsuc a) (negsuc b) f g =
     let h₁ : 2 ^ 32 * suc b ≡ p * suc b + suc a * suc b = rw e at h in
     omega arith
 
-pub word-prod : (a b : ℕ) → a < 2 ^ 32 → b < 2 ^ 32 → a * b < 2 ^ 64
-word-prod a b f g =
-    let h : a * b ≤ (2 ^ 32 - 1) * (2 ^ 32 - 1) = le_trans (mul-le-mul_left {m = b} {n = 2 ^ 32 - 1} a (omega arith)) (mul-le-mul_right {m = a} {n = 2 ^ 32 - 1} (2 ^ 32 - 1) (omega arith)) in
-    omega arith
-
 -- ---- words and numbers
 
 pub bits-lt : (x : ℤ) → SFits w32 x → of_z w32 x < 2 ^ 32
 bits-lt (pos n) f = omega (arith, f.sfits)
 bits-lt (negsuc n) f = omega arith
-
--- the bits of a negative number, by way of 64 bits
-pub neg_word : (x : ℤ) → SFits w32 x → lt_z x (pos 0) ≡ true → x +ℤ pos (2 ^ 32) ≡ pos (of_z w32 x)
-neg_word (pos n) f e = absurd (omega (arith, ltb-true n 0 e))
-neg_word (negsuc n) f e = go (ltb (2 ^ 32) (suc n)) refl
-  where
-    go : (t : Bool) → ltb (2 ^ 32) (suc n) ≡ t → cond t (negsuc (suc n - suc (2 ^ 32))) (pos (2 ^ 32 - suc n)) ≡ pos (2 ^ 32 - suc n)
-    go true q = absurd (omega (arith, ltb-true (2 ^ 32) (suc n) q, f.sfits))
-    go false q = refl
-
-pub pos_word : (x : ℤ) → lt_z x (pos 0) ≡ false → x ≡ pos (of_z w32 x)
-pos_word (pos n) e = refl
-pos_word (negsuc n) e = absurd (true≢false e)
-
--- a word read back from 64 bits, as the machine's casts ask
-word_at : (n : ℕ) → n < 2 ^ 32 → to_z w64 n ≡ pos n
-word_at n h = to_z_pos w64 n (omega arith)
-
-pub word-cast : (n : ℕ) → n < 2 ^ 32 → T (non_neg (to_z w64 n)) × Fits w32 (nat_abs (to_z w64 n))
-word-cast n h = (subst (λ (z : ℤ). T (non_neg z)) (sym (word_at n h)) tt, subst (λ (z : ℤ). Fits w32 (nat_abs z)) (sym (word_at n h)) (record { fits = h }))
-
-pub word-abs : (n : ℕ) → n < 2 ^ 32 → nat_abs (to_z w64 n) ≡ n
-word-abs n h = ap nat_abs (word_at n h)
-
-pub pos-cast : (x : ℤ) → SFits w32 x → lt_z x (pos 0) ≡ false → T (non_neg x) × Fits w32 (nat_abs x)
-pos-cast (pos n) f e = (tt, record { fits = omega (arith, f.sfits) })
-pos-cast (negsuc n) f e = absurd (true≢false e)
-
--- a word with its top bit set, less 2 ^ 32
-pub high_word : (n : ℕ) → 2 ^ 31 ≤ n → n < 2 ^ 32 → to_z w64 n -ℤ pos (2 ^ 32) ≡ to_z w32 n
-high_word n h k = ap (λ (z : ℤ). z -ℤ pos (2 ^ 32)) (word_at n k) ∙ go (ltb n (2 ^ 32)) (lt-ltb n (2 ^ 32) k) (ltb n (2 ^ 31)) (le-ltb n (2 ^ 31) h)
-  where
-    go : (t : Bool) → t ≡ true → (u : Bool) → u ≡ false → cond t (negsuc (2 ^ 32 - suc n)) (pos (n - 2 ^ 32)) ≡ sel u (pos n) (negsuc (2 ^ 32 - suc n))
-    go true p true q = absurd (true≢false q)
-    go true p false q = refl
-    go false p u q = absurd (true≢false (sym p))

@@ -41,9 +41,6 @@ mag-neg (pos zero) = omega arith
 mag-neg (pos (suc n)) = omega arith
 mag-neg (negsuc n) = omega arith
 
-pub add-fits : (a b : ℤ) → mag a < 2 ^ 61 → mag b < 2 ^ 61 → SFits w64 (a +ℤ b)
-add-fits a b f g = record { sfits = omega (arith, mag-add a b) }
-
 pub sub-fits : (a b : ℤ) → mag a < 2 ^ 61 → mag b < 2 ^ 61 → SFits w64 (a -ℤ b)
 sub-fits a b f g = record { sfits = omega (arith, mag-add a (neg_ℤ b), mag-neg b) }
 

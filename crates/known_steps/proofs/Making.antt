@@ -1,4 +1,5 @@
 -- One turn: what an entry did that makes no node is a turn of the path, within the limits.
+use Rattle.std.specs.Prelude.{Some}
 use mathlib.Core.Path.{◌≡◌, refl, sym, subst}
 use mathlib.Core.Bool.{Bool, false}
 use mathlib.Core.List.{List}
@@ -27,8 +28,7 @@ use Rattle.paths.proofs.Stays.{stays-none, stays-kept}
 use Rattle.paths.proofs.Comparing.{compared-so}
 use Rattle.paths.proofs.Turning.{step-on, spent-standing, test_on}
 use Rattle.paths.proofs.Keeping.{standing-kept, growing-kept, silent-on, onwards, turned, test-turned}
-use Rattle.known_steps.specs.declared.Next.{Next}
-use Rattle.known_steps.specs.Turns.{silent, step, Made, OneOrTwo, once, made, stopped, One, one, no}
+use Rattle.known_steps.specs.Turns.{silent, step, Made, OneOrTwo, once, One, one}
 use Rattle.known_steps.proofs.Decided.{decided-known}
 
 module _ (c : Code) (m : List ℕ) (p : Point) (g : Going m p) where
@@ -103,11 +103,8 @@ module _ (c : Code) (m : List ℕ) (p : Point) (g : Going m p) where
 
 -- ---- what one turn answers
 
-pub one-both : (c : Code) (m m' : List ℕ) (p : Point) (floor : ℕ) (r : Next) (q : Point) → r ≡ made q → OneOrTwo c m m' p q → floor ≤ q.steps → One c m m' p floor r
-one-both c m m' p floor r q e h l = subst (One c m m' p floor) (sym e) (one refl h l)
+pub one-both : (c : Code) (m m' : List ℕ) (p : Point) (floor : ℕ) (r q : Point) → r ≡ q → OneOrTwo c m m' p q → floor ≤ q.steps → One c m m' p floor (Some r)
+one-both c m m' p floor r q e h l = subst (λ (q : Point). One c m m' p floor (Some q)) (sym e) (one h l)
 
-pub one-made : (c : Code) (m m' : List ℕ) (p : Point) (floor : ℕ) (r : Next) (q : Point) → r ≡ made q → Made c m m' p q → floor ≤ q.steps → One c m m' p floor r
+pub one-made : (c : Code) (m m' : List ℕ) (p : Point) (floor : ℕ) (r q : Point) → r ≡ q → Made c m m' p q → floor ≤ q.steps → One c m m' p floor (Some r)
 one-made c m m' p floor r q e h l = one-both c m m' p floor r q e (once h) l
-
-pub one-not : (c : Code) (m m' : List ℕ) (p : Point) (floor : ℕ) (r : Next) → r ≡ stopped p → m' ≡ m → One c m m' p floor r
-one-not c m m' p floor r e h = subst (One c m m' p floor) (sym e) (no refl h)

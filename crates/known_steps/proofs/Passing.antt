@@ -1,6 +1,7 @@
 -- Turn after turn.
+use Rattle.std.specs.Prelude.{Option, Some, None}
 use mathlib.Core.Path.{◌≡◌, refl, sym, ap, ap₂, ◌∙◌, subst}
-use mathlib.Core.Bool.{Bool, true, false, true≢false}
+use mathlib.Core.Bool.{Bool}
 use mathlib.Core.List.{List}
 use Prim.Native.Nat.{ℕ, zero, suc, ◌-◌, ◌≤◌, ◌<◌}
 use native.Mathlib.Omega.{arith}
@@ -11,19 +12,22 @@ use Rattle.machine.specs.Memory.{machine_at}
 use Rattle.paths.specs.declared.Point.{Point}
 use Rattle.paths.specs.Point.{state_at, Going}
 use Rattle.paths.proofs.Keeping.{nearer-of}
-use Rattle.known_steps.specs.declared.Next.{Next}
 use Rattle.known_steps.specs.Turns.{Paces, silent, step, Made, Turns, none, more, OneOrTwo, once, twice, One, one, no, moves}
 
 -- ---- one turn
 
-module _ (c : Code) (m m' : List ℕ) (p : Point) (floor : ℕ) (r : Next) where
-  pub one-yes : One c m m' p floor r → r.on ≡ true → OneOrTwo c m m' p r.point × (floor ≤ r.point.steps)
-  one-yes (one e h l) t = (h, l)
-  one-yes (no e h) t = absurd (true≢false (sym t ∙ e))
+module _ (c : Code) (m m' : List ℕ) (p : Point) (floor : ℕ) where
+  one-is : {q : Point} → One c m m' p floor (Some q) → OneOrTwo c m m' p q × (floor ≤ q.steps)
+  one-is (one h l) = (h, l)
 
-  pub one-nothing : One c m m' p floor r → r.on ≡ false → m' ≡ m
-  one-nothing (one e h l) t = absurd (true≢false (sym e ∙ t))
-  one-nothing (no e h) t = h
+  pub one-yes : {r : Option Point} → One c m m' p floor r → (q : Point) → r ≡ Some q → OneOrTwo c m m' p q × (floor ≤ q.steps)
+  one-yes h q e = one-is (subst (One c m m' p floor) e h)
+
+  no-is : One c m m' p floor None → m' ≡ m
+  no-is (no h) = h
+
+  pub one-nothing : {r : Option Point} → One c m m' p floor r → r ≡ None → m' ≡ m
+  one-nothing h e = no-is (subst (One c m m' p floor) e h)
 
 -- after a turn the end is nearer
 pub nearer : (c : Code) (m m' : List ℕ) (p q : Point) → Going m p → Made c m m' p q → turns_left c (machine_at m' q.run) (state_at m' q) < turns_left c (machine_at m p.run) (state_at m p)

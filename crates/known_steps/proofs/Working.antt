@@ -27,8 +27,7 @@ use Rattle.paths.specs.declared.Point.{Point}
 use Rattle.paths.specs.Point.{Going, running}
 use Rattle.paths.specs.Turn.{spending}
 use Rattle.known_steps.specs.Cells.{value_as}
-use Rattle.known_steps.specs.declared.Next.{Next}
-use Rattle.known_steps.specs.Turns.{Made, Result, made}
+use Rattle.known_steps.specs.Turns.{Made, Result}
 use Rattle.known_steps.proofs.Cells.{cell_as, sized-as}
 use Rattle.known_steps.proofs.Making.{silent-made, step-made, test-made}
 
@@ -99,5 +98,5 @@ module _ (ws : List ℕ) (size : ℕ) (m : List ℕ) (p : Point) (g : Going m p)
     cell = subst (λ (i : ℕ). cell_at m' (temp_place i) ≡ cell_read_as 0 v) {x = t} {y = t + 1 - 1} (omega arith) put.cell;
   }
 
-  pub op-left : (n : Next) → n ≡ made after → Made (code_in ws size) m m' p n.point × Result ws m' n.point v
-  op-left n q = subst (λ (n : Next). Made (code_in ws size) m m' p n.point × Result ws m' n.point v) (sym q) (op-made ws size m p g inside kind w k-is w-is l x y t pair a b v f e m' len put, left)
+  pub op-left : (n : Point) → n ≡ after → Made (code_in ws size) m m' p n × Result ws m' n v
+  op-left n q = subst (λ (n : Point). Made (code_in ws size) m m' p n × Result ws m' n v) (sym q) (op-made ws size m p g inside kind w k-is w-is l x y t pair a b v f e m' len put, left)

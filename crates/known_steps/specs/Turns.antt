@@ -1,5 +1,5 @@
 -- Turns of a path, one after another.
-use Rattle.std.specs.Prelude.{ℕ, zero, suc, ◌+◌, ◌-◌, ◌*◌, ◌≤◌, ◌<◌, ◌≡◌, Bool, true, false, List, eqb, get_or}
+use Rattle.std.specs.Prelude.{ℕ, zero, suc, ◌+◌, ◌-◌, ◌*◌, ◌≤◌, ◌<◌, ◌≡◌, Bool, false, List, eqb, get_or, Option, Some, None}
 use Rattle.std.proofs.Math.ListN as lists
 use Rattle.semantics.specs.Program.{Window}
 use Rattle.semantics.specs.Search.{in_use}
@@ -11,7 +11,6 @@ use Rattle.machine.specs.Memory.{cell_read_as, cell_at, machine_at}
 use Rattle.paths.specs.declared.Point.{Point}
 use Rattle.paths.specs.Point.{state_at, Going, Stays}
 use Rattle.paths.specs.Turn.{Onward}
-use Rattle.known_steps.specs.declared.Next.{Next}
 
 -- a turn without a step is no move; one with a step is a move where no outcome is forced
 pub data Paces (p : Point) (move : Bool) (q : Point) : Type 0 where
@@ -48,15 +47,9 @@ pub record Result (words m : List ℕ) (p : Point) (v : ℕ) : Type 0 where
   pub cell : cell_at m (temp_place (p.run.top - 1)) ≡ cell_read_as 0 v
 
 -- a turn was made, or there is none of this kind
-abbrev pub made : Point → Next
-made q = record { on = true; point = q }
-
-abbrev pub stopped : Point → Next
-stopped p = record { on = false; point = p }
-
-pub data One (c : Code) (m m' : List ℕ) (p : Point) (floor : ℕ) (r : Next) : Type 0 where
-  one : r.on ≡ true → OneOrTwo c m m' p r.point → floor ≤ r.point.steps → One c m m' p floor r
-  no : r.on ≡ false → m' ≡ m → One c m m' p floor r
+pub data One (c : Code) (m m' : List ℕ) (p : Point) (floor : ℕ) : Option Point → Type 0 where
+  one : {q : Point} → OneOrTwo c m m' p q → floor ≤ q.steps → One c m m' p floor (Some q)
+  no : m' ≡ m → One c m m' p floor None
 
 -- ---- what the moves cost
 

@@ -1,20 +1,19 @@
 // Turns that choose nothing and add no node, in a loop of their own: values stay words, and nothing but the point goes from turn to turn.
 #![tactic(auto)]
 
-ghost use Rattle.std.specs.Prelude.{◌≡◌, true, ℕ, ◌+◌, ◌-◌, ◌*◌, ◌<◌, ◌≤◌, length, get_or, List};
+ghost use Rattle.std.specs.Prelude.{◌≡◌, ℕ, ◌+◌, ◌-◌, ◌*◌, ◌<◌, ◌≤◌, length, get_or, List, IfSome};
 ghost use Rattle.std.specs.Int.{w32};
 ghost use Rattle.std.proofs.Common.{to_z};
 ghost use Rattle.semantics.specs.Int.{arith, holds as holds_of};
 ghost use Rattle.simulation.specs.Words.{c_add, c_call, c_store, code_in};
 ghost use Rattle.ints.specs.Numbers.{operation, comparison};
 ghost use Rattle.machine.specs.Memory.{cell_read_as};
-ghost use Rattle.machine.specs.Terms.{Ready, Put, Popped, Taking, Paired, moved as movedS};
+ghost use Rattle.machine.specs.Terms.{Ready, Put, Popped, Taking, Paired};
 ghost use Rattle.machine.specs.declared.Value.TheVariants.{Known};
 ghost use Rattle.paths.specs.declared.Point as point;
-ghost use Rattle.paths.specs.Point.{Going, running};
-ghost use Rattle.paths.specs.Turn.{spending};
+ghost use Rattle.paths.specs.Point.{Going};
 ghost use Rattle.known_steps.specs.Cells.{value_as};
-ghost use Rattle.known_steps.specs.Turns.{Turns, Made, OneOrTwo, Result, made, stopped, One, moves, Passes};
+ghost use Rattle.known_steps.specs.Turns.{Turns, Made, OneOrTwo, Result, One, moves, Passes};
 
 use code::entry;
 use machine::{Run, layout};
@@ -31,20 +30,12 @@ struct Operand {
     top: usize,
 }
 
-// Two operands: whether both are known, their words, and where the temporaries end without them.
+// Two known operands: their words, and where the temporaries end without them.
 #[derive(Drop)]
 struct Operands {
-    known: bool,
     left: u32,
     right: u32,
     top: usize,
-}
-
-// Whether a turn was made, and the point after it.
-#[derive(Drop)]
-pub struct Next {
-    pub on: bool,
-    pub point: Point,
 }
 
 // The point after turns, and what is left of the budget.
@@ -79,10 +70,7 @@ fn take(code: &[u32], size: usize, mem: &[u32], run: Run, j: usize) -> Operand
     requires { (2 * size ≤ length code.now) × Ready mem.now run }
     ensures { Taking (code_in code.now size) mem.now run j (value_as result.kind result.word) result.top }
 {
-    if j == 0 {
-        return pop(mem, run);
-    }
-    if size < j {
+    if j == 0 || size < j {
         return pop(mem, run);
     }
     let k = code[entry::WORDS * (j - 1)];
@@ -105,35 +93,25 @@ fn take(code: &[u32], size: usize, mem: &[u32], run: Run, j: usize) -> Operand
     pop(mem, run)
 }
 
-// The two operands of the next entry, the right one of which has d entries.
-fn pair(code: &[u32], size: usize, mem: &[u32], run: Run, d: usize) -> Operands
+// The two operands of the next entry, the right one of which has d entries; none, where one of them is open.
+fn pair(code: &[u32], size: usize, mem: &[u32], run: Run, d: usize) -> Option<Operands>
     requires { (2 * size ≤ length code.now) × Ready mem.now run }
-    ensures { result.known ≡ true → Paired (code_in code.now size) mem.now run d (Known (to_z w32 result.left)) (Known (to_z w32 result.right)) result.top }
+    ensures { IfSome result (λ b. Paired (code_in code.now size) mem.now run d (Known (to_z w32 b.left)) (Known (to_z w32 b.right)) b.top) }
 {
-    let b = take(code, size, mem, run, run.pc);
+    let right = take(code, size, mem, run, run.pc);
     let rest = Run {
-        pc: run.pc,
-        flag: run.flag,
-        base: run.base,
-        top: b.top,
-        depth: run.depth,
-        nodes: run.nodes,
+        top: right.top,
+        ..run
     };
-    let a = take(code, size, mem, rest, ints::monus(run.pc, d));
-    if b.kind == 0 {
-        return Operands {
-            known: a.kind == 0,
-            left: a.word,
-            right: b.word,
-            top: a.top,
-        };
+    let left = take(code, size, mem, rest, run.pc.saturating_sub(d));
+    if left.kind == 0 && right.kind == 0 {
+        return Some(Operands {
+            left: left.word,
+            right: right.word,
+            top: left.top,
+        });
     }
-    Operands {
-        known: false,
-        left: 0,
-        right: 0,
-        top: run.top,
-    }
+    None
 }
 
 // Writes a cell, by its two words.
@@ -166,80 +144,13 @@ fn holds(c: u32, x: u32, y: u32) -> bool
     ints::holds(c, ints::signed(x), ints::signed(y))
 }
 
-// No turn.
-fn stop(p: Point) -> Next
-    ensures { result ≡ stopped p }
-{
-    Next {
-        on: false,
-        point: p,
-    }
-}
-
-// A turn without a step, after which the run is this.
-fn silent(p: Point, run: Run) -> Next
-    ensures { result ≡ made (running p run) }
-{
-    Next {
-        on: true,
-        point: Point {
-            run: run,
-            steps: p.steps,
-            windows: p.windows,
-            choices: p.choices,
-            forced: p.forced,
-        },
-    }
-}
-
-// A turn with a step.
-fn step(p: Point, run: Run) -> Next
-    requires { 1 ≤ p.steps }
-    ensures { result ≡ made (spending p run) }
-{
-    Next {
-        on: true,
-        point: Point {
-            run: run,
-            steps: p.steps - 1,
-            windows: p.windows,
-            choices: p.choices,
-            forced: p.forced,
-        },
-    }
-}
-
-// The same run at another entry.
-fn moved(run: Run, pc: usize) -> Run
-    ensures { result ≡ movedS run pc }
-{
-    Run {
-        pc: pc,
-        flag: run.flag,
-        base: run.base,
-        top: run.top,
-        depth: run.depth,
-        nodes: run.nodes,
-    }
-}
-
-// A turn was made, up to the point p.
-fn go(p: Point) -> Next
-    ensures { result ≡ made p }
-{
-    Next { on: true, point: p }
-}
-
 // The assignment behind an operation whose value is v, if there is one.
 fn assign(code: &[u32], size: usize, mem: &mut [u32], p: Point, v: u32) -> Point
     requires { (2 * size ≤ length code.now) × (size < 65536) × Going mem.old p × Result code.now mem.old p v }
     ensures { ((m : List ℕ) (before : point.Point) → Made (code_in code.now size) m mem.old before p → OneOrTwo (code_in code.now size) m mem.new before result) × (result.steps ≡ p.steps) }
 {
     let run = p.run;
-    if size <= run.pc {
-        return p;
-    }
-    if code[entry::WORDS * run.pc] != entry::STORE {
+    if size <= run.pc || code[entry::WORDS * run.pc] != entry::STORE {
         return p;
     }
     let w = code[entry::WORDS * run.pc + entry::NUMBER_WORD] as usize;
@@ -249,21 +160,14 @@ fn assign(code: &[u32], size: usize, mem: &mut [u32], p: Point, v: u32) -> Point
         0,
         v,
     );
-    let next = silent(
-        p,
-        Run {
-            pc: run.pc + 1,
-            flag: run.flag,
-            base: run.base,
-            top: run.top - 1,
-            depth: run.depth,
-            nodes: run.nodes,
-        },
-    );
-    next.point
+    p.proceed(Run {
+        pc: run.pc + 1,
+        top: run.top - 1,
+        ..run
+    })
 }
 
-// An operation or a comparison, on known values.
+// An operation or a comparison, if its values are known.
 fn work(
     code: &[u32],
     size: usize,
@@ -272,48 +176,34 @@ fn work(
     floor: usize,
     kind: u32,
     d: usize,
-) -> Next
+) -> Option<Point>
     requires { (2 * size ≤ length code.now) × (size < 65536) × Going mem.old p × (p.run.pc < size) × (kind ≡ get_or code.now (2 * p.run.pc) 0) × (d ≡ get_or code.now (2 * p.run.pc + 1) 0) × (c_add ≤ kind) × (kind < c_call) × (floor < p.steps) }
     ensures { One (code_in code.now size) mem.old mem.new p floor result }
 {
     let run = p.run;
-    let b = pair(code, size, mem, run, d);
-    if b.known {
-        if kind < entry::COMPARE {
-            let v = operate(kind - entry::ADD, b.left, b.right);
-            put(mem, layout::TEMPORARIES + layout::STRIDE * b.top, 0, v);
-            let next = step(
-                p,
-                Run {
-                    pc: run.pc + 1,
-                    flag: run.flag,
-                    base: run.base,
-                    top: b.top + 1,
-                    depth: run.depth,
-                    nodes: run.nodes,
-                },
-            );
-            return go(assign(code, size, mem, next.point, v));
-        }
-        return step(
-            p,
-            Run {
-                pc: run.pc + 1,
-                flag: holds(kind - entry::COMPARE, b.left, b.right),
-                base: run.base,
-                top: b.top,
-                depth: run.depth,
-                nodes: run.nodes,
-            },
-        );
+    let b = pair(code, size, mem, run, d)?;
+    if kind < entry::COMPARE {
+        let v = operate(kind - entry::ADD, b.left, b.right);
+        put(mem, layout::TEMPORARIES + layout::STRIDE * b.top, 0, v);
+        let next = p.spend(Run {
+            pc: run.pc + 1,
+            top: b.top + 1,
+            ..run
+        });
+        return Some(assign(code, size, mem, next, v));
     }
-    stop(p)
+    Some(p.spend(Run {
+        pc: run.pc + 1,
+        flag: holds(kind - entry::COMPARE, b.left, b.right),
+        top: b.top,
+        ..run
+    }))
 }
 
 // An assignment.
-fn store(code: &[u32], size: usize, mem: &mut [u32], p: Point, floor: usize, w: usize) -> Next
-    requires { (2 * size ≤ length code.now) × (size < 65536) × Going mem.old p × (p.run.pc < size) × (get_or code.now (2 * p.run.pc) 0 ≡ c_store) × (w ≡ get_or code.now (2 * p.run.pc + 1) 0) × (floor ≤ p.steps) }
-    ensures { One (code_in code.now size) mem.old mem.new p floor result }
+fn store(code: &[u32], size: usize, mem: &mut [u32], p: Point, w: usize) -> Point
+    requires { (2 * size ≤ length code.now) × (size < 65536) × Going mem.old p × (p.run.pc < size) × (get_or code.now (2 * p.run.pc) 0 ≡ c_store) × (w ≡ get_or code.now (2 * p.run.pc + 1) 0) }
+    ensures { Made (code_in code.now size) mem.old mem.new p result × (result.steps ≡ p.steps) }
 {
     let run = p.run;
     let t = take(code, size, mem, run, run.pc);
@@ -323,17 +213,11 @@ fn store(code: &[u32], size: usize, mem: &mut [u32], p: Point, floor: usize, w: 
         first_word(t.kind),
         t.word,
     );
-    silent(
-        p,
-        Run {
-            pc: run.pc + 1,
-            flag: run.flag,
-            base: run.base,
-            top: t.top,
-            depth: run.depth,
-            nodes: run.nodes,
-        },
-    )
+    p.proceed(Run {
+        pc: run.pc + 1,
+        top: t.top,
+        ..run
+    })
 }
 
 // An entry behind the comparisons.
@@ -345,56 +229,64 @@ fn act(
     floor: usize,
     kind: u32,
     w: usize,
-) -> Next
+) -> Option<Point>
     requires { (2 * size ≤ length code.now) × (size < 65536) × Going mem.old p × (p.run.pc < size) × (kind ≡ get_or code.now (2 * p.run.pc) 0) × (w ≡ get_or code.now (2 * p.run.pc + 1) 0) × (w < 4294967296) × (floor ≤ p.steps) }
     ensures { One (code_in code.now size) mem.old mem.new p floor result }
 {
     let run = p.run;
     match kind {
-        entry::NEVER => silent(p, machine::flagged(run, false)),
-        entry::ALWAYS => silent(p, machine::flagged(run, true)),
-        entry::JUMP => silent(p, moved(run, machine::landing(run, false, w))),
-        entry::JUMP_TRUE => silent(p, moved(run, machine::landing(run, true, w))),
-        entry::SKIP => silent(p, moved(run, run.pc + 1 + w)),
-        entry::AGAIN => {
-            if p.steps == floor {
-                return stop(p);
-            }
-            step(p, moved(run, ints::monus(run.pc, w)))
-        }
-        entry::BEGIN => {
-            if p.steps == floor {
-                return stop(p);
-            }
-            step(p, moved(run, run.pc + 1))
-        }
-        entry::STORE => store(code, size, mem, p, floor, w),
-        _ => stop(p),
+        entry::NEVER => Some(p.proceed(machine::flagged(run, false))),
+        entry::ALWAYS => Some(p.proceed(machine::flagged(run, true))),
+        entry::JUMP => Some(p.proceed(Run {
+            pc: machine::landing(run, false, w),
+            ..run
+        })),
+        entry::JUMP_TRUE => Some(p.proceed(Run {
+            pc: machine::landing(run, true, w),
+            ..run
+        })),
+        entry::SKIP => Some(p.proceed(Run {
+            pc: run.pc + 1 + w,
+            ..run
+        })),
+        entry::AGAIN if floor < p.steps => Some(p.spend(Run {
+            pc: run.pc.saturating_sub(w),
+            ..run
+        })),
+        entry::BEGIN if floor < p.steps => Some(p.spend(Run {
+            pc: run.pc + 1,
+            ..run
+        })),
+        entry::STORE => Some(store(code, size, mem, p, w)),
+        _ => None,
     }
 }
 
 // One turn, if it is one of these and leaves no fewer steps than the floor.
-fn one(code: &[u32], size: usize, mem: &mut [u32], p: Point, floor: usize) -> Next
+fn one(code: &[u32], size: usize, mem: &mut [u32], p: Point, floor: usize) -> Option<Point>
     requires { (2 * size ≤ length code.now) × (size < 65536) × Going mem.old p × (floor ≤ p.steps) }
     ensures { One (code_in code.now size) mem.old mem.new p floor result }
 {
     let run = p.run;
     if size <= run.pc {
-        return stop(p);
+        return None;
     }
     let kind = code[entry::WORDS * run.pc];
+    if kind < entry::NUMBER {
+        return None;
+    }
     if kind < entry::ADD {
-        if kind < entry::NUMBER {
-            return stop(p);
-        }
-        return silent(p, moved(run, run.pc + 1));
+        return Some(p.proceed(Run {
+            pc: run.pc + 1,
+            ..run
+        }));
     }
     let w = code[entry::WORDS * run.pc + entry::NUMBER_WORD] as usize;
     if entry::COMPARE_LAST < kind {
         return act(code, size, mem, p, floor, kind, w);
     }
     if p.steps == floor {
-        return stop(p);
+        return None;
     }
     work(code, size, mem, p, floor, kind, w)
 }
@@ -405,14 +297,10 @@ fn make(code: &[u32], size: usize, mem: &mut [u32], begins: Point, floor: usize)
     ensures { Turns (code_in code.now size) mem.old begins mem.new result × Going mem.new result × (floor ≤ result.steps) }
 {
     let mut p = begins;
-    loop {
-        let next = one(code, size, mem, p, floor);
-        if next.on {
-            p = next.point;
-        } else {
-            return p;
-        }
+    while let Some(next) = one(code, size, mem, p, floor) {
+        p = next;
     }
+    p
 }
 
 // How many steps must be left where the budget pays for the moves.
@@ -420,9 +308,10 @@ fn floor_of(p: Point, left: u32) -> usize
     ensures { (result ≤ p.steps) × (moves p.forced (p.steps - result) ≤ left) }
 {
     if p.forced == 0 {
-        return ints::monus(p.steps, left as usize);
+        p.steps.saturating_sub(left as usize)
+    } else {
+        0
     }
-    0
 }
 
 // What is left of the budget after steps from the point p on.
@@ -431,9 +320,10 @@ fn left_of(p: Point, left: u32, steps: usize) -> u32
     ensures { result ≡ left - moves p.forced (p.steps - steps) }
 {
     if p.forced == 0 {
-        return left - (p.steps - steps) as u32;
+        left - (p.steps - steps) as u32
+    } else {
+        left
     }
-    left
 }
 
 // Turns on known values, as far as the budget pays for them.

@@ -3,7 +3,6 @@ use mathlib.Core.Path.{◌≡◌, refl, sym, ap, ap₂, ◌∙◌, subst, subst�
 use mathlib.Core.List.{List, [], ◌∷◌, ◌++◌, map}
 use mathlib.Core.Logic.{⊎_elim, ◌≢◌}
 use Prim.Native.Nat.{ℕ, zero, suc, ◌+◌, ◌-◌, ◌*◌, ◌≤◌, ◌<◌}
-use native.Mathlib.Nat.{eq-or-lt_of_le}
 use native.Mathlib.Omega.{arith}
 use lib.ListN.{length, get_or, set, drop, replicate, length-set, get_or-eq_default}
 use lib.Seq.{get_or-set_same, get_or-set_other, get_or-take, get_or-drop}
@@ -27,17 +26,6 @@ use Rattle.machine.proofs.Stays.{three, topped-ready, kept_then, kept_low, held_
 use Rattle.machine.proofs.Moves.{reads}
 
 -- ---- a blank frame
-
-pub blank_none : (m : List ℕ) (i : ℕ) → Blank m m i 0
-blank_none m i = record { other = record { outside = λ k l. refl }; cell = λ k l. absurd (omega arith) }
-
-pub blank-more : (m m₁ m₂ : List ℕ) (i n : ℕ) → n < 16 → Blank m m₁ i n → Put m₁ m₂ (i + 2 * n) (nodes.Known (pos 0)) → Blank m m₂ i (n + 1)
-blank-more m m₁ m₂ i n h b p = record {
-  other = record { outside = λ k l. p.other.outside k (λ x y. l (omega arith) (omega arith)) ∙ b.other.outside k l };
-  cell = λ k l. ⊎_elim (λ e. ap (λ (k : ℕ). cell_at m₂ (i + 2 * k)) e ∙ p.cell)
-      (λ l. ap₂ cell_read_as (p.other.outside (i + 2 * k) (λ x y. omega arith)) (p.other.outside (i + 2 * k + 1) (λ x y. omega arith)) ∙ b.cell k l)
-      (eq-or-lt_of_le {n = k} {m = n} (omega arith));
-}
 
 pub zero-cells : (f : Cell → Sym) → Reads f → (m : List ℕ) (i k : ℕ) → ((j : ℕ) → j < k → cell_at m (i + 2 * j) ≡ nodes.Known (pos 0)) → frame (known (pos 0)) k [] ≡ cells f m i k
 unfolding frame cells

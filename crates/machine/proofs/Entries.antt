@@ -1,6 +1,6 @@
 -- One entry worked, by its kind.
 use mathlib.Core.Path.{◌≡◌, refl, sym, ap, ap₂, ◌∙◌, subst}
-use mathlib.Core.Bool.{Bool, true, false, beq}
+use mathlib.Core.Bool.{Bool, true, false}
 use mathlib.Core.Option.{none, some}
 use mathlib.Core.List.{List, []}
 use mathlib.Core.Logic.{⊎_elim}
@@ -17,6 +17,9 @@ use Rattle.simulation.specs.Nodes.{meaning}
 use Rattle.simulation.specs.Words.{kinds, entries_in, entry_of, code_in}
 use Rattle.simulation.proofs.Words.{entry_in, length-entries}
 use Rattle.ints.specs.Numbers.{comparison, operation}
+use Rattle.ints.specs.declared.Comparison.{Comparison}
+use Rattle.ints.specs.Meaning.{of_comparison}
+use Rattle.semantics.specs.Int.{Op}
 use Rattle.intervals.specs.Meaning.{Filled}
 use Rattle.machine.specs.Memory.{Sym, nodes_in, temps, frame_at, callers, machine_at}
 use Rattle.machine.specs.Terms.{cell_of, Ready, Taking, Paired, topped, Goes, acts, storing, Asked, Freed, moved, flagged, Tested, Gave}
@@ -54,19 +57,6 @@ up {lo} {k} a b = omega arith
 pub past_all : (k : ℕ) → 13 ≤ k → (k ≡ 13 → ⊥) → (k ≡ 14 → ⊥) → (k ≡ 15 → ⊥) → (k ≡ 16 → ⊥) → (k ≡ 17 → ⊥) → (k ≡ 18 → ⊥) → (k ≡ 19 → ⊥) → (k ≡ 20 → ⊥) → (k ≡ 21 → ⊥) → (k ≡ 22 → ⊥)
     → (k ≡ 23 → ⊥) → (k ≡ 24 → ⊥) → 24 < k
 past_all k b c d e f g h i j l m n o = up (up (up (up (up (up (up (up (up (up (up (up b c) d) e) f) g) h) i) j) l) m) n) o
-
--- a jump made or not
-pub land-over : (o b : Bool) (w i : ℕ) → beq b o ≡ true → landing o b w (suc i) ≡ i + 1 + w
-land-over true true w i e = omega arith
-land-over true false w i e = let z : ◌≡◌ {A = ℕ} 0 1 = cc in absurd (omega arith)
-land-over false true w i e = let z : ◌≡◌ {A = ℕ} 0 1 = cc in absurd (omega arith)
-land-over false false w i e = omega arith
-
-pub land-next : (o b : Bool) (w i : ℕ) → beq b o ≡ false → landing o b w (suc i) ≡ i + 1
-land-next true true w i e = let z : ◌≡◌ {A = ℕ} 0 1 = cc in absurd (omega arith)
-land-next true false w i e = omega arith
-land-next false true w i e = omega arith
-land-next false false w i e = let z : ◌≡◌ {A = ℕ} 0 1 = cc in absurd (omega arith)
 
 -- ---- the machine goes on with another state
 
@@ -147,18 +137,17 @@ module _ (ws : List ℕ) (size : ℕ) (m : List ℕ) (r : Run) where
       ),
     ) refl
 
-    pub adv-op : 4 ≤ K → K < 7 → acts (code_in ws size) m r (Act.operate (operation (K - 4)) W) ≡ goes
-    adv-op a b = sym (adv _ (kind-op W K a b))
+    pub adv-op : 4 ≤ K → K < 7 → (o : Op) → o ≡ operation (K - 4) → acts (code_in ws size) m r (Act.operate o W) ≡ goes
+    adv-op a b o e = rw e (sym (adv _ (kind-op W K a b)))
 
-    pub adv-cmp : 7 ≤ K → K < 13 → (x y : Value) (top : ℕ) → Ready m r → Paired (code_in ws size) m r W x y top
-        → Tested goes m r.nodes m (K - 7) x y (record { pc = r.pc + 1; flag = r.flag; base = r.base; top = top; depth = r.depth; nodes = r.nodes })
-    adv-cmp a b x y top h p = record {
-      is = adv _ (kind-cmp W K a b)
+    pub adv-cmp : 7 ≤ K → K < 13 → (o : Comparison) → of_comparison o ≡ comparison (K - 7) → (x y : Value) (top : ℕ) → Ready m r → Paired (code_in ws size) m r W x y top
+        → Tested goes m r.nodes m o x y (record r { pc = r.pc + 1; top = top })
+    adv-cmp a b o e x y top h p = record {
+      is = rw e (adv _ (kind-cmp W K a b)
           ∙ ap (λ t. Doing.test (comparison (K - 7)) t.first t.second (λ q. machine (suc r.pc) q t.rest fr cs (32 - r.depth)))
           (p.is (meaning (nodes_in m r.nodes)) (reads (nodes_in m r.nodes)))
           ∙ ap (λ (i : ℕ). Doing.test (comparison (K - 7)) (meaning (nodes_in m r.nodes) (cell_of x)) (meaning (nodes_in m r.nodes) (cell_of y))
-          (λ q. machine i q (temps (meaning (nodes_in m r.nodes)) m r.base (top - r.base)) fr cs (32 - r.depth))) next-pc;
-      six = omega arith;
+          (λ q. machine i q (temps (meaning (nodes_in m r.nodes)) m r.base (top - r.base)) fr cs (32 - r.depth))) next-pc);
       same = refl;
       ready = ready_moved m (topped r top) (r.pc + 1) r.flag (topped-ready m r top h p.low p.high);
       nodes = refl;

@@ -1,17 +1,13 @@
 -- The own pair of a free declaration, read from the code.
 use mathlib.Core.Path.{◌≡◌, refl, sym, ap, ap₂, ◌∙◌}
-use mathlib.Core.Bool.{Bool, true, false, cond}
 use mathlib.Core.List.{List, [], ◌∷◌}
 use Prim.Native.Nat.{ℕ, zero, suc, ◌+◌, ◌-◌, ◌*◌, ◌≤◌, ◌<◌}
 use native.Mathlib.Omega.{arith}
 use lib.ListN.{get_or, drop, get_or-eq_default}
 use lib.IntN.{ℤ, pos}
-use lib.Signed.{le_z}
 use mir.Syntax.{w32}
 use mir.Val.{to_z}
-use lib.Dec.{T}
 use Rattle.semantics.specs.Search.{to, max_z}
-use Rattle.semantics.proofs.Order.{→leZ}
 use Rattle.simulation.specs.Code.{Entry, act, Act}
 use Rattle.simulation.specs.Machine.{leaf_number, own_pair_of}
 use Rattle.simulation.specs.Words.{kinds, entries_in, entry_of, code_in}
@@ -52,20 +48,5 @@ module _ (ws : List ℕ) (size e : ℕ) where
 
 -- the two numbers before an entry, as its pair
 module _ (ws : List ℕ) (size e p q : ℕ) (l h : ℤ) (a : p ≡ e - 2) (b : q ≡ e - 1) (x : l ≡ found ws size p) (y : h ≡ found ws size q) where
-  ends : to l (max_z l h) ≡ own_pair_of (code_in ws size) e
+  pub ends : to l (max_z l h) ≡ own_pair_of (code_in ws size) e
   ends = ap₂ (λ u v. to u (max_z u v)) (x ∙ ap (found ws size) a) (y ∙ ap (found ws size) b)
-
-  pub own-up : le_z l h ≡ true → to l h ≡ own_pair_of (code_in ws size) e
-  unfolding max_z
-  own-up t = ap (λ c. to l (cond c h l)) (sym t) ∙ ends
-
-  pub own-down : le_z l h ≡ false → to l l ≡ own_pair_of (code_in ws size) e
-  unfolding max_z
-  own-down t = ap (λ c. to l (cond c h l)) (sym t) ∙ ends
-
-pub le-self : (z : ℤ) → le_z z z ≡ true
-le-self z = true_of (le_z z z) (→leZ z z (omega arith))
-  where
-    true_of : (b : Bool) → T b → b ≡ true
-    true_of true t = refl
-    true_of false t = absurd t

@@ -14,7 +14,8 @@ use Rattle.simulation.specs.Machine.{Machine, machine, Doing, popped, taken, two
 use Rattle.simulation.specs.Nodes as nodes
 use Rattle.simulation.specs.Nodes.{Node, unknown, operation, meaning, Within, working}
 use Rattle.simulation.specs.Words.{code_in}
-use Rattle.ints.specs.Numbers.{comparison}
+use Rattle.ints.specs.declared.Comparison.{Comparison}
+use Rattle.ints.specs.Meaning.{of_comparison}
 use Rattle.intervals.specs.Meaning.{of_window, Filled}
 use Rattle.machine.specs.Layout.{frame_cells, frame_words, frame_place, variable_place, cell_place, caller_base, windows_place, tables_place, temp_place, node_place, node_end, range_low, index_end, words_for}
 use Rattle.machine.specs.Memory.{Sym, cell_at, node_at, nodes_in, cells, temps, frame_at, callers, machine_at}
@@ -149,7 +150,7 @@ pub record Blank (m m' : List ℕ) (i n : ℕ) : Type 0 where
   pub cell : (k : ℕ) → k < n → cell_at m' (i + 2 * k) ≡ nodes.Known (pos 0)
 
 abbrev pub topped : Run → ℕ → Run
-topped r top = record { pc = r.pc; flag = r.flag; base = r.base; top = top; depth = r.depth; nodes = r.nodes }
+topped r top = record r { top = top }
 
 -- of n arguments all but k were taken into the next frame, and the last of those k ends just before entry j
 pub record Gathering (c : Code) (m m' : List ℕ) (r : Run) (n k j top : ℕ) : Type 0 where
@@ -202,15 +203,14 @@ pub record Freed (d : Doing Sym) (job w : Window) (m : List ℕ) (n : ℕ) (m' :
   pub asked : Asked next m n m' k r
 
 abbrev pub moved : Run → ℕ → Run
-moved r pc = record { pc = pc; flag = r.flag; base = r.base; top = r.top; depth = r.depth; nodes = r.nodes }
+moved r pc = record r { pc = pc }
 
 abbrev pub flagged : Run → Bool → Run
-flagged r b = record { pc = r.pc; flag = b; base = r.base; top = r.top; depth = r.depth; nodes = r.nodes }
+flagged r b = record r { flag = b }
 
--- a comparison, by its number, was reached: no word has changed
-pub record Tested (d : Doing Sym) (m : List ℕ) (n : ℕ) (m' : List ℕ) (o : ℕ) (x y : Value) (r : Run) : Type 0 where
-  pub is : d ≡ Doing.test (comparison o) (meant m n x) (meant m n y) (λ b. machine_at m (flagged r b))
-  pub six : o < 6
+-- a comparison was reached: no word has changed
+pub record Tested (d : Doing Sym) (m : List ℕ) (n : ℕ) (m' : List ℕ) (o : Comparison) (x y : Value) (r : Run) : Type 0 where
+  pub is : d ≡ Doing.test (of_comparison o) (meant m n x) (meant m n y) (λ b. machine_at m (flagged r b))
   pub same : m' ≡ m
   pub ready : Ready m r
   pub nodes : r.nodes ≡ n

@@ -7,7 +7,7 @@ ghost use Rattle.semantics.specs.Search.{known, work as workS};
 ghost use Rattle.simulation.specs.Machine.{Doing, leaf_number, own_pair_of, extent as extentS, landing as landingS, advance as advanceS};
 ghost use Rattle.simulation.specs.Code.{Code, operate as operateS, store as storeS, return as returnS, fail as failS, call as callS, act};
 ghost use Rattle.simulation.specs.Words.{code_in};
-ghost use Rattle.ints.specs.Numbers.{operation};
+ghost use Rattle.ints.specs.Meaning.{of_operation};
 ghost use Rattle.intervals.specs.Meaning.{of_window, Filled};
 ghost use Rattle.machine.specs.Layout.{frame_cells, frame_words, variable_place, tables_place};
 ghost use Rattle.machine.specs.Memory.{node_as, machine_at};
@@ -15,21 +15,16 @@ ghost use Rattle.machine.specs.Terms.{cell_of, Sized, Room, Ready, Holds, Put, N
 
 use code::{Address, entry};
 use intervals::Window;
+use ints::{Comparison, Operation};
 
 pub mod kinds;
 pub mod layout;
 
 // "A value is known, or open with the expression it stands for": a number, or the place of a node.
-#[derive(Clone, Copy)]
+#[derive(Clone, Copy, PartialEq, Eq, Debug)]
 pub enum Value {
     Known(i32),
     Open(usize),
-}
-
-// What stands in a cell of the memory.
-#[derive(Drop)]
-pub struct Cell {
-    pub value: Value,
 }
 
 // The machine's state, beside the memory: the entry to be worked next, the flag, where the temporaries of the function that runs begin and end, how many functions wait for it, and how many nodes there are.
@@ -43,13 +38,13 @@ pub struct Run {
     pub nodes: usize,
 }
 
-// What working one entry did: the machine goes on, without a step or after one; it has reached a free declaration, whose window starts as this pair, or a comparison, by its number, of two values; or the run has ended. `Silent`, `Step` and `Free` have the run first: in one place, it stays in registers.
+// What working one entry did: the machine goes on, without a step or after one; it has reached a free declaration, whose window starts as this pair, or a comparison of two values; or the run has ended. `Silent`, `Step` and `Free` have the run first: in one place, it stays in registers.
 #[derive(Drop)]
 pub enum Did {
     Silent(Run),
     Step(Run),
     Free(Run, Window),
-    Test(u32, Value, Value, Run),
+    Test(Comparison, Value, Value, Run),
     Returned(Value),
     Failed,
     Cut,
@@ -77,28 +72,23 @@ pub struct Both {
     pub top: usize,
 }
 
-// The cell at a word.
-fn load(mem: &[u32], at: usize) -> Cell
+// The value in the cell at a word.
+fn load(mem: &[u32], at: usize) -> Value
     requires { at + 1 < length mem.now }
-    ensures { Holds mem.now at result.value }
+    ensures { Holds mem.now at result }
 {
     if mem[at] == 0 {
-        Cell {
-            value: Value::Known(ints::signed(mem[at + 1])),
-        }
+        Value::Known(ints::signed(mem[at + 1]))
     } else {
-        Cell {
-            value: Value::Open(mem[at + 1] as usize),
-        }
+        Value::Open(mem[at + 1] as usize)
     }
 }
 
-// Writes a cell.
-fn put(mem: &mut [u32], at: usize, c: Cell)
-    requires { (at + 1 < length mem.old) × Sized c.value }
-    ensures { Put mem.old mem.new at (cell_of c.value) }
+// Writes a value into a cell.
+fn put(mem: &mut [u32], at: usize, v: Value)
+    requires { (at + 1 < length mem.old) × Sized v }
+    ensures { Put mem.old mem.new at (cell_of v) }
 {
-    let v = c.value;
     match v {
         Value::Known(z) => {
             mem[at] = 0;
@@ -122,41 +112,44 @@ fn node(mem: &mut [u32], nodes: usize, k: u32, x: u32, y: u32)
     mem[at + 2] = y;
 }
 
-// An operation, by its number: two numbers are worked, anything else is a new node.
-fn work(mem: &mut [u32], nodes: usize, op: u32, v: Value, w: Value) -> Made
-    requires { Room mem.old (nodes + 1) × (op < 3) × Sized v × Sized w }
-    ensures { Worked mem.old mem.new nodes (operation op) v w result.value result.nodes }
+// An operation: two numbers are worked, anything else is a new node.
+fn work(mem: &mut [u32], nodes: usize, op: Operation, v: Value, w: Value) -> Made
+    requires { Room mem.old (nodes + 1) × Sized v × Sized w }
+    ensures { Worked mem.old mem.new nodes (of_operation op) v w result.value result.nodes }
 {
-    match v {
-        Value::Known(a) => match w {
-            Value::Known(b) => Made {
-                value: Value::Known(ints::operate(op, a, b)),
-                nodes: nodes,
-            },
-            Value::Open(j) => {
-                node(mem, nodes, op + kinds::KNOWN_OPEN, ints::word(a), j as u32);
-                Made {
-                    value: Value::Open(nodes),
-                    nodes: nodes + 1,
-                }
-            }
-        },
-        Value::Open(i) => match w {
-            Value::Known(b) => {
-                node(mem, nodes, op + kinds::OPEN_KNOWN, i as u32, ints::word(b));
-                Made {
-                    value: Value::Open(nodes),
-                    nodes: nodes + 1,
-                }
-            }
-            Value::Open(j) => {
-                node(mem, nodes, op + kinds::OPEN_OPEN, i as u32, j as u32);
-                Made {
-                    value: Value::Open(nodes),
-                    nodes: nodes + 1,
-                }
-            }
-        },
+    let number = u32::from(op);
+    match (v, w) {
+        (Value::Known(a), Value::Known(b)) => {
+            return Made {
+                value: Value::Known(op.apply(a, b)),
+                nodes,
+            };
+        }
+        (Value::Known(a), Value::Open(j)) => {
+            node(
+                mem,
+                nodes,
+                number + kinds::KNOWN_OPEN,
+                ints::word(a),
+                j as u32,
+            );
+        }
+        (Value::Open(i), Value::Known(b)) => {
+            node(
+                mem,
+                nodes,
+                number + kinds::OPEN_KNOWN,
+                i as u32,
+                ints::word(b),
+            );
+        }
+        (Value::Open(i), Value::Open(j)) => {
+            node(mem, nodes, number + kinds::OPEN_OPEN, i as u32, j as u32);
+        }
+    }
+    Made {
+        value: Value::Open(nodes),
+        nodes: nodes + 1,
     }
 }
 
@@ -171,10 +164,8 @@ fn pop(mem: &[u32], run: Run) -> Took
             top: run.top,
         };
     }
-    let c = load(mem, layout::TEMPORARIES + layout::STRIDE * (run.top - 1));
-    let v = c.value;
     Took {
-        value: v,
+        value: load(mem, layout::TEMPORARIES + layout::STRIDE * (run.top - 1)),
         top: run.top - 1,
     }
 }
@@ -184,8 +175,7 @@ fn variable(mem: &[u32], run: Run, a: Address) -> Value
     requires { Ready mem.now run × (a.0 < frame_cells) }
     ensures { Holds mem.now (variable_place run.depth a.0) result }
 {
-    let c = load(mem, layout::FRAME * run.depth + layout::CELL * a.0);
-    c.value
+    load(mem, layout::FRAME * run.depth + layout::CELL * a.0)
 }
 
 // The operand that ends just before entry j.
@@ -193,28 +183,21 @@ fn take(code: &[u32], size: usize, mem: &[u32], run: Run, j: usize) -> Took
     requires { (2 * size ≤ length code.now) × Ready mem.now run }
     ensures { Taking (code_in code.now size) mem.now run j result.value result.top }
 {
-    if j == 0 {
+    if j == 0 || size < j {
         return pop(mem, run);
     }
-    if size < j {
-        return pop(mem, run);
-    }
-    let k = code[2 * (j - 1)];
     let w = code[2 * (j - 1) + 1];
-    if k == entry::NUMBER {
-        return Took {
+    match code[2 * (j - 1)] {
+        entry::NUMBER => Took {
             value: Value::Known(ints::signed(w)),
             top: run.top,
-        };
-    }
-    if k == entry::NAME {
-        let v = variable(mem, run, Address(w as usize % layout::CELLS));
-        return Took {
-            value: v,
+        },
+        entry::NAME => Took {
+            value: variable(mem, run, Address(w as usize % layout::CELLS)),
             top: run.top,
-        };
+        },
+        _ => pop(mem, run),
     }
-    pop(mem, run)
 }
 
 // The two operands of the next entry, the right one of which has d entries.
@@ -223,45 +206,31 @@ fn pair(code: &[u32], size: usize, mem: &[u32], run: Run, d: usize) -> Both
     ensures { Paired (code_in code.now size) mem.now run d result.left result.right result.top }
 {
     let b = take(code, size, mem, run, run.pc);
-    let rest = Run {
-        pc: run.pc,
-        flag: run.flag,
-        base: run.base,
-        top: b.top,
-        depth: run.depth,
-        nodes: run.nodes,
-    };
-    let a = take(code, size, mem, rest, ints::monus(run.pc, d));
-    let x = a.value;
-    let y = b.value;
+    let rest = Run { top: b.top, ..run };
+    let a = take(code, size, mem, rest, run.pc.saturating_sub(d));
     Both {
-        left: x,
-        right: y,
+        left: a.value,
+        right: b.value,
         top: a.top,
     }
 }
 
 // An operation on two operands.
-fn operate(mem: &mut [u32], run: Run, op: u32, p: Both) -> Run
-    requires { Ready mem.old run × (op < 3) × (run.pc < 65536) × Room mem.old (run.top + 1) × Room mem.old (run.nodes + 1) × Sized p.left × Sized p.right × (p.top ≤ run.top) }
-    ensures { (c : Code) (d : ℕ) → Paired c mem.old run d p.left p.right p.top → Goes Doing.step 1 (acts c mem.old run (operateS (operation op) d)) mem.old run.nodes mem.new result }
+fn operate(mem: &mut [u32], run: Run, op: Operation, p: Both) -> Run
+    requires { Ready mem.old run × (run.pc < 65536) × Room mem.old (run.top + 1) × Room mem.old (run.nodes + 1) × Sized p.left × Sized p.right × (p.top ≤ run.top) }
+    ensures { (c : Code) (d : ℕ) → Paired c mem.old run d p.left p.right p.top → Goes Doing.step 1 (acts c mem.old run (operateS (of_operation op) d)) mem.old run.nodes mem.new result }
 {
-    let x = p.left;
-    let y = p.right;
-    let made = work(mem, run.nodes, op, x, y);
-    let v = made.value;
+    let made = work(mem, run.nodes, op, p.left, p.right);
     put(
         mem,
         layout::TEMPORARIES + layout::STRIDE * p.top,
-        Cell { value: v },
+        made.value,
     );
     Run {
         pc: run.pc + 1,
-        flag: run.flag,
-        base: run.base,
         top: p.top + 1,
-        depth: run.depth,
         nodes: made.nodes,
+        ..run
     }
 }
 
@@ -271,19 +240,11 @@ fn store(code: &[u32], size: usize, mem: &mut [u32], run: Run, a: Address) -> Ru
     ensures { Goes Doing.silent 0 (acts (code_in code.now size) mem.old run (storeS (slot a.0))) mem.old run.nodes mem.new result }
 {
     let t = take(code, size, mem, run, run.pc);
-    let v = t.value;
-    put(
-        mem,
-        layout::FRAME * run.depth + layout::CELL * a.0,
-        Cell { value: v },
-    );
+    put(mem, layout::FRAME * run.depth + layout::CELL * a.0, t.value);
     Run {
         pc: run.pc + 1,
-        flag: run.flag,
-        base: run.base,
         top: t.top,
-        depth: run.depth,
-        nodes: run.nodes,
+        ..run
     }
 }
 
@@ -296,17 +257,12 @@ fn ask(mem: &mut [u32], run: Run, a: Address, k: u32) -> Run
     put(
         mem,
         layout::FRAME * run.depth + layout::CELL * a.0,
-        Cell {
-            value: Value::Open(run.nodes),
-        },
+        Value::Open(run.nodes),
     );
     Run {
         pc: run.pc + 1,
-        flag: run.flag,
-        base: run.base,
-        top: run.top,
-        depth: run.depth,
         nodes: run.nodes + 1,
+        ..run
     }
 }
 
@@ -315,12 +271,11 @@ fn number_at(code: &[u32], size: usize, e: usize) -> i32
     requires { 2 * size ≤ length code.now }
     ensures { result ≡ leaf_number (get_or (code_in code.now size).entries e (act failS)) }
 {
-    if e < size {
-        if code[2 * e] == entry::NUMBER {
-            return ints::signed(code[2 * e + 1]);
-        }
+    if e < size && code[2 * e] == entry::NUMBER {
+        ints::signed(code[2 * e + 1])
+    } else {
+        0
     }
-    0
 }
 
 // The pair of the declaration at an entry that has its own; one the wrong way round has its low end alone.
@@ -328,18 +283,11 @@ fn own_pair(code: &[u32], size: usize, e: usize) -> Window
     requires { 2 * size ≤ length code.now }
     ensures { (of_window result ≡ own_pair_of (code_in code.now size) e) × Filled (of_window result) }
 {
-    let low = number_at(code, size, ints::monus(e, 2));
-    let high = number_at(code, size, ints::monus(e, 1));
-    if low <= high {
-        Window {
-            low: low,
-            high: high,
-        }
-    } else {
-        Window {
-            low: low,
-            high: low,
-        }
+    let low = number_at(code, size, e.saturating_sub(2));
+    let high = number_at(code, size, e.saturating_sub(1));
+    Window {
+        low,
+        high: low.max(high),
     }
 }
 
@@ -349,22 +297,20 @@ fn leave(code: &[u32], size: usize, mem: &mut [u32], run: Run) -> Run
     ensures { Goes Doing.silent 0 (acts (code_in code.now size) mem.old run returnS) mem.old run.nodes mem.new result }
 {
     let t = take(code, size, mem, run, run.pc);
-    let v = t.value;
     let d = run.depth - 1;
     let pc = mem[layout::CALLERS + layout::CALLER * d] as usize;
     let base = mem[layout::CALLER_BASES + layout::CALLER * d] as usize;
     put(
         mem,
         layout::TEMPORARIES + layout::STRIDE * run.base,
-        Cell { value: v },
+        t.value,
     );
     Run {
-        pc: pc,
-        flag: run.flag,
-        base: base,
+        pc,
+        base,
         top: run.base + 1,
         depth: d,
-        nodes: run.nodes,
+        ..run
     }
 }
 
@@ -373,16 +319,8 @@ fn blank(mem: &mut [u32], at: usize)
     requires { at + frame_words ≤ length mem.old }
     ensures { Blank mem.old mem.new at frame_cells }
 {
-    let mut i = 0;
-    while i < layout::CELLS {
-        put(
-            mem,
-            at + layout::CELL * i,
-            Cell {
-                value: Value::Known(0),
-            },
-        );
-        i += 1;
+    for i in 0..layout::CELLS {
+        put(mem, at + layout::CELL * i, Value::Known(0));
     }
 }
 
@@ -391,12 +329,11 @@ fn extent(code: &[u32], size: usize, e: usize) -> usize
     requires { 2 * size ≤ length code.now }
     ensures { result ≡ extentS (get_or (code_in code.now size).entries e (act failS)) }
 {
-    if e < size {
-        if code[2 * e] == entry::ARGUMENT {
-            return code[2 * e + 1] as usize;
-        }
+    if e < size && code[2 * e] == entry::ARGUMENT {
+        code[2 * e + 1] as usize
+    } else {
+        0
     }
-    0
 }
 
 // Takes n arguments into the next frame, and says where the temporaries then end.
@@ -406,27 +343,16 @@ fn gather(code: &[u32], size: usize, mem: &mut [u32], run: Run, n: usize) -> usi
 {
     let at = layout::FRAME * (run.depth + 1);
     blank(mem, at);
-    let mut k = n;
     let mut j = run.pc;
     let mut top = run.top;
-    while 0 < k {
-        k -= 1;
-        let e = ints::monus(j, 1);
-        let rest = Run {
-            pc: run.pc,
-            flag: run.flag,
-            base: run.base,
-            top: top,
-            depth: run.depth,
-            nodes: run.nodes,
-        };
-        let t = take(code, size, mem, rest, e);
+    for k in (0..n).rev() {
+        let e = j.saturating_sub(1);
+        let t = take(code, size, mem, Run { top, ..run }, e);
         let d = extent(code, size, e);
-        j = ints::monus(e, d);
+        j = e.saturating_sub(d);
         top = t.top;
         if k < layout::CELLS {
-            let v = t.value;
-            put(mem, at + layout::CELL * k, Cell { value: v });
+            put(mem, at + layout::CELL * k, t.value);
         }
     }
     top
@@ -442,11 +368,10 @@ fn enter(code: &[u32], size: usize, mem: &mut [u32], run: Run, g: usize, n: usiz
     mem[layout::CALLER_BASES + layout::CALLER * run.depth] = run.base as u32;
     Run {
         pc: code[2 * size + g] as usize,
-        flag: run.flag,
         base: top,
-        top: top,
+        top,
         depth: run.depth + 1,
-        nodes: run.nodes,
+        ..run
     }
 }
 
@@ -454,14 +379,7 @@ fn enter(code: &[u32], size: usize, mem: &mut [u32], run: Run, g: usize, n: usiz
 fn moved(run: Run, pc: usize) -> Run
     ensures { result ≡ movedS run pc }
 {
-    Run {
-        pc: pc,
-        flag: run.flag,
-        base: run.base,
-        top: run.top,
-        depth: run.depth,
-        nodes: run.nodes,
-    }
+    Run { pc, ..run }
 }
 
 // The same at the next entry, with another flag.
@@ -471,11 +389,8 @@ pub fn flagged(run: Run, flag: bool) -> Run
 {
     Run {
         pc: run.pc + 1,
-        flag: flag,
-        base: run.base,
-        top: run.top,
-        depth: run.depth,
-        nodes: run.nodes,
+        flag,
+        ..run
     }
 }
 
@@ -522,19 +437,19 @@ pub fn advance(code: &[u32], size: usize, mem: &mut [u32], job: Window, run: Run
         entry::ADD..=entry::COMPARE_LAST => {
             let p = pair(code, size, mem, run, w);
             if kind < entry::COMPARE {
-                return Did::Step(operate(mem, run, kind - entry::ADD, p));
+                return Did::Step(operate(mem, run, Operation::from(kind - entry::ADD), p));
             }
-            let x = p.left;
-            let y = p.right;
             let rest = Run {
                 pc: run.pc + 1,
-                flag: run.flag,
-                base: run.base,
                 top: p.top,
-                depth: run.depth,
-                nodes: run.nodes,
+                ..run
             };
-            Did::Test(kind - entry::COMPARE, x, y, rest)
+            Did::Test(
+                Comparison::from(kind - entry::COMPARE),
+                p.left,
+                p.right,
+                rest,
+            )
         }
         entry::CALL => {
             if run.depth == layout::DEPTH {
@@ -554,15 +469,13 @@ pub fn advance(code: &[u32], size: usize, mem: &mut [u32], job: Window, run: Run
         entry::JUMP => Did::Silent(moved(run, landing(run, false, w))),
         entry::JUMP_TRUE => Did::Silent(moved(run, landing(run, true, w))),
         entry::SKIP => Did::Silent(moved(run, run.pc + 1 + w)),
-        entry::AGAIN => Did::Step(moved(run, ints::monus(run.pc, w))),
+        entry::AGAIN => Did::Step(moved(run, run.pc.saturating_sub(w))),
         entry::BEGIN => Did::Step(moved(run, run.pc + 1)),
         entry::ASK => Did::Free(ask(mem, run, Address(w % layout::CELLS), k), job),
         entry::STORE => Did::Silent(store(code, size, mem, run, Address(w % layout::CELLS))),
         entry::RETURN => {
             if run.depth == 0 {
-                let t = take(code, size, mem, run, run.pc);
-                let v = t.value;
-                return Did::Returned(v);
+                return Did::Returned(take(code, size, mem, run, run.pc).value);
             }
             Did::Silent(leave(code, size, mem, run))
         }

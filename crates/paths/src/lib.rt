@@ -35,6 +35,62 @@ pub struct Point {
     pub forced: usize,
 }
 
+impl Point {
+    // The same point with another run.
+    pub fn proceed(self, run: Run) -> Point
+        ensures { result ≡ running self run }
+    {
+        Point { run, ..self }
+    }
+
+    // The same point with the flag of an outcome.
+    fn flag(self, o: bool) -> Point
+        ensures { result ≡ flagging self o }
+    {
+        self.proceed(Run {
+            flag: o,
+            ..self.run
+        })
+    }
+
+    // The point after one more choice.
+    fn count(self) -> Point
+        requires { self.choices < 4294967296 }
+        ensures { result ≡ chosen self }
+    {
+        Point {
+            choices: self.choices + 1,
+            forced: self.forced.saturating_sub(1),
+            ..self
+        }
+    }
+
+    // The point after a step.
+    pub fn spend(self, run: Run) -> Point
+        requires { 1 ≤ self.steps }
+        ensures { result ≡ spending self run }
+    {
+        Point {
+            run,
+            steps: self.steps - 1,
+            ..self
+        }
+    }
+
+    // The point after a free declaration.
+    fn declare(self, run: Run) -> Point
+        requires { (1 ≤ self.steps) × (self.windows < 8) }
+        ensures { result ≡ declaring self run }
+    {
+        Point {
+            run,
+            steps: self.steps - 1,
+            windows: self.windows + 1,
+            ..self
+        }
+    }
+}
+
 // A turn: the path goes on, and the turn is a move or not; or the path has ended.
 #[derive(Drop)]
 pub enum Turned {
@@ -130,10 +186,8 @@ pub fn all_ranges(mem: &mut [u32], k: usize, n: usize)
     requires { (k ≤ 8) × Room mem.old n × Windows (windows_in mem.old k) }
     ensures { Anew mem.old mem.new k n }
 {
-    let mut j = 0;
-    while j < n {
+    for j in 0..n {
         write_range(mem, k, j);
-        j += 1;
     }
 }
 
@@ -232,10 +286,8 @@ fn narrow(mem: &mut [u32], k: usize, n: usize, c: u32, v: Value, w: Value)
 {
     let a = side(mem, k, n, v);
     let b = side(mem, k, n, w);
-    if idle(a, range_of(mem, n, w)) {
-        if idle(b, range_of(mem, n, v)) {
-            return;
-        }
+    if idle(a, range_of(mem, n, w)) && idle(b, range_of(mem, n, v)) {
+        return;
     }
     let ws = window_memory::load(mem, layout::WINDOWS);
     window_memory::put(mem, layout::WINDOWS, narrowing::narrowed(ws, c, a, b));
@@ -255,48 +307,11 @@ fn choose(mem: &mut [u32], p: Point, c: u32, v: Value, w: Value) -> bool
     requires { Standing mem.old p × Room mem.old (p.choices + 1) × (c < 6) × Undecided mem.old p.run.nodes (comparison c) v w }
     ensures { Chose mem.old mem.new p (comparison c) v w result }
 {
-    let run = p.run;
     let o = take(mem, p.choices, p.forced);
     let held = holding(o, c);
     note(mem, p.choices, held, v, w);
-    narrow(mem, p.windows, run.nodes, held, v, w);
+    narrow(mem, p.windows, p.run.nodes, held, v, w);
     o
-}
-
-// The same point with the flag of an outcome.
-fn flag(p: Point, o: bool) -> Point
-    ensures { result ≡ flagging p o }
-{
-    let run = p.run;
-    Point {
-        run: Run {
-            pc: run.pc,
-            flag: o,
-            base: run.base,
-            top: run.top,
-            depth: run.depth,
-            nodes: run.nodes,
-        },
-        steps: p.steps,
-        windows: p.windows,
-        choices: p.choices,
-        forced: p.forced,
-    }
-}
-
-// The point after one more choice.
-fn count(p: Point) -> Point
-    requires { p.choices < 4294967296 }
-    ensures { result ≡ chosen p }
-{
-    let run = p.run;
-    Point {
-        run: run,
-        steps: p.steps,
-        windows: p.windows,
-        choices: p.choices + 1,
-        forced: ints::monus(p.forced, 1),
-    }
 }
 
 // A comparison, by its number: the ranges decide it, or a choice is made.
@@ -304,15 +319,14 @@ fn compare(mem: &mut [u32], p: Point, c: u32, v: Value, w: Value) -> Point
     requires { Standing mem.old p × Ready mem.old p.run × Room mem.old (p.choices + 1) × (c < 6) × Usable p.run.nodes v × Usable p.run.nodes w }
     ensures { Compared mem.old mem.new p (comparison c) v w result }
 {
-    let run = p.run;
-    let a = range_of(mem, run.nodes, v);
-    let b = range_of(mem, run.nodes, w);
+    let a = range_of(mem, p.run.nodes, v);
+    let b = range_of(mem, p.run.nodes, w);
     match ranges::decide(c, a, b) {
-        Decided::True => flag(p, true),
-        Decided::False => flag(p, false),
+        Decided::True => p.flag(true),
+        Decided::False => p.flag(false),
         Decided::Open => {
             let o = choose(mem, p, c, v, w);
-            flag(count(p), o)
+            p.count().flag(o)
         }
     }
 }
@@ -327,34 +341,6 @@ fn new_range(mem: &mut [u32], k: usize, n: usize, nodes: usize)
     }
 }
 
-// The point after a step.
-fn spend(p: Point, run: Run) -> Point
-    requires { 1 ≤ p.steps }
-    ensures { result ≡ spending p run }
-{
-    Point {
-        run: run,
-        steps: p.steps - 1,
-        windows: p.windows,
-        choices: p.choices,
-        forced: p.forced,
-    }
-}
-
-// The point after a free declaration.
-fn declare(p: Point, run: Run) -> Point
-    requires { (1 ≤ p.steps) × (p.windows < 8) }
-    ensures { result ≡ declaring p run }
-{
-    Point {
-        run: run,
-        steps: p.steps - 1,
-        windows: p.windows + 1,
-        choices: p.choices,
-        forced: p.forced,
-    }
-}
-
 // A step.
 fn after_step(mem: &mut [u32], p: Point, run: Run) -> Turned
     requires { Standing mem.old p × Ready mem.old run × Growing mem.old p.run.nodes run.nodes }
@@ -363,9 +349,8 @@ fn after_step(mem: &mut [u32], p: Point, run: Run) -> Turned
     if p.steps == 0 {
         return Turned::Cut;
     }
-    let old = p.run;
-    new_range(mem, p.windows, old.nodes, run.nodes);
-    Turned::On(p.forced == 0, spend(p, run))
+    new_range(mem, p.windows, p.run.nodes, run.nodes);
+    Turned::On(p.forced == 0, p.spend(run))
 }
 
 // A comparison, by its number.
@@ -376,7 +361,7 @@ fn after_test(mem: &mut [u32], p: Point, run: Run, c: u32, v: Value, w: Value) -
     if p.steps == 0 {
         return Turned::Cut;
     }
-    Turned::On(p.forced == 0, compare(mem, spend(p, run), c, v, w))
+    Turned::On(p.forced == 0, compare(mem, p.spend(run), c, v, w))
 }
 
 // A free declaration, with its pair.
@@ -384,29 +369,12 @@ fn after_free(mem: &mut [u32], p: Point, run: Run, w: Window) -> Turned
     requires { Standing mem.old p × Ready mem.old run × (run.nodes ≡ p.run.nodes + 1) × (node_at mem.old p.run.nodes ≡ nodes.unknown p.windows) × Filled (of_window w) }
     ensures { AfterFree mem.old mem.new p run (of_window w) result × Stays mem.old mem.new p.run.nodes p.choices }
 {
-    if p.steps == 0 {
+    if p.steps == 0 || p.windows == layout::UNKNOWNS {
         return Turned::Cut;
     }
-    if p.windows == layout::UNKNOWNS {
-        return Turned::Cut;
-    }
-    let old = p.run;
     reach(mem, w, p.windows);
-    write_range(mem, p.windows + 1, old.nodes);
-    Turned::On(p.forced == 0, declare(p, run))
-}
-
-// The same point with another run.
-fn proceed(p: Point, run: Run) -> Point
-    ensures { result ≡ running p run }
-{
-    Point {
-        run: run,
-        steps: p.steps,
-        windows: p.windows,
-        choices: p.choices,
-        forced: p.forced,
-    }
+    write_range(mem, p.windows + 1, p.run.nodes);
+    Turned::On(p.forced == 0, p.declare(run))
 }
 
 // One turn of the path: one entry of the code is worked, within the limits.
@@ -414,9 +382,8 @@ pub fn turn(code: &[u32], size: usize, mem: &mut [u32], job: Window, p: Point) -
     requires { (2 * size + 16 ≤ length code.now) × (size < 65536) × Going mem.old p × Filled (of_window job) }
     ensures { OneTurn (code_in code.now size) (of_window job) mem.old mem.new p result × Stays mem.old mem.new p.run.nodes p.choices }
 {
-    let run = p.run;
-    match machine::advance(code, size, mem, job, run, p.windows as u32) {
-        Did::Silent(r) => Turned::On(false, proceed(p, r)),
+    match machine::advance(code, size, mem, job, p.run, p.windows as u32) {
+        Did::Silent(r) => Turned::On(false, p.proceed(r)),
         Did::Step(r) => after_step(mem, p, r),
         Did::Free(r, w) => after_free(mem, p, r, w),
         Did::Test(c, v, w, r) => after_test(mem, p, r, c, v, w),

@@ -2,126 +2,87 @@
 #![tactic(auto)]
 
 ghost use Rattle.std.specs.Prelude.{◌≡◌, ◌+ℤ◌, ◌-ℤ◌, ◌*ℤ◌};
-ghost use Rattle.semantics.specs.Int.{add, sub, mul, eq, ne};
+ghost use Rattle.semantics.specs.Int.{add, sub, mul};
 ghost use Rattle.semantics.specs.Search.{to, min_z, max_z, span, fitted, always as alwaysOf, decided, negated as negatedOf, mirrored as mirroredOf};
-ghost use Rattle.ints.specs.Numbers.{number_of, comparison, operation};
+ghost use Rattle.ints.specs.Meaning.{of_operation, of_comparison};
 ghost use Rattle.intervals.specs.Meaning.{of_window, Filled};
 ghost use Rattle.ranges.specs.Meaning.{of_decided};
 
 use intervals::Window;
+use ints::{Comparison, Operation};
 
-// What two ranges say of a comparison.
-#[derive(Drop)]
-pub enum Decided {
-    True,
-    False,
-    Open,
-}
-
-// The number of the comparison that holds where this one does not.
-pub fn negated(c: u32) -> u32
-    ensures { result ≡ number_of (negatedOf (comparison c)) }
+// The comparison that holds where this one does not.
+pub fn negated(c: Comparison) -> Comparison
+    ensures { of_comparison result ≡ negatedOf (of_comparison c) }
 {
     match c {
-        0 => 3,
-        1 => 2,
-        2 => 1,
-        3 => 0,
-        4 => 5,
-        _ => 4,
+        Comparison::Less => Comparison::AtLeast,
+        Comparison::AtMost => Comparison::Greater,
+        Comparison::Greater => Comparison::AtMost,
+        Comparison::AtLeast => Comparison::Less,
+        Comparison::Equal => Comparison::Unequal,
+        Comparison::Unequal => Comparison::Equal,
     }
 }
 
-// The number of this comparison read from its right side.
-pub fn mirrored(c: u32) -> u32
-    ensures { result ≡ number_of (mirroredOf (comparison c)) }
+// This comparison read from its right side.
+pub fn mirrored(c: Comparison) -> Comparison
+    ensures { of_comparison result ≡ mirroredOf (of_comparison c) }
 {
     match c {
-        0 => 2,
-        1 => 3,
-        2 => 0,
-        3 => 1,
-        4 => 4,
-        _ => 5,
-    }
-}
-
-// Whether all numbers of two ranges are equal, and whether none are.
-fn always_equal(v: Window, w: Window) -> bool
-    ensures { result ≡ alwaysOf eq (of_window v) (of_window w) }
-{
-    if v.high <= w.low {
-        w.high <= v.low
-    } else {
-        false
-    }
-}
-
-fn never_equal(v: Window, w: Window) -> bool
-    ensures { result ≡ alwaysOf ne (of_window v) (of_window w) }
-{
-    if w.low <= v.high {
-        w.high < v.low
-    } else {
-        true
+        Comparison::Less => Comparison::Greater,
+        Comparison::AtMost => Comparison::AtLeast,
+        Comparison::Greater => Comparison::Less,
+        Comparison::AtLeast => Comparison::AtMost,
+        Comparison::Equal => Comparison::Equal,
+        Comparison::Unequal => Comparison::Unequal,
     }
 }
 
 // Whether the comparison holds for all numbers of two ranges.
-fn always(c: u32, v: Window, w: Window) -> bool
-    ensures { result ≡ alwaysOf (comparison c) (of_window v) (of_window w) }
+fn always(c: Comparison, v: Window, w: Window) -> bool
+    ensures { result ≡ alwaysOf (of_comparison c) (of_window v) (of_window w) }
 {
     match c {
-        0 => v.high < w.low,
-        1 => v.high <= w.low,
-        2 => w.high < v.low,
-        3 => w.high <= v.low,
-        4 => always_equal(v, w),
-        _ => never_equal(v, w),
+        Comparison::Less => v.high < w.low,
+        Comparison::AtMost => v.high <= w.low,
+        Comparison::Greater => w.high < v.low,
+        Comparison::AtLeast => w.high <= v.low,
+        Comparison::Equal => v.high <= w.low && w.high <= v.low,
+        Comparison::Unequal => v.high < w.low || w.high < v.low,
     }
 }
 
-pub fn decide(c: u32, v: Window, w: Window) -> Decided
-    ensures { of_decided result ≡ decided (comparison c) (of_window v) (of_window w) }
+// What two ranges say of a comparison; none, where it may hold and may not.
+pub fn decide(c: Comparison, v: Window, w: Window) -> Option<bool>
+    ensures { of_decided result ≡ decided (of_comparison c) (of_window v) (of_window w) }
 {
     if always(c, v, w) {
-        return Decided::True;
+        Some(true)
+    } else if always(negated(c), v, w) {
+        Some(false)
+    } else {
+        None
     }
-    if always(negated(c), v, w) {
-        return Decided::False;
-    }
-    Decided::Open
 }
 
 // Exact results, in 64 bits.
 fn plus(a: i32, b: i32) -> i64
     ensures { result ≡ a +ℤ b }
 {
-    (a as i64) + (b as i64)
+    i64::from(a) + i64::from(b)
 }
 
 fn minus(a: i32, b: i32) -> i64
     ensures { result ≡ a -ℤ b }
 {
-    (a as i64) - (b as i64)
+    i64::from(a) - i64::from(b)
 }
 
 fn times(a: i32, b: i32) -> i64
     ensures { result ≡ a *ℤ b }
 {
-    (a as i64) * (b as i64)
-}
-
-fn least(a: i64, b: i64) -> i64
-    ensures { result ≡ min_z a b }
-{
-    if a <= b { a } else { b }
-}
-
-fn most(a: i64, b: i64) -> i64
-    ensures { result ≡ max_z a b }
-{
-    if a <= b { b } else { a }
+    i64::from(a) * i64::from(b)
 }
 
 // The range from low to high; all of 32 bits, where that leaves them.
@@ -129,30 +90,29 @@ fn fit(low: i64, high: i64) -> Window
     requires { Filled (to low high) }
     ensures { of_window result ≡ fitted (to low high) }
 {
-    if -2147483648 <= low {
-        if high <= 2147483647 {
-            return Window {
-                low: low as i32,
-                high: high as i32,
-            };
+    if i32::MIN as i64 <= low && high <= i32::MAX as i64 {
+        Window {
+            low: low as i32,
+            high: high as i32,
         }
-    }
-    Window {
-        low: -2147483648,
-        high: 2147483647,
+    } else {
+        Window {
+            low: i32::MIN,
+            high: i32::MAX,
+        }
     }
 }
 
 fn least_of(a: i64, b: i64, c: i64, d: i64) -> i64
     ensures { result ≡ min_z (min_z a b) (min_z c d) }
 {
-    least(least(a, b), least(c, d))
+    a.min(b).min(c.min(d))
 }
 
 fn most_of(a: i64, b: i64, c: i64, d: i64) -> i64
     ensures { result ≡ max_z (max_z a b) (max_z c d) }
 {
-    most(most(a, b), most(c, d))
+    a.max(b).max(c.max(d))
 }
 
 // The ranges of a sum, a difference and a product.
@@ -181,14 +141,14 @@ fn product(v: Window, w: Window) -> Window
     fit(least_of(a, b, c, d), most_of(a, b, c, d))
 }
 
-// The range of the operation with this number.
-pub fn range(o: u32, v: Window, w: Window) -> Window
+// The range of an operation.
+pub fn range(o: Operation, v: Window, w: Window) -> Window
     requires { Filled (of_window v) × Filled (of_window w) }
-    ensures { of_window result ≡ fitted (span (operation o) (of_window v) (of_window w)) }
+    ensures { of_window result ≡ fitted (span (of_operation o) (of_window v) (of_window w)) }
 {
     match o {
-        0 => sum(v, w),
-        1 => difference(v, w),
-        _ => product(v, w),
+        Operation::Add => sum(v, w),
+        Operation::Sub => difference(v, w),
+        Operation::Mul => product(v, w),
     }
 }

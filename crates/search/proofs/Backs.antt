@@ -1,4 +1,5 @@
 -- After a path: the newest choice is taken back, or the search is over.
+use Rattle.std.specs.Prelude.{Option as Maybe, Some, None, Result, Ok, Err}
 use Prim.Native.Nat.{ℕ}
 use native.Mathlib.Omega.{arith}
 use mathlib.Core.Path.{◌≡◌, refl, sym, ap, ap₂, ◌∙◌, subst}
@@ -14,21 +15,16 @@ use Rattle.machine.specs.Memory.{outcomes_in, windows_in}
 use Rattle.machine.specs.Terms.{meant}
 use Rattle.machine.specs.declared.Value.{Value}
 use Rattle.settings.specs.declared.Tally.{Tally}
-use Rattle.settings.specs.declared.Tried.{Tried}
-use Rattle.settings.specs.declared.Tried.TheVariants as tried
+use Rattle.settings.specs.declared.Stopped.{Stopped}
+use Rattle.settings.specs.declared.Stopped.TheVariants.{Full, Spent}
 use Rattle.settings.specs.Table.{Steady}
 use Rattle.settings.specs.Tries.{tally_of, tally_in, next_of, tests, Counts, Counted, Charged, Placing, Rowed}
 use Rattle.settings.proofs.Counting.{rowed-none}
 use Rattle.settings.proofs.Going.{counts-more}
 use Rattle.paths.specs.declared.Point.{Point}
-use Rattle.search.specs.Loop.{NewestBack, Flips, FlipsBy, forced_in, close_of, closes, then_of, written_in, Adds, Onward, Leaves, Backed, BacktracksBy, Finished}
-use Rattle.search.specs.declared.Next.{Next}
-use Rattle.search.specs.declared.Next.TheVariants.{Ended, Forced}
+use Rattle.search.specs.Loop.{NewestBack, Flips, FlipsBy, forced_in, close_of, closes, stopping, then_of, written_in, Adds, Onward, Leaves, Backed, BacktracksBy, Finished}
 use Rattle.search.specs.declared.Ending.{Ending}
-use Rattle.search.specs.declared.Ending.TheVariants as ending
 use Rattle.search.specs.declared.Answered.{Answered}
-use Rattle.search.specs.declared.Then.{Then}
-use Rattle.search.specs.declared.Then.TheVariants.{On, Over}
 use Rattle.search.proofs.Outcomes.{at, kept}
 
 abbrev starting : List Bool → lister.Tally → lister.Next Start
@@ -52,9 +48,9 @@ adds-of c = record { more = c.more; most = omega (arith, c.places) }
 -- ---- the choice taken back
 
 -- no choice is left
-pub ended-backed : (m m' : List ℕ) (n : ℕ) (t : Tally) (x : Next) → NewestBack m m' n x → x ≡ Ended → (e : Ending) → close_of e ≡ closing t.cut → (a : Answered) → a ≡ closes t e
-    → Backed m m' n (tried.Go t) (Over a)
-ended-backed m m' n t x b q e c a d = subst (λ (a : Answered). Backed m m' n (tried.Go t) (Over a)) (sym d) (record {
+pub ended-backed : (m m' : List ℕ) (n : ℕ) (t : Tally) (x : Maybe ℕ) → NewestBack m m' n x → x ≡ None → (e : Ending) → close_of e ≡ closing t.cut → (a : Answered) → a ≡ closes t e
+    → Backed m m' n (Ok t) (Err a)
+ended-backed m m' n t x b q e c a d = subst (λ (a : Answered). Backed m m' n (Ok t) (Err a)) (sym d) (record {
   is = λ rows. ap (λ k. over (closed k (tally_of rows t))) c ∙ back_none (outcomes_in m 0 n) (tally_of rows t) (sym (ap (forced_in m') q) ∙ b.is);
   onward = adds_none t;
   same = refl;
@@ -62,37 +58,35 @@ ended-backed m m' n t x b q e c a d = subst (λ (a : Answered). Backed m m' n (t
 })
 
 -- a move is made for it, or the budget is spent
-abbrev pub moved_on : ℕ → Tried → Then
-moved_on k (tried.Go u) = On k u
-moved_on k (tried.Full u) = Over (closes u ending.Full)
-moved_on k (tried.Spent u) = Over (closes u ending.Spent)
+abbrev pub moved_on : ℕ → Result Tally Stopped → Result (ℕ × Tally) Answered
+moved_on k (Ok u) = Ok (k, u)
+moved_on k (Err e) = Err (stopping e)
 
-moved_then : (m : List ℕ) (rows : List ℤ) (k : ℕ) (z : Tried) → then_of m rows (moved_on k z) ≡ then (next_of rows z) (starting (outcomes_in m 0 k))
-moved_then m rows k (tried.Go u) = refl
-moved_then m rows k (tried.Full u) = refl
-moved_then m rows k (tried.Spent u) = refl
+moved_then : (m : List ℕ) (rows : List ℤ) (k : ℕ) (z : Result Tally Stopped) → then_of m rows (moved_on k z) ≡ then (next_of rows z) (starting (outcomes_in m 0 k))
+moved_then m rows k (Ok u) = refl
+moved_then m rows k (Err (Full u)) = refl
+moved_then m rows k (Err (Spent u)) = refl
 
-moved-onward : (t : Tally) (k : ℕ) (z : Tried) → Counts t (tally_in z) → Onward t (moved_on k z)
-moved-onward t k (tried.Go u) c = c
-moved-onward t k (tried.Full u) c = adds-of c
-moved-onward t k (tried.Spent u) c = adds-of c
+moved-onward : (t : Tally) (k : ℕ) (z : Result Tally Stopped) → Counts t (tally_in z) → Onward t (moved_on k z)
+moved-onward t k (Ok u) c = c
+moved-onward t k (Err (Full u)) c = adds-of c
+moved-onward t k (Err (Spent u)) c = adds-of c
 
-moved_same : (k : ℕ) (z : Tried) → written_in (moved_on k z) ≡ (tally_in z).written
-moved_same k (tried.Go u) = refl
-moved_same k (tried.Full u) = refl
-moved_same k (tried.Spent u) = refl
+moved_same : (k : ℕ) (z : Result Tally Stopped) → written_in (moved_on k z) ≡ (tally_in z).written
+moved_same k (Ok u) = refl
+moved_same k (Err (Full u)) = refl
+moved_same k (Err (Spent u)) = refl
 
-moved-leaves : (m m' : List ℕ) (n k : ℕ) (z : Tried) → Flips m m' n k → Leaves m m' n (moved_on k z)
-moved-leaves m m' n k (tried.Go u) f = f
-moved-leaves m m' n k (tried.Full u) f = tt
-moved-leaves m m' n k (tried.Spent u) f = tt
+moved-leaves : (m m' : List ℕ) (n k : ℕ) (z : Result Tally Stopped) → Flips m m' n k → Leaves m m' n (moved_on k z)
+moved-leaves m m' n k (Ok u) f = f
+moved-leaves m m' n k (Err e) f = tt
 
-pub forced-backed : (m m' : List ℕ) (n : ℕ) (t : Tally) (x : Next) → NewestBack m m' n x → (k : ℕ) → x ≡ Forced k → (y : Tried) → Charged t (λ rows. charge (tally_of rows t)) y → (z : Tried) → y ≡ z
-    → (r : Then) → r ≡ moved_on k z
-    → Backed m m' n (tried.Go t) r
-forced-backed m m' n t x b k q y h z e r d = subst (λ (r : Then). Backed m m' n (tried.Go t) r) (sym d) (by (subst (λ (y : Tried). Charged t (λ rows. charge (tally_of rows t)) y) e h))
+pub forced-backed : (m m' : List ℕ) (n : ℕ) (t : Tally) (x : Maybe ℕ) → NewestBack m m' n x → (k : ℕ) → x ≡ Some k → (y : Result Tally Stopped) → Charged t (λ rows. charge (tally_of rows t)) y → (z : Result Tally Stopped) → y ≡ z
+    → (r : Result (ℕ × Tally) Answered) → r ≡ moved_on k z
+    → Backed m m' n (Ok t) r
+forced-backed m m' n t x b k q y h z e r d = subst (λ (r : Result (ℕ × Tally) Answered). Backed m m' n (Ok t) r) (sym d) (by (subst (λ (y : Result Tally Stopped). Charged t (λ rows. charge (tally_of rows t)) y) e h))
   where
-    by : Charged t (λ rows. charge (tally_of rows t)) z → Backed m m' n (tried.Go t) (moved_on k z)
+    by : Charged t (λ rows. charge (tally_of rows t)) z → Backed m m' n (Ok t) (moved_on k z)
     by h = record {
       is = λ rows. moved_then m' rows k z ∙ ap (λ (y : lister.Next lister.Tally). then y (starting (outcomes_in m' 0 k))) (h.counted.is rows)
           ∙ back_some (outcomes_in m 0 n) (outcomes_in m' 0 k) (tally_of rows t) (sym (ap (forced_in m') q) ∙ b.is);
@@ -103,19 +97,15 @@ forced-backed m m' n t x b k q y h z e r d = subst (λ (r : Then). Backed m m' n
 
 -- ---- the search is over
 
-pub over-full : (m : List ℕ) (n : ℕ) (x : Tried) (t : Tally) → x ≡ tried.Full t → (a : Answered) → a ≡ closes t ending.Full → Backed m m n x (Over a)
-over-full m n x t e a d = subst (λ (x : Tried). Backed m m n x (Over a)) (sym e)
-    (subst (λ (a : Answered). Backed m m n (tried.Full t) (Over a)) (sym d) (record { is = λ rows. refl; onward = adds_none t; same = refl; leaves = tt }))
-
-pub over-spent : (m : List ℕ) (n : ℕ) (x : Tried) (t : Tally) → x ≡ tried.Spent t → (a : Answered) → a ≡ closes t ending.Spent → Backed m m n x (Over a)
-over-spent m n x t e a d = subst (λ (x : Tried). Backed m m n x (Over a)) (sym e)
-    (subst (λ (a : Answered). Backed m m n (tried.Spent t) (Over a)) (sym d) (record { is = λ rows. refl; onward = adds_none t; same = refl; leaves = tt }))
+pub over-stopped : (m : List ℕ) (n : ℕ) (e : Stopped) → Backed m m n (Err e) (Err (stopping e))
+over-stopped m n (Full t) = record { is = λ rows. refl; onward = adds_none t; same = refl; leaves = tt }
+over-stopped m n (Spent t) = record { is = λ rows. refl; onward = adds_none t; same = refl; leaves = tt }
 
 -- ---- a path's end
 
-pub onward-more : (t u : Tally) (r : Then) → Counts t u → Onward u r → Onward t r
-onward-more t u (On k w) c o = counts-more c o
-onward-more t u (Over a) c o = record { more = omega (arith, c.more, o.more); most = omega (arith, c.places, o.most) }
+pub onward-more : (t u : Tally) (r : Result (ℕ × Tally) Answered) → Counts t u → Onward u r → Onward t r
+onward-more t u (Ok w) c o = counts-more c o
+onward-more t u (Err a) c o = record { more = omega (arith, c.more, o.more); most = omega (arith, c.places, o.most) }
 
 outcomes-steady : (m m' : List ℕ) → Steady m m' → (n : ℕ) → outcomes_in m' 0 n ≡ outcomes_in m 0 n
 outcomes-steady m m' s n = kept m m' 0 n (λ j l u. s.other (at j) (λ a b. omega arith) (λ q e. omega arith))
@@ -123,11 +113,11 @@ outcomes-steady m m' s n = kept m m' 0 n (λ j l u. s.other (at j) (λ a b. omeg
 steady-none : (m : List ℕ) → Steady m m
 steady-none m = record { other = λ i a b. refl }
 
-backtracks-so : (m m₁ m₂ : List ℕ) (n : ℕ) (r : Then) → Steady m m₁ → Leaves m₁ m₂ n r → BacktracksBy m m₂ n r
-backtracks-so m m₁ m₂ n (On k t) s f = record { some = f.some; most = f.most; other = λ i a b c. f.other i c ∙ s.other i a b }
-backtracks-so m m₁ m₂ n (Over a) s f = tt
+backtracks-so : (m m₁ m₂ : List ℕ) (n : ℕ) (r : Result (ℕ × Tally) Answered) → Steady m m₁ → Leaves m₁ m₂ n r → BacktracksBy m m₂ n r
+backtracks-so m m₁ m₂ n (Ok t) s f = record { some = f.some; most = f.most; other = λ i a b c. f.other i c ∙ s.other i a b }
+backtracks-so m m₁ m₂ n (Err a) s f = tt
 
-module _ (m m₁ m₂ : List ℕ) (p : Point) (t : Tally) (x : Tried) (r : Then) (s : Steady m m₁) (b : Backed m₁ m₂ p.choices x r) where
+module _ (m m₁ m₂ : List ℕ) (p : Point) (t : Tally) (x : Result Tally Stopped) (r : Result (ℕ × Tally) Answered) (s : Steady m m₁) (b : Backed m₁ m₂ p.choices x r) where
   after-end : (rows : List ℤ) (y : lister.Next lister.Tally) → next_of rows x ≡ y → then_of m₂ rows r ≡ then y (back (outcomes_in m 0 p.choices))
   after-end rows y e = b.is rows ∙ ap₂ (λ (y : lister.Next lister.Tally) (h : List Bool). then y (back h)) e (outcomes-steady m m₁ s p.choices)
 
@@ -151,7 +141,7 @@ module _ (m m₁ m₂ : List ℕ) (p : Point) (t : Tally) (x : Tried) (r : Then)
     backtracks = backtracks-so m m₁ m₂ p.choices r s b.leaves;
   }
 
-pub finished-fail : (m m₂ : List ℕ) (p : Point) (t : Tally) (r : Then) → Backed m m₂ p.choices (tried.Go t) r → (rows : List ℤ) → Finished m m₂ rows rows failed p t r
+pub finished-fail : (m m₂ : List ℕ) (p : Point) (t : Tally) (r : Result (ℕ × Tally) Answered) → Backed m m₂ p.choices (Ok t) r → (rows : List ℤ) → Finished m m₂ rows rows failed p t r
 unfolding finish
 finished-fail m m₂ p t r b rows = record {
   is = b.is rows;

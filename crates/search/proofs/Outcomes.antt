@@ -1,4 +1,5 @@
 -- The outcomes in memory, and the newest true one taken back.
+use Rattle.std.specs.Prelude.{Some, None}
 use Prim.Native.Nat.{ℕ, zero, suc, ◌+◌, ◌-◌, ◌≤◌, ◌<◌}
 use native.Mathlib.Nat.{eq-or-lt_of_le}
 use native.Mathlib.Omega.{arith}
@@ -14,7 +15,6 @@ use Rattle.simulation.proofs.Back.{AllFalse, next-none, next-newest}
 use Rattle.machine.specs.Layout.{outcome_place, words_for}
 use Rattle.machine.specs.Memory.{outcome_as, outcomes_in}
 use Rattle.search.specs.Loop.{NewestBack}
-use Rattle.search.specs.declared.Next.TheVariants.{Ended, Forced}
 
 -- the word of choice j
 abbrev pub at : ℕ → ℕ
@@ -65,7 +65,7 @@ kept m m' i (suc k) f = ap₂ (λ (x : ℕ) (l : List Bool). outcome_as x ∷ l)
 
 -- ---- what taking back does
 
-pub none_left : (m : List ℕ) (n : ℕ) → FalseFrom m 0 n → NewestBack m m n Ended
+pub none_left : (m : List ℕ) (n : ℕ) → FalseFrom m 0 n → NewestBack m m n None
 none_left m n f = record { is = sym (next-none (outcomes_in m 0 n) (all-false m 0 n (λ j l u. f j l (omega arith)))); flips = refl }
 
 module _ (m : List ℕ) (n k : ℕ) (inside : k < n) (room : words_for n ≤ length m) (was : get_or m (at k) 0 ≡ 0 → ⊥) (after : FalseFrom m (suc k) n) where
@@ -86,7 +86,7 @@ module _ (m : List ℕ) (n k : ℕ) (inside : k < n) (room : words_for n ≤ len
       (kept m back 0 k (λ j l u. get_or-set_other m (at k) (at j) 0 0 (λ e. omega (arith, e))))
       (get_or-set_same m (at k) 0 0 (omega (arith, room)))
 
-  pub newest : NewestBack m back n (Forced (k + 1))
+  pub newest : NewestBack m back n (Some (k + 1))
   newest = record {
     is = ap some now ∙ sym (ap next before ∙ next-newest (outcomes_in m 0 k) (outcomes_in m (suc k) (n - suc k)) (all-false m (suc k) (n - suc k) (λ j l u. after j l (omega arith))));
     flips = record { some = omega arith; most = omega arith; other = λ i h. get_or-set_other m (at k) i 0 0 (λ e. h (e ∙ ap at {x = k} {y = k + 1 - 1} (omega arith))) };

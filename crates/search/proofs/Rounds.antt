@@ -1,4 +1,5 @@
 -- One path and its end, as the loop over the paths takes them.
+use Rattle.std.specs.Prelude.{Result, Ok, Err}
 use Prim.Native.Nat.{ℕ, ◌+◌, ◌-◌, ◌≤◌, ◌<◌}
 use native.Mathlib.Omega.{arith}
 use mathlib.Core.Path.{◌≡◌, refl, sym, ap, ◌∙◌, subst}
@@ -20,7 +21,7 @@ use Rattle.machine.specs.Memory.{outcomes_in}
 use Rattle.machine.specs.Terms.{Room}
 use Rattle.machine.proofs.Tables.{room-same}
 use Rattle.settings.specs.declared.Tally.{Tally}
-use Rattle.settings.specs.Tries.{tally_of, Counts, Fair}
+use Rattle.settings.specs.Tries.{tally_of, leaving, Counts, Fair}
 use Rattle.settings.proofs.Counting.{rowed-none}
 use Rattle.paths.specs.declared.Point.{Point}
 use Rattle.paths.proofs.Table.{starts-same}
@@ -29,21 +30,19 @@ use Rattle.walks.specs.declared.Walked.{Walked}
 use Rattle.walks.specs.Checkpoints.{none, StackHolds}
 use Rattle.walks.specs.Walk.{paid, Walks, Ends, FromMain, Begins}
 use Rattle.walks.proofs.Checkpoints.{Alike, checkpoints-stay}
-use Rattle.search.specs.Loop.{closes, paying, BacktracksBy, Finished, Round, Resumes}
+use Rattle.search.specs.Loop.{closes, BacktracksBy, Finished, Round, Resumes}
 use Rattle.search.specs.declared.Ending.TheVariants as ending
 use Rattle.search.specs.declared.Answered.{Answered}
-use Rattle.search.specs.declared.Then.{Then}
-use Rattle.search.specs.declared.Then.TheVariants.{On, Over}
 use Rattle.search.proofs.Backs.{onward-more}
 
 -- how the path went, by the kind of its end
 pub walked_as : (c : Code) (job : Window) (limit budget : ℕ) (forced : List Bool) (m : List ℕ) (r w : Walked) → r ≡ w → FromMain c job limit budget forced m r → FromMain c job limit budget forced m w
 walked_as c job limit budget forced m r w e h = subst (FromMain c job limit budget forced m) e h
 
-paying-counts : (t : Tally) (left : ℕ) → left ≤ t.budget → Counts t (paying t left)
+paying-counts : (t : Tally) (left : ℕ) → left ≤ t.budget → Counts t (leaving t left)
 paying-counts t left l = record { sum = omega (arith, l); places = refl; more = omega arith; spends = l }
 
-pub paying-fair : (t u : Tally) (left size : ℕ) → u ≡ paying t left → left ≤ t.budget → Fair size t → Fair size u
+pub paying-fair : (t u : Tally) (left size : ℕ) → u ≡ leaving t left → left ≤ t.budget → Fair size t → Fair size u
 paying-fair t u left size e l f = subst (Fair size) (sym e) (record { sum = omega (arith, l, f.sum); place = f.place })
 
 pub room-few : (m m' : List ℕ) (n limit : ℕ) → n ≤ limit → length m' ≡ length m → Room m (limit + 1) → Room m' n
@@ -54,10 +53,10 @@ enough : (c : Code) (limit : ℕ) (fs : List Bool) → turns_left c (start known
 enough c limit fs = turns-le c limit (start known work c) (begins limit fs) (kept-start c limit fs)
 
 -- the checkpoints of a path that has ended are those before the next one
-resumes : (c : Code) (job : Window) (limit : ℕ) (m₁ m₂ : List ℕ) (n choices u : ℕ) (s : Stack) (r : Then) → StackHolds c job m₁ choices n choices u s → s.limit ≡ limit → length m₂ ≡ length m₁ → BacktracksBy m₁ m₂ choices r
+resumes : (c : Code) (job : Window) (limit : ℕ) (m₁ m₂ : List ℕ) (n choices u : ℕ) (s : Stack) (r : Result (ℕ × Tally) Answered) → StackHolds c job m₁ choices n choices u s → s.limit ≡ limit → length m₂ ≡ length m₁ → BacktracksBy m₁ m₂ choices r
     → Resumes c job m₂ limit r s
-resumes c job limit m₁ m₂ n choices w s (Over a) h e len f = tt
-resumes c job limit m₁ m₂ n choices w s (On k u) h e len f = (
+resumes c job limit m₁ m₂ n choices w s (Err a) h e len f = tt
+resumes c job limit m₁ m₂ n choices w s (Ok (k, u)) h e len f = (
   record {
     nodes = n;
     choices = choices;
@@ -83,21 +82,21 @@ resumes c job limit m₁ m₂ n choices w s (On k u) h e len f = (
     }
 
 module _ (c : Code) (job : Window) (limit : ℕ) (m m₁ m₂ : List ℕ) (rows rows' : List ℤ) (forced : ℕ) (t : Tally) where
-  pub round-ended : (e : End) (p : Point) (s : Stack) (left : ℕ) → Ends c job limit t.budget (start known work c) (begins limit (outcomes_in m 0 forced)) m₁ e p s left → (u : Tally) → u ≡ paying t left → (r : Then)
+  pub round-ended : (e : End) (p : Point) (s : Stack) (left : ℕ) → Ends c job limit t.budget (start known work c) (begins limit (outcomes_in m 0 forced)) m₁ e p s left → (u : Tally) → u ≡ leaving t left → (r : Result (ℕ × Tally) Answered)
       → length m₂ ≡ length m₁ → Finished m₁ m₂ rows rows' e p u r → Round c job limit m m₂ rows rows' forced t r × Resumes c job m₂ limit r s
   round-ended e p s left h u q r len f = (by (subst (λ (u : Tally). Finished m₁ m₂ rows rows' e p u r) q f), resumes c job limit m₁ m₂ p.run.nodes p.choices p.windows s r h.stacked h.limited len f.backtracks)
     where
-      by : Finished m₁ m₂ rows rows' e p (paying t left) r → Round c job limit m m₂ rows rows' forced t r
+      by : Finished m₁ m₂ rows rows' e p (leaving t left) r → Round c job limit m m₂ rows rows' forced t r
       by f = record {
         is = f.is ∙ sym (h.walks.is (tally_of rows t) refl (most_turns c limit) (enough c limit (outcomes_in m 0 forced)));
-        onward = onward-more t (paying t left) r (paying-counts t left h.rest) f.onward;
+        onward = onward-more t (leaving t left) r (paying-counts t left h.rest) f.onward;
         rowed = f.rowed;
       }
 
 pub round-spent : (c : Code) (job : Window) (limit : ℕ) (m m₁ : List ℕ) (rows : List ℤ) (forced : ℕ) (t : Tally)
-    → Walks c job limit t.budget (start known work c) (begins limit (outcomes_in m 0 forced)) (λ t. over (closed spent (paid 0 t))) → (u : Tally) → u ≡ paying t 0
-    → (a : Answered) → a ≡ closes u ending.Spent → Round c job limit m m₁ rows rows forced t (Over a)
-round-spent c job limit m m₁ rows forced t h u q a d = subst (λ (a : Answered). Round c job limit m m₁ rows rows forced t (Over a)) (sym (d ∙ ap (λ (u : Tally). closes u ending.Spent) q)) (record {
+    → Walks c job limit t.budget (start known work c) (begins limit (outcomes_in m 0 forced)) (λ t. over (closed spent (paid 0 t))) → (u : Tally) → u ≡ leaving t 0
+    → (a : Answered) → a ≡ closes u ending.Spent → Round c job limit m m₁ rows rows forced t (Err a)
+round-spent c job limit m m₁ rows forced t h u q a d = subst (λ (a : Answered). Round c job limit m m₁ rows rows forced t (Err a)) (sym (d ∙ ap (λ (u : Tally). closes u ending.Spent) q)) (record {
   is = sym (h.is (tally_of rows t) refl (most_turns c limit) (enough c limit (outcomes_in m 0 forced)));
   onward = record { more = omega arith; most = omega arith };
   rowed = rowed-none rows t.written;
@@ -109,10 +108,10 @@ pub begins-first : (c : Code) (job : Window) (m : List ℕ) (limit cells : ℕ) 
 begins-first c job m limit cells r u = record { nodes = 0; choices = 0; windows = 0; stacked = record { checkpoints = none refl; room = r; uses = u.0; cells = u.1 }; first = λ e. refl }
 
 -- the limit is that of the search
-pub round-as : (c : Code) (job : Window) (l limit : ℕ) (m m' : List ℕ) (rows rows' : List ℤ) (forced : ℕ) (t : Tally) (r : Then) → l ≡ limit → Round c job l m m' rows rows' forced t r → Round c job limit m m' rows rows' forced t r
+pub round-as : (c : Code) (job : Window) (l limit : ℕ) (m m' : List ℕ) (rows rows' : List ℤ) (forced : ℕ) (t : Tally) (r : Result (ℕ × Tally) Answered) → l ≡ limit → Round c job l m m' rows rows' forced t r → Round c job limit m m' rows rows' forced t r
 round-as c job l limit m m' rows rows' forced t r e h = subst (λ (l : ℕ). Round c job l m m' rows rows' forced t r) e h
 
-pub resumes-as : (c : Code) (job : Window) (m' : List ℕ) (l limit : ℕ) (r : Then) (s : Stack) (k : ℕ) (u : Tally) → r ≡ On k u → l ≡ limit → Resumes c job m' l r s → Begins c job m' k s × (s.limit ≡ limit)
+pub resumes-as : (c : Code) (job : Window) (m' : List ℕ) (l limit : ℕ) (r : Result (ℕ × Tally) Answered) (s : Stack) (k : ℕ) (u : Tally) → r ≡ Ok (k, u) → l ≡ limit → Resumes c job m' l r s → Begins c job m' k s × (s.limit ≡ limit)
 resumes-as c job m' l limit r s k u e f h =
-    let g : Begins c job m' k s × (s.limit ≡ l) = subst (λ (r : Then). Resumes c job m' l r s) e h in
+    let g : Begins c job m' k s × (s.limit ≡ l) = subst (λ (r : Result (ℕ × Tally) Answered). Resumes c job m' l r s) e h in
     (g.0, g.1 ∙ f)

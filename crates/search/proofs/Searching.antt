@@ -1,4 +1,5 @@
 -- Path after path: the answer to the whole search stays the same, and the budget falls.
+use Rattle.std.specs.Prelude.{Result, Ok, Err}
 use Prim.Native.Nat.{ℕ, ◌+◌, ◌*◌, ◌≤◌, ◌<◌}
 use native.Mathlib.Omega.{arith}
 use mathlib.Core.Path.{◌≡◌, refl, sym, ◌∙◌, subst}
@@ -28,8 +29,6 @@ use Rattle.settings.proofs.Going.{rowed-more}
 use Rattle.settings.proofs.Slice.{sheet-is}
 use Rattle.search.specs.Loop.{start_of, then_of, Round, Lists}
 use Rattle.search.specs.declared.Answered.{Answered}
-use Rattle.search.specs.declared.Then.{Then}
-use Rattle.search.specs.declared.Then.TheVariants.{On, Over}
 
 -- what was counted at first
 abbrev pub first : ℕ → ℕ → ℕ → Tally
@@ -66,7 +65,7 @@ module _ (c : Code) (window : Window) (limit skip room budget : ℕ) (m₀ : Lis
     pub between-fair : budget < 4294967296 → 10 * room ≤ length rows₀ → Fair (length rows) t
     between-fair l h = record { sum = omega (arith, b.sum, l); place = subst (λ (n : ℕ). 10 * n ≤ length rows) (sym b.places) (omega (arith, b.sheet, h)) }
 
-    module _ (m' : List ℕ) (rows' : List ℤ) (r : Then) (h : Round c window limit m m' rows rows' forced t r) where
+    module _ (m' : List ℕ) (rows' : List ℤ) (r : Result (ℕ × Tally) Answered) (h : Round c window limit m m' rows rows' forced t r) where
       opens-next : (j : Job) → Placed c j.program → Sure (does known work j.steps j.program) → j.window ≡ window → j.steps ≡ limit
           → OpensNext (listed in_use j skip room budget) (tree_of in_use window limit j.program) (then_of m' rows' r)
       opens-next j placing sure p q =
@@ -81,17 +80,17 @@ module _ (c : Code) (window : Window) (limit skip room budget : ℕ) (m₀ : Lis
       fewer : Fewer t.budget (then_of m' rows' r)
       fewer = subst (Fewer t.budget) (sym h.is) (path-fewer in_use window c limit (most_turns c limit) (start known work c) (begins limit (outcomes_in m 0 forced)) (tally_of rows t))
 
-    pub between-less : (m' : List ℕ) (rows' : List ℤ) (r : Then) → Round c window limit m m' rows rows' forced t r → (k : ℕ) (u : Tally) → r ≡ On k u → u.budget < t.budget
-    between-less m' rows' r h k u e = subst (λ (r : Then). Fewer t.budget (then_of m' rows' r)) e (fewer m' rows' r h)
+    pub between-less : (m' : List ℕ) (rows' : List ℤ) (r : Result (ℕ × Tally) Answered) → Round c window limit m m' rows rows' forced t r → (k : ℕ) (u : Tally) → r ≡ Ok (k, u) → u.budget < t.budget
+    between-less m' rows' r h k u e = subst (λ (r : Result (ℕ × Tally) Answered). Fewer t.budget (then_of m' rows' r)) e (fewer m' rows' r h)
 
-    pub between_next : (m' : List ℕ) (rows' : List ℤ) (r : Then) → Round c window limit m m' rows rows' forced t r → (k : ℕ) (u : Tally) → r ≡ On k u → length m'
+    pub between_next : (m' : List ℕ) (rows' : List ℤ) (r : Result (ℕ × Tally) Answered) → Round c window limit m m' rows rows' forced t r → (k : ℕ) (u : Tally) → r ≡ Ok (k, u) → length m'
         ≡ length m → length rows' ≡ length rows
         → Between c window limit skip room budget m₀ rows₀ m' rows' k u
-    between_next m' rows' r h k u e x y = by (subst (λ (r : Then). Round c window limit m m' rows rows' forced t r) e h)
+    between_next m' rows' r h k u e x y = by (subst (λ (r : Result (ℕ × Tally) Answered). Round c window limit m m' rows rows' forced t r) e h)
       where
-        by : Round c window limit m m' rows rows' forced t (On k u) → Between c window limit skip room budget m₀ rows₀ m' rows' k u
+        by : Round c window limit m m' rows rows' forced t (Ok (k, u)) → Between c window limit skip room budget m₀ rows₀ m' rows' k u
         by h = record {
-          opens = opens-next m' rows' (On k u) h;
+          opens = opens-next m' rows' (Ok (k, u)) h;
           rowed = rowed-more rows₀ rows rows' 0 t.written u.written (omega arith) h.onward.more b.rowed h.rowed;
           places = h.onward.places ∙ b.places;
           sum = h.onward.sum ∙ b.sum;
@@ -99,13 +98,13 @@ module _ (c : Code) (window : Window) (limit skip room budget : ℕ) (m₀ : Lis
           sheet = y ∙ b.sheet;
         }
 
-    pub between-over : 10 * room ≤ length rows₀ → (m' : List ℕ) (rows' : List ℤ) (r : Then) → Round c window limit m m' rows rows' forced t r → (a : Answered) → r ≡ Over a → length rows'
+    pub between-over : 10 * room ≤ length rows₀ → (m' : List ℕ) (rows' : List ℤ) (r : Result (ℕ × Tally) Answered) → Round c window limit m m' rows rows' forced t r → (a : Answered) → r ≡ Err a → length rows'
         ≡ length rows → Lists c window limit skip room budget rows₀ rows' a
-    between-over l m' rows' r h a e y = by (subst (λ (r : Then). Round c window limit m m' rows rows' forced t r) e h)
+    between-over l m' rows' r h a e y = by (subst (λ (r : Result (ℕ × Tally) Answered). Round c window limit m m' rows rows' forced t r) e h)
       where
-        by : Round c window limit m m' rows rows' forced t (Over a) → Lists c window limit skip room budget rows₀ rows' a
+        by : Round c window limit m m' rows rows' forced t (Err a) → Lists c window limit skip room budget rows₀ rows' a
         by h = record {
-          is = opens-next m' rows' (Over a) h;
+          is = opens-next m' rows' (Err a) h;
           sheet = sheet-is rows₀ rows' a.written (y ∙ b.sheet) (omega (arith, l, h.onward.most, b.places))
               (rowed-more rows₀ rows rows' 0 t.written a.written (omega arith) h.onward.more b.rowed h.rowed);
           few = omega (arith, h.onward.most, b.places);

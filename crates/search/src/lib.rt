@@ -1,29 +1,22 @@
 // The search: path after path, up to its answer.
 #![tactic(auto)]
 
-ghost use Rattle.std.specs.Prelude.{◌≡◌, List, ◌+◌, ◌*◌, ◌<◌, ◌≤◌, ◌/◌, length, ℤ};
+ghost use Rattle.std.specs.Prelude.{◌≡◌, List, ◌+◌, ◌*◌, ◌<◌, ◌≤◌, ◌/◌, length, ℤ, Ok};
 ghost use Rattle.simulation.specs.Path as path;
+ghost use Rattle.simulation.specs.Lister.{closing};
 ghost use Rattle.simulation.specs.Words.{code_in};
 ghost use Rattle.intervals.specs.Meaning.{Filled, of_window};
 ghost use Rattle.machine.specs.Terms.{Room, meant};
-ghost use Rattle.settings.specs.Tries.{tally_in, Fair};
-ghost use Rattle.settings.specs.declared.Tried.TheVariants as tried;
+ghost use Rattle.settings.specs.Tries.{Fair};
 ghost use Rattle.paths.specs.Point.{Standing};
 ghost use Rattle.walks.specs.Walk.{Begins};
-ghost use Rattle.search.specs.Loop.{NewestBack, closes, paying, Backed, Finished, Round, Resumes, Lists};
+ghost use Rattle.search.specs.Loop.{NewestBack, close_of, closes, stopping, Backed, Finished, Round, Resumes, Lists};
 
 use intervals::Window;
 use machine::{Value, layout};
 use paths::Point;
-use settings::{Tally, Tried};
+use settings::{Stopped, Tally};
 use walks::{Stack, Walked};
-
-// The outcomes that are forced on the next path, by their count; or there is no next path.
-#[derive(Drop)]
-pub enum Next {
-    Ended,
-    Forced(usize),
-}
 
 // How the search closes: it has ended, without a cut run or with one; a row has no place; or the budget is spent.
 #[derive(Clone, Copy, PartialEq, Eq, Debug)]
@@ -42,116 +35,94 @@ pub struct Answered {
     pub ending: Ending,
 }
 
-// Another path follows, with so many forced outcomes; or the search is over.
-#[derive(Drop)]
-pub enum Then {
-    On(usize, Tally),
-    Over(Answered),
+impl From<Stopped> for Answered {
+    ghost from_gives = { λ e a. a ≡ stopping e };
+
+    fn from(e: Stopped) -> Answered {
+        match e {
+            Stopped::Full(t) => close(t, Ending::Full),
+            Stopped::Spent(t) => close(t, Ending::Spent),
+        }
+    }
 }
 
-// What follows a path, and the checkpoints that there are.
+// What follows a path, with the checkpoints that there are: another path, with so many forced outcomes; or the search is over.
 #[derive(Drop)]
 pub struct Rounded {
-    pub then: Then,
+    pub then: Result<(usize, Tally), Answered>,
     pub stack: Stack,
 }
 
-// Takes back the newest choice that went true, of n: it goes false, and those after it are dropped.
-fn take_back(mem: &mut [u32], n: usize) -> Next
+// Takes back the newest choice that went true, of n: it goes false, and those after it are dropped. The outcomes up to it are forced on the next path, by their count; there is no next path where none went true.
+fn take_back(mem: &mut [u32], n: usize) -> Option<usize>
     requires { Room mem.old n }
     ensures { NewestBack mem.old mem.new n result }
 {
-    let mut i = n;
-    while 0 < i {
-        i -= 1;
-        if mem[layout::OUTCOMES + layout::STRIDE * i] != 0 {
-            mem[layout::OUTCOMES + layout::STRIDE * i] = 0;
-            return Next::Forced(i + 1);
+    for i in (0..n).rev() {
+        let place = layout::OUTCOMES + layout::STRIDE * i;
+        if mem[place] != 0 {
+            mem[place] = 0;
+            return Some(i + 1);
         }
     }
-    Next::Ended
+    None
 }
 
 // The answer, where so much was counted.
-fn close(t: Tally, e: Ending) -> Answered
-    ensures { result ≡ closes t e }
+fn close(t: Tally, ending: Ending) -> Answered
+    ensures { result ≡ closes t ending }
 {
     Answered {
         written: t.written,
         moves: t.moves,
-        ending: e,
+        ending,
+    }
+}
+
+// How a search closes that has ended.
+fn ended(cut: bool) -> Ending
+    ensures { close_of result ≡ closing cut }
+{
+    if cut {
+        Ending::Cuts
+    } else {
+        Ending::Whole
     }
 }
 
 // With no choice left the search has ended; else the newest is taken back, which is a move.
-fn go_back(mem: &mut [u32], n: usize, t: Tally) -> Then
+fn go_back(mem: &mut [u32], n: usize, t: Tally) -> Result<(usize, Tally), Answered>
     requires { Room mem.old n × (t.moves + t.budget < 4294967296) }
-    ensures { Backed mem.old mem.new n (tried.Go t) result }
+    ensures { Backed mem.old mem.new n (Ok t) result }
 {
-    match take_back(mem, n) {
-        Next::Ended => {
-            if t.cut {
-                return Then::Over(close(t, Ending::Cuts));
-            }
-            Then::Over(close(t, Ending::Whole))
-        }
-        Next::Forced(k) => match settings::charge(t) {
-            Tried::Go(u) => Then::On(k, u),
-            Tried::Full(u) => Then::Over(close(u, Ending::Full)),
-            Tried::Spent(u) => Then::Over(close(u, Ending::Spent)),
-        },
-    }
-}
-
-// After a path's settings were tried: the way to the next path, unless the search is over.
-fn go_on(mem: &mut [u32], n: usize, x: Tried) -> Then
-    requires { Room mem.old n × ((tally_in x).moves + (tally_in x).budget < 4294967296) }
-    ensures { Backed mem.old mem.new n x result }
-{
-    match x {
-        Tried::Go(t) => go_back(mem, n, t),
-        Tried::Full(t) => Then::Over(close(t, Ending::Full)),
-        Tried::Spent(t) => Then::Over(close(t, Ending::Spent)),
-    }
-}
-
-// What was counted, where so much of the budget is left.
-fn pay(t: Tally, left: u32) -> Tally
-    requires { (left ≤ t.budget) × (t.moves + t.budget < 4294967296) }
-    ensures { result ≡ paying t left }
-{
-    Tally {
-        budget: left,
-        skip: t.skip,
-        room: t.room,
-        written: t.written,
-        moves: t.moves + (t.budget - left),
-        cut: t.cut,
-    }
+    let Some(forced) = take_back(mem, n) else {
+        let ending = ended(t.cut);
+        return Err(close(t, ending));
+    };
+    let charged = t.charge()?;
+    Ok((forced, charged))
 }
 
 // At a return: the settings are tried, then the way to the next path.
-fn at_return(mem: &mut [u32], p: Point, v: Value, t: Tally, rows: &mut [i32]) -> Then
+fn at_return(mem: &mut [u32], p: Point, v: Value, t: Tally, rows: &mut [i32]) -> Result<(usize, Tally), Answered>
     requires { Standing mem.old p × Room mem.old p.choices × Fair (length rows.old) t }
     ensures { Finished mem.old mem.new rows.old rows.new (path.returned (meant mem.old p.run.nodes v)) p t result }
 {
-    let run = p.run;
-    let x = settings::trials(mem, run.nodes, p.choices, p.windows, v, t, rows);
-    go_on(mem, p.choices, x)
+    let u = settings::trials(mem, p.run.nodes, p.choices, p.windows, v, t, rows)?;
+    go_back(mem, p.choices, u)
 }
 
 // At a cut: settings are tried until one meets the tests, then the way to the next path.
-fn at_cut(mem: &mut [u32], p: Point, t: Tally) -> Then
+fn at_cut(mem: &mut [u32], p: Point, t: Tally) -> Result<(usize, Tally), Answered>
     requires { Standing mem.old p × Room mem.old p.choices × (t.moves + t.budget < 4294967296) }
     ensures { (rows : List ℤ) → Finished mem.old mem.new rows rows path.cut p t result }
 {
-    let run = p.run;
-    let x = settings::probes(mem, run.nodes, p.choices, p.windows, t);
-    go_on(mem, p.choices, x)
+    let u = settings::probes(mem, p.run.nodes, p.choices, p.windows, t)?;
+    go_back(mem, p.choices, u)
 }
 
 // At a fail no setting is tried.
-fn at_fail(mem: &mut [u32], p: Point, t: Tally) -> Then
+fn at_fail(mem: &mut [u32], p: Point, t: Tally) -> Result<(usize, Tally), Answered>
     requires { Room mem.old p.choices × (t.moves + t.budget < 4294967296) }
     ensures { (rows : List ℤ) → Finished mem.old mem.new rows rows path.failed p t result }
 {
@@ -174,23 +145,20 @@ fn round(
 {
     match walks::run_path(code, size, mem, job, stack, forced, t.budget) {
         Walked::Spent => {
-            let a = close(pay(t, 0), Ending::Spent);
-            Rounded {
-                then: Then::Over(a),
-                stack: stack,
-            }
+            let then = Err(close(t.leaving(0), Ending::Spent));
+            Rounded { then, stack }
         }
         Walked::Returned(v, p, s, left) => {
-            let x = at_return(mem, p, v, pay(t, left), rows);
-            Rounded { then: x, stack: s }
+            let then = at_return(mem, p, v, t.leaving(left), rows);
+            Rounded { then, stack: s }
         }
         Walked::Failed(p, s, left) => {
-            let x = at_fail(mem, p, pay(t, left));
-            Rounded { then: x, stack: s }
+            let then = at_fail(mem, p, t.leaving(left));
+            Rounded { then, stack: s }
         }
         Walked::Cut(p, s, left) => {
-            let x = at_cut(mem, p, pay(t, left));
-            Rounded { then: x, stack: s }
+            let then = at_cut(mem, p, t.leaving(left));
+            Rounded { then, stack: s }
         }
     }
 }
@@ -212,28 +180,26 @@ pub fn run(
     let mut forced: usize = 0;
     let mut stack = Stack {
         height: 0,
-        limit: limit,
+        limit,
         cells: walks::cells::in_use(code, size),
     };
     let mut t = Tally {
-        budget: budget,
-        skip: skip,
+        budget,
+        skip,
         room: rows.len() / 10,
         written: 0,
         moves: 0,
         cut: false,
     };
     loop {
-        let r = round(code, size, mem, job, stack, forced, t, rows);
-        let x = r.then;
-        let s = r.stack;
-        match x {
-            Then::On(k, u) => {
+        let rounded = round(code, size, mem, job, stack, forced, t, rows);
+        match rounded.then {
+            Ok((k, u)) => {
                 forced = k;
-                stack = s;
+                stack = rounded.stack;
                 t = u;
             }
-            Then::Over(a) => return a,
+            Err(a) => return a,
         }
     }
 }

@@ -1,4 +1,5 @@
 -- What is counted, as the code counts it.
+use Rattle.std.specs.Prelude.{Result, Ok, Err}
 use mathlib.Core.Path.{◌≡◌, refl, sym, ap, ap₂, ◌∙◌, subst}
 use mathlib.Core.Bool.{Bool, true, false}
 use mathlib.Core.List.{List, [], ◌∷◌, ◌++◌}
@@ -16,8 +17,8 @@ use Rattle.simulation.specs.Lister.{Next, then, go, over, closed, tally}
 use Rattle.settings.specs.Rows.{rows_at, row_with, row_at, words_of, words_from, Written}
 use Rattle.settings.specs.Tries.{tally_of, tally_in, spending, cutting, Moved, Charged, Rowed, Placing, Trying}
 use Rattle.settings.specs.declared.Tally.{Tally}
-use Rattle.settings.specs.declared.Tried.{Tried}
-use Rattle.settings.specs.declared.Tried.TheVariants.{Go, Full, Spent}
+use Rattle.settings.specs.declared.Stopped.{Stopped}
+use Rattle.settings.specs.declared.Stopped.TheVariants.{Full, Spent}
 use Rattle.settings.proofs.Sheet.{row_of}
 
 -- ---- a move
@@ -36,7 +37,7 @@ charge-one (suc b) k r rs n h e = ap₂ (λ (x y : ℕ). go (tally x k r rs y h)
 abbrev pub charges : Tally → List ℤ → Next lister.Tally
 charges t rows = lister.charge (tally_of rows t)
 
-pub charged-none : (t : Tally) → t.budget ≡ 0 → Charged t (charges t) (Spent t)
+pub charged-none : (t : Tally) → t.budget ≡ 0 → Charged t (charges t) (Err (Spent t))
 charged-none t e = record {
   counted = record {
     is = λ rows. charge-none t.budget t.skip t.room (rows_at rows t.written) t.moves t.cut e;
@@ -46,7 +47,7 @@ charged-none t e = record {
   moved = tt;
 }
 
-pub charged-one : (t : Tally) → (t.budget ≡ 0 → ⊥) → Charged t (charges t) (Go (spending t))
+pub charged-one : (t : Tally) → (t.budget ≡ 0 → ⊥) → Charged t (charges t) (Ok (spending t))
 charged-one t e = record {
   counted = record {
     is = λ rows. charge-one t.budget t.skip t.room (rows_at rows t.written) t.moves t.cut e;
@@ -85,14 +86,14 @@ abbrev pub rowed : Tally → Tally
 rowed t = record { budget = t.budget; skip = t.skip; room = t.room - 1; written = t.written + 1; moves = t.moves; cut = t.cut }
 
 module _ (rows : List ℤ) (t : Tally) (x : Row) where
-  pub placed-skip : 0 < t.skip → Placing rows rows t (lister.place x (tally_of rows t)) (Go (skipped t))
+  pub placed-skip : 0 < t.skip → Placing rows rows t (lister.place x (tally_of rows t)) (Ok (skipped t))
   placed-skip l = record {
     is = place-skip t.budget t.skip t.room (rows_at rows t.written) t.moves t.cut x l;
     counts = record { sum = refl; places = refl; more = omega arith; spends = omega arith };
     rowed = rowed-none rows t.written;
   }
 
-  pub placed-full : t.skip ≡ 0 → t.room ≡ 0 → Placing rows rows t (lister.place x (tally_of rows t)) (Full t)
+  pub placed-full : t.skip ≡ 0 → t.room ≡ 0 → Placing rows rows t (lister.place x (tally_of rows t)) (Err (Full t))
   placed-full e q = record {
     is = place-full t.budget t.skip t.room (rows_at rows t.written) t.moves t.cut x e q;
     counts = record { sum = refl; places = refl; more = omega arith; spends = omega arith };
@@ -100,7 +101,7 @@ module _ (rows : List ℤ) (t : Tally) (x : Row) where
   }
 
   pub placed_row : (rows' : List ℤ) → length x.values ≤ 8 → t.skip ≡ 0 → (t.room ≡ 0 → ⊥) → Written rows rows' t.written x
-      → Placing rows rows' t (lister.place x (tally_of rows t)) (Go (rowed t))
+      → Placing rows rows' t (lister.place x (tally_of rows t)) (Ok (rowed t))
   placed_row rows' few e q w = record {
     is = ap (λ (l : List Row). go (tally t.budget t.skip (t.room - 1) l t.moves t.cut)) w.is
         ∙ place-row t.budget t.skip t.room (rows_at rows t.written) t.moves t.cut x e q;
@@ -134,7 +135,7 @@ module _ (v : Value) (ts : List Test) (s : List ℤ) where
       ∙ ap (λ (x : Next lister.Tally). then x (λ u. elim (meets ts s) as (λ b. Next lister.Tally) [ true ↦ lister.place (row_with (under s v) s) u | false ↦ go u ])) e
 
   module _ (rows : List ℤ) (t : Tally) where
-    pub trying-over : t.budget ≡ 0 → Trying rows rows t (lister.trial v ts s (tally_of rows t)) (Spent t)
+    pub trying-over : t.budget ≡ 0 → Trying rows rows t (lister.trial v ts s (tally_of rows t)) (Err (Spent t))
     trying-over e = record {
       placed = record {
         is = trial-over (tally_of rows t) ((charged-none t e).counted.is rows);
@@ -144,7 +145,7 @@ module _ (v : Value) (ts : List Test) (s : List ℤ) where
       moved = tt;
     }
 
-    pub trying-missed : (t.budget ≡ 0 → ⊥) → meets ts s ≡ false → Trying rows rows t (lister.trial v ts s (tally_of rows t)) (Go (spending t))
+    pub trying-missed : (t.budget ≡ 0 → ⊥) → meets ts s ≡ false → Trying rows rows t (lister.trial v ts s (tally_of rows t)) (Ok (spending t))
     trying-missed e m = record {
       placed = record {
         is = trial-missed (tally_of rows t) (tally_of rows (spending t)) ((charged-one t e).counted.is rows) m;
@@ -154,12 +155,12 @@ module _ (v : Value) (ts : List Test) (s : List ℤ) where
       moved = (charged-one t e).moved;
     }
 
-    moved_by : (r : Tried) → (t.budget ≡ 0 → ⊥) → (tally_in r).budget ≤ t.budget - 1 → Moved t.budget r
-    moved_by (Go u) e l = omega (arith, e)
-    moved_by (Full u) e l = tt
-    moved_by (Spent u) e l = tt
+    moved_by : (r : Result Tally Stopped) → (t.budget ≡ 0 → ⊥) → (tally_in r).budget ≤ t.budget - 1 → Moved t.budget r
+    moved_by (Ok u) e l = omega (arith, e)
+    moved_by (Err (Full u)) e l = tt
+    moved_by (Err (Spent u)) e l = tt
 
-    pub trying-met : (rows' : List ℤ) (r : Tried) → (t.budget ≡ 0 → ⊥) → meets ts s ≡ true → Placing rows rows' (spending t) (lister.place (row_with (under s v) s) (tally_of rows (spending t))) r
+    pub trying-met : (rows' : List ℤ) (r : Result Tally Stopped) → (t.budget ≡ 0 → ⊥) → meets ts s ≡ true → Placing rows rows' (spending t) (lister.place (row_with (under s v) s) (tally_of rows (spending t))) r
         → Trying rows rows' t (lister.trial v ts s (tally_of rows t)) r
     trying-met rows' r e m p = record {
       placed = record {
@@ -171,7 +172,7 @@ module _ (v : Value) (ts : List Test) (s : List ℤ) where
     }
 
     -- the same, said of what the code hands over
-    pub trying-placed : (rows' : List ℤ) (r : Tried) (u : Tally) (z : ℤ) (s' : List ℤ) → (t.budget ≡ 0 → ⊥) → meets ts s ≡ true → u ≡ spending t → z ≡ under s v → s' ≡ s
+    pub trying-placed : (rows' : List ℤ) (r : Result Tally Stopped) (u : Tally) (z : ℤ) (s' : List ℤ) → (t.budget ≡ 0 → ⊥) → meets ts s ≡ true → u ≡ spending t → z ≡ under s v → s' ≡ s
         → Placing rows rows' u (lister.place (row_with z s') (tally_of rows u)) r → Trying rows rows' t (lister.trial v ts s (tally_of rows t)) r
     trying-placed rows' r u z s' e m a b c p = trying-met rows' r e m
         (subst (λ (u : Tally). Placing rows rows' u (lister.place (row_with (under s v) s) (tally_of rows u)) r) a
@@ -193,13 +194,13 @@ module _ (ts : List Test) (s : List ℤ) where
     abbrev pub probing : List ℤ → Next lister.Tally
     probing rows = lister.probe ts s (tally_of rows t)
 
-    pub probed-over : t.budget ≡ 0 → Charged t probing (Spent t)
+    pub probed-over : t.budget ≡ 0 → Charged t probing (Err (Spent t))
     probed-over e = record {
       counted = record { is = λ rows. probe-over (tally_of rows t) ((charged-none t e).counted.is rows); counts = (charged-none t e).counted.counts; same = refl };
       moved = tt;
     }
 
-    probed-one : (b : Bool) → (t.budget ≡ 0 → ⊥) → b ≡ meets ts s → Charged t probing (Go (cutting (spending t) b))
+    probed-one : (b : Bool) → (t.budget ≡ 0 → ⊥) → b ≡ meets ts s → Charged t probing (Ok (cutting (spending t) b))
     probed-one b e m = record {
       counted = record {
         is = λ rows. ap (λ (o : Bool). go (tally_of rows (cutting (spending t) o))) m ∙ probe-go (tally_of rows t) (tally_of rows (spending t)) ((charged-one t e).counted.is rows);
@@ -209,5 +210,5 @@ module _ (ts : List Test) (s : List ℤ) where
       moved = (charged-one t e).moved;
     }
 
-    pub probed-go : (u : Tally) (b : Bool) → (t.budget ≡ 0 → ⊥) → u ≡ spending t → b ≡ meets ts s → Charged t probing (Go (cutting u b))
-    probed-go u b e a m = subst (λ (u : Tally). Charged t probing (Go (cutting u b))) (sym a) (probed-one b e m)
+    pub probed-go : (u : Tally) (b : Bool) → (t.budget ≡ 0 → ⊥) → u ≡ spending t → b ≡ meets ts s → Charged t probing (Ok (cutting u b))
+    probed-go u b e a m = subst (λ (u : Tally). Charged t probing (Ok (cutting u b))) (sym a) (probed-one b e m)

@@ -1,4 +1,5 @@
 -- All settings tried one after another, as the odometer gives them.
+use Rattle.std.specs.Prelude.{Result, Ok}
 use mathlib.Core.Path.{◌≡◌, refl, sym, ap, ◌∙◌, subst}
 use mathlib.Core.Bool.{Bool, true, false, not}
 use mathlib.Core.Option.{Option, none, some}
@@ -17,8 +18,7 @@ use Rattle.simulation.proofs.Odometer.{no-setting, from, from_lowest, from_next,
 use Rattle.settings.specs.Rows.{words_of}
 use Rattle.settings.specs.Tries.{tally_of, next_of, tally_in, Counts, Rowed, Counted, Charged, Placing, Trying}
 use Rattle.settings.specs.declared.Tally.{Tally}
-use Rattle.settings.specs.declared.Tried.{Tried}
-use Rattle.settings.specs.declared.Tried.TheVariants.{Go}
+use Rattle.settings.specs.declared.Stopped.{Stopped}
 use Rattle.settings.proofs.Sheet.{row_same, words_same}
 use Rattle.settings.proofs.Counting.{rowed-none}
 
@@ -57,7 +57,7 @@ module _ (v : Value) (ts : List Test) (ws : List Window) (rows₀ : List ℤ) (t
   whole = lister.trials v ts (settings ws) (tally_of rows₀ t₀)
 
   -- there is no setting
-  pub tries-none : T (not (filled ws)) → Placing rows₀ rows₀ t₀ whole (Go t₀)
+  pub tries-none : T (not (filled ws)) → Placing rows₀ rows₀ t₀ whole (Ok t₀)
   unfolding lister.trials
   tries-none f = record {
     is = ap (λ (l : List (List ℤ)). lister.trials v ts l (tally_of rows₀ t₀)) (sym (no-setting ws f));
@@ -80,7 +80,7 @@ module _ (v : Value) (ts : List Test) (ws : List Window) (rows₀ : List ℤ) (t
     rowed = rowed-none rows₀ t₀.written;
   }
 
-  module _ {s : List ℤ} {rows : List ℤ} {t : Tally} (p : Tries s rows t) {rows' : List ℤ} {r : Tried} (q : Trying rows rows' t (lister.trial v ts s (tally_of rows t)) r) where
+  module _ {s : List ℤ} {rows : List ℤ} {t : Tally} (p : Tries s rows t) {rows' : List ℤ} {r : Result Tally Stopped} (q : Trying rows rows' t (lister.trial v ts s (tally_of rows t)) r) where
     one : then (next_of rows' r) (lister.trials v ts (onward ws (after ws s))) ≡ whole
     unfolding lister.trials
     one = ap (λ (x : Next lister.Tally). then x (lister.trials v ts (onward ws (after ws s)))) q.placed.is
@@ -101,7 +101,7 @@ module _ (v : Value) (ts : List Test) (ws : List Window) (rows₀ : List ℤ) (t
       rowed = sheet;
     }
 
-  module _ {s : List ℤ} {rows : List ℤ} {t : Tally} (p : Tries s rows t) {rows' : List ℤ} {u : Tally} (q : Trying rows rows' t (lister.trial v ts s (tally_of rows t)) (Go u)) where
+  module _ {s : List ℤ} {rows : List ℤ} {t : Tally} (p : Tries s rows t) {rows' : List ℤ} {u : Tally} (q : Trying rows rows' t (lister.trial v ts s (tally_of rows t)) (Ok u)) where
     -- there is a next setting
     pub tries-next : (s' : List ℤ) → after ws s ≡ some s' → Tries s' rows' u
     tries-next s' e = record {
@@ -112,7 +112,7 @@ module _ (v : Value) (ts : List Test) (ws : List Window) (rows₀ : List ℤ) (t
     }
 
     -- this was the last setting
-    pub tries-last : after ws s ≡ none → Placing rows₀ rows' t₀ whole (Go u)
+    pub tries-last : after ws s ≡ none → Placing rows₀ rows' t₀ whole (Ok u)
     unfolding lister.trials
     tries-last e = record {
       is = ap (λ (x : Option (List ℤ)). lister.trials v ts (onward ws x) (tally_of rows' u)) (sym e) ∙ one p q;
@@ -128,7 +128,7 @@ module _ (ts : List Test) (ws : List Window) (t₀ : Tally) where
   probing rows = lister.probes ts (settings ws) (tally_of rows t₀)
 
   -- there is no setting
-  pub probes-none : T (not (filled ws)) → Counted t₀ probing (Go t₀)
+  pub probes-none : T (not (filled ws)) → Counted t₀ probing (Ok t₀)
   unfolding lister.probes
   probes-none f = record {
     is = λ rows. ap (λ (l : List (List ℤ)). lister.probes ts l (tally_of rows t₀)) (sym (no-setting ws f));
@@ -161,10 +161,10 @@ module _ (ts : List Test) (ws : List Window) (t₀ : Tally) where
   miss s ss t e = ap (λ (b : Bool). elim b as (λ b. Next lister.Tally) [ true ↦ go t | false ↦ then (lister.probe ts s t) (lister.probes ts ss) ]) (sym e)
 
   -- a cut run was found before
-  pub probes-before : t₀.cut ≡ true → Counted t₀ probing (Go t₀)
+  pub probes-before : t₀.cut ≡ true → Counted t₀ probing (Ok t₀)
   probes-before e = record { is = λ rows. hit (settings ws) (tally_of rows t₀) e; counts = counts-none t₀; same = refl }
 
-  module _ {s : List ℤ} {t : Tally} (p : Probes s t) (m : t.cut ≡ false) {r : Tried} (q : Charged t (λ rows. lister.probe ts s (tally_of rows t)) r) where
+  module _ {s : List ℤ} {t : Tally} (p : Probes s t) (m : t.cut ≡ false) {r : Result Tally Stopped} (q : Charged t (λ rows. lister.probe ts s (tally_of rows t)) r) where
     probed : (rows : List ℤ) → then (next_of rows r) (lister.probes ts (onward ws (after ws s))) ≡ probing rows
     probed rows =
         ap (λ (x : Next lister.Tally). then x (lister.probes ts (onward ws (after ws s)))) (q.counted.is rows)
@@ -180,7 +180,7 @@ module _ (ts : List Test) (ws : List Window) (t₀ : Tally) where
       same = q.counted.same ∙ p.same;
     }
 
-  module _ {s : List ℤ} {t : Tally} (p : Probes s t) (m : t.cut ≡ false) {u : Tally} (q : Charged t (λ rows. lister.probe ts s (tally_of rows t)) (Go u)) where
+  module _ {s : List ℤ} {t : Tally} (p : Probes s t) (m : t.cut ≡ false) {u : Tally} (q : Charged t (λ rows. lister.probe ts s (tally_of rows t)) (Ok u)) where
     -- there is a next setting
     pub probes-next : (s' : List ℤ) → after ws s ≡ some s' → Probes s' u
     probes-next s' e = record {
@@ -191,7 +191,7 @@ module _ (ts : List Test) (ws : List Window) (t₀ : Tally) where
     }
 
     -- this was the last setting
-    pub probes-last : after ws s ≡ none → Counted t₀ probing (Go u)
+    pub probes-last : after ws s ≡ none → Counted t₀ probing (Ok u)
     unfolding lister.probes
     probes-last e = record {
       is = λ rows. ap (λ (x : Option (List ℤ)). lister.probes ts (onward ws x) (tally_of rows u)) (sym e) ∙ probed p m q rows;
@@ -200,7 +200,7 @@ module _ (ts : List Test) (ws : List Window) (t₀ : Tally) where
     }
 
     -- a cut run was found
-    pub probes-done : u.cut ≡ true → Counted t₀ probing (Go u)
+    pub probes-done : u.cut ≡ true → Counted t₀ probing (Ok u)
     probes-done e = record {
       is = λ rows. hit (onward ws (after ws s)) (tally_of rows u) e ∙ probed p m q rows;
       counts = counts-more p.counts q.counted.counts;

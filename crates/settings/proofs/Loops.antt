@@ -1,4 +1,5 @@
 -- The loops over all settings: where they stand, in memory. The first setting is there when a loop begins.
+use Rattle.std.specs.Prelude.{Result, Ok, Err}
 use mathlib.Core.Path.{◌≡◌, refl, sym, ap, ap₂, ◌∙◌, subst}
 use mathlib.Core.Bool.{Bool, true, false, not}
 use mathlib.Core.List.{List}
@@ -21,8 +22,8 @@ use Rattle.settings.specs.Seek.{Missed, Seeks, met, over, out, Seeking}
 use Rattle.settings.specs.Rows.{row_with}
 use Rattle.settings.specs.Tries.{tally_of, next_of, leaving, cutting, tests, Fair, Counts, Counted, Placing, Trying}
 use Rattle.settings.specs.declared.Tally.{Tally}
-use Rattle.settings.specs.declared.Tried.{Tried}
-use Rattle.settings.specs.declared.Tried.TheVariants.{Go, Spent}
+use Rattle.settings.specs.declared.Stopped.{Stopped}
+use Rattle.settings.specs.declared.Stopped.TheVariants.{Spent}
 use Rattle.settings.specs.declared.Sought.{Sought}
 use Rattle.settings.specs.declared.Sought.TheVariants.{Met, Over, Out}
 use Rattle.settings.proofs.Renumbered.{setting-stays, nodes-steady, tests-steady, windows-steady, steady-none, steady-numbers, steady-setting, steady-more}
@@ -79,7 +80,7 @@ pub record Trialling (m₀ : List ℕ) (n c k : ℕ) (v : Cell) (rows₀ : List 
 there : (m₀ m : List ℕ) (n c : ℕ) (v : Cell) → Steady m₀ m → (P : Value → List Test → Type 0) → P (meant m n v) (tests m n c) → P (meant m₀ n v) (tests m₀ n c)
 there m₀ m n c v s P p = subst (λ (ts : List Test). P (meant m₀ n v) ts) (tests-steady m₀ m s n c) (subst (λ (ns : List Node). P (meaning ns v) (tests m n c)) (nodes-steady m₀ m s n) p)
 
-pub trialling-none : (m : List ℕ) (n c k : ℕ) (v : Cell) (rows : List ℤ) (t : Tally) → T (not (filled (windows_in m k))) → Placing rows rows t (Whole m n c k v rows t) (Go t) × Steady m m
+pub trialling-none : (m : List ℕ) (n c k : ℕ) (v : Cell) (rows : List ℤ) (t : Tally) → T (not (filled (windows_in m k))) → Placing rows rows t (Whole m n c k v rows t) (Ok t) × Steady m m
 trialling-none m n c k v rows t h = (tries-none (meant m n v) (tests m n c) (windows_in m k) rows t h, steady-none m)
 
 pub trialling-first : (m m₀ : List ℕ) (n c k : ℕ) (v : Cell) (rows : List ℤ) (t : Tally) → k ≤ 8 → First m m₀ k → T (filled (windows_in m k)) → Trialling m₀ n c k v rows t m₀ rows t
@@ -91,25 +92,25 @@ trialling-first m m₀ n c k v rows t few f h = record {
 }
 
 module _ {m₀ : List ℕ} {n c k : ℕ} {v : Cell} {rows₀ : List ℤ} {t₀ : Tally} {m : List ℕ} {rows : List ℤ} {t : Tally} (few : k ≤ 8) (p : Trialling m₀ n c k v rows₀ t₀ m rows t)
-    (m₁ : List ℕ) (rows' : List ℤ) (r : Tried) (q : Trying rows rows' t (lister.trial (meant m n v) (tests m n c) (setting_in m k) (tally_of rows t)) r) (e : Renumbered m m₁) where
-  tried : (u : Tried) → r ≡ u → Trying rows rows' t (lister.trial (meant m₀ n v) (tests m₀ n c) (setting_in m k) (tally_of rows t)) u
-  tried u a = subst (λ (u : Tried). Trying rows rows' t (lister.trial (meant m₀ n v) (tests m₀ n c) (setting_in m k) (tally_of rows t)) u) a
+    (m₁ : List ℕ) (rows' : List ℤ) (r : Result Tally Stopped) (q : Trying rows rows' t (lister.trial (meant m n v) (tests m n c) (setting_in m k) (tally_of rows t)) r) (e : Renumbered m m₁) where
+  tried : (u : Result Tally Stopped) → r ≡ u → Trying rows rows' t (lister.trial (meant m₀ n v) (tests m₀ n c) (setting_in m k) (tally_of rows t)) u
+  tried u a = subst (λ (u : Result Tally Stopped). Trying rows rows' t (lister.trial (meant m₀ n v) (tests m₀ n c) (setting_in m k) (tally_of rows t)) u) a
       (there m₀ m n c v p.steady (λ w ts. Trying rows rows' t (lister.trial w ts (setting_in m k) (tally_of rows t)) r) q)
 
-  pub trialling-over : (u : Tried) {a : Answer} → r ≡ u → next_of rows' u ≡ lister.over a → Placing rows₀ rows' t₀ (Whole m₀ n c k v rows₀ t₀) u × Steady m₀ m₁
+  pub trialling-over : (u : Result Tally Stopped) {a : Answer} → r ≡ u → next_of rows' u ≡ lister.over a → Placing rows₀ rows' t₀ (Whole m₀ n c k v rows₀ t₀) u × Steady m₀ m₁
   trialling-over u a b = (tries-over (meant m₀ n v) (tests m₀ n c) (windows_in m₀ k) rows₀ t₀ p.tries (tried u a) b, steady-numbers m₀ m m₁ p.steady e)
 
-  pub trialling-next : (m₂ : List ℕ) (u : Tally) → r ≡ Go u → Follows m₁ m₂ k true → length m₂ ≡ length m → length rows' ≡ length rows → Trialling m₀ n c k v rows₀ t₀ m₂ rows' u
+  pub trialling-next : (m₂ : List ℕ) (u : Tally) → r ≡ Ok u → Follows m₁ m₂ k true → length m₂ ≡ length m → length rows' ≡ length rows → Trialling m₀ n c k v rows₀ t₀ m₂ rows' u
   trialling-next m₂ u a f x y = record {
     size = x ∙ p.size;
     sheet = y ∙ p.sheet;
     steady = goes-steady m₀ m m₁ m₂ k few p.steady e f;
-    tries = tries-next (meant m₀ n v) (tests m₀ n c) (windows_in m₀ k) rows₀ t₀ p.tries (tried (Go u) a) (setting_in m₂ k) (after_is m₀ m m₁ m₂ k few p.steady e f);
+    tries = tries-next (meant m₀ n v) (tests m₀ n c) (windows_in m₀ k) rows₀ t₀ p.tries (tried (Ok u) a) (setting_in m₂ k) (after_is m₀ m m₁ m₂ k few p.steady e f);
   }
 
-  pub trialling-last : (m₂ : List ℕ) (u : Tally) → r ≡ Go u → Follows m₁ m₂ k false → Placing rows₀ rows' t₀ (Whole m₀ n c k v rows₀ t₀) (Go u) × Steady m₀ m₂
+  pub trialling-last : (m₂ : List ℕ) (u : Tally) → r ≡ Ok u → Follows m₁ m₂ k false → Placing rows₀ rows' t₀ (Whole m₀ n c k v rows₀ t₀) (Ok u) × Steady m₀ m₂
   trialling-last m₂ u a f =
-      (tries-last (meant m₀ n v) (tests m₀ n c) (windows_in m₀ k) rows₀ t₀ p.tries (tried (Go u) a) (after_is m₀ m m₁ m₂ k few p.steady e f), goes-steady m₀ m m₁ m₂ k few p.steady e f)
+      (tries-last (meant m₀ n v) (tests m₀ n c) (windows_in m₀ k) rows₀ t₀ p.tries (tried (Ok u) a) (after_is m₀ m m₁ m₂ k few p.steady e f), goes-steady m₀ m m₁ m₂ k few p.steady e f)
 
 -- ---- what seeking answers, at a return
 
@@ -162,7 +163,7 @@ module _ {m₀ : List ℕ} {n c k : ℕ} {v : Cell} {rows₀ : List ℤ} {t₀ :
   }
 
   -- its row
-  pub trialling-row : (left : ℕ) → r ≡ Met left → (rows' : List ℤ) (u : Tally) → u ≡ leaving t (left - 1) → (x : Tried)
+  pub trialling-row : (left : ℕ) → r ≡ Met left → (rows' : List ℤ) (u : Tally) → u ≡ leaving t (left - 1) → (x : Result Tally Stopped)
       → Placing rows rows' u (lister.place (row_with (under (setting_in m₁ k) (meant m₁ n v)) (setting_in m₁ k)) (tally_of rows u)) x
       → Trying rows rows' (leaving t left) (lister.trial (meant m₁ n v) (tests m₁ n c) (setting_in m₁ k) (tally_of rows (leaving t left))) x
   trialling-row left e rows' u a x q = trying-placed (meant m₁ n v) (tests m₁ n c) (setting_in m₁ k) rows (leaving t left) rows' x u (under (setting_in m₁ k) (meant m₁ n v)) (setting_in m₁ k)
@@ -170,22 +171,22 @@ module _ {m₀ : List ℕ} {n c k : ℕ} {v : Cell} {rows₀ : List ℤ} {t₀ :
       (ap (λ (ts : List Test). search.meets ts (setting_in m₁ k)) (tests-steady m₀ m₁ (steady-more m₀ m m₁ p.steady s) n c) ∙ (is-met left e).meets)
       (a ∙ leaving-one t left (is-met left e).more (omega (arith, (is-met left e).sum))) refl refl q
 
-  ended : {left : ℕ} → Seeks (windows_in m₀ k) (tests m₀ n c) (setting_in m k) t.budget m₁ upto k (Over left) → Placing rows₀ rows t₀ (Whole m₀ n c k v rows₀ t₀) (Go (leaving t left)) × Steady m₀ m₁
+  ended : {left : ℕ} → Seeks (windows_in m₀ k) (tests m₀ n c) (setting_in m k) t.budget m₁ upto k (Over left) → Placing rows₀ rows t₀ (Whole m₀ n c k v rows₀ t₀) (Ok (leaving t left)) × Steady m₀ m₁
   ended {left} (over a b d e) = (tries-end (meant m₀ n v) (tests m₀ n c) (windows_in m₀ k) rows₀ t₀ p.tries a left b d e, steady-more m₀ m m₁ p.steady s)
 
-  pub trialling-end : (left : ℕ) → r ≡ Over left → (u : Tally) → u ≡ leaving t left → Placing rows₀ rows t₀ (Whole m₀ n c k v rows₀ t₀) (Go u) × Steady m₀ m₁
-  trialling-end left e u a = subst (λ (u : Tally). Placing rows₀ rows t₀ (Whole m₀ n c k v rows₀ t₀) (Go u) × Steady m₀ m₁) (sym a)
+  pub trialling-end : (left : ℕ) → r ≡ Over left → (u : Tally) → u ≡ leaving t left → Placing rows₀ rows t₀ (Whole m₀ n c k v rows₀ t₀) (Ok u) × Steady m₀ m₁
+  trialling-end left e u a = subst (λ (u : Tally). Placing rows₀ rows t₀ (Whole m₀ n c k v rows₀ t₀) (Ok u) × Steady m₀ m₁) (sym a)
       (ended (sought m₀ n c k upto few front m m₁ p.steady t.budget r g (Over left) e))
 
-  stopped : Seeks (windows_in m₀ k) (tests m₀ n c) (setting_in m k) t.budget m₁ upto k Out → Placing rows₀ rows t₀ (Whole m₀ n c k v rows₀ t₀) (Spent (leaving t 0)) × Steady m₀ m₁
+  stopped : Seeks (windows_in m₀ k) (tests m₀ n c) (setting_in m k) t.budget m₁ upto k Out → Placing rows₀ rows t₀ (Whole m₀ n c k v rows₀ t₀) (Err (Spent (leaving t 0))) × Steady m₀ m₁
   stopped (out a) = (tries-spent (meant m₀ n v) (tests m₀ n c) (windows_in m₀ k) rows₀ t₀ p.tries a, steady-more m₀ m m₁ p.steady s)
 
-  pub trialling-spent : r ≡ Out → (u : Tally) → u ≡ leaving t 0 → Placing rows₀ rows t₀ (Whole m₀ n c k v rows₀ t₀) (Spent u) × Steady m₀ m₁
-  trialling-spent e u a = subst (λ (u : Tally). Placing rows₀ rows t₀ (Whole m₀ n c k v rows₀ t₀) (Spent u) × Steady m₀ m₁) (sym a)
+  pub trialling-spent : r ≡ Out → (u : Tally) → u ≡ leaving t 0 → Placing rows₀ rows t₀ (Whole m₀ n c k v rows₀ t₀) (Err (Spent u)) × Steady m₀ m₁
+  trialling-spent e u a = subst (λ (u : Tally). Placing rows₀ rows t₀ (Whole m₀ n c k v rows₀ t₀) (Err (Spent u)) × Steady m₀ m₁) (sym a)
       (stopped (sought m₀ n c k upto few front m m₁ p.steady t.budget r g Out e))
 
 -- said of the memory before the first setting
-pub trialling-all : (m m₀ m₂ : List ℕ) (n c k : ℕ) (v : Cell) (rows rows' : List ℤ) (t : Tally) (r : Tried) → k ≤ 8 → First m m₀ k → Placing rows rows' t (Whole m₀ n c k v rows t) r × Steady m₀ m₂
+pub trialling-all : (m m₀ m₂ : List ℕ) (n c k : ℕ) (v : Cell) (rows rows' : List ℤ) (t : Tally) (r : Result Tally Stopped) → k ≤ 8 → First m m₀ k → Placing rows rows' t (Whole m₀ n c k v rows t) r × Steady m₀ m₂
     → Placing rows rows' t (Whole m n c k v rows t) r × Steady m m₂
 trialling-all m m₀ m₂ n c k v rows rows' t r few f p =
     let s = first-steady m m₀ k few f in (
@@ -199,10 +200,10 @@ trialling-all m m₀ m₂ n c k v rows rows' t r few f p =
 abbrev pub Probing : List ℕ → ℕ → ℕ → ℕ → Tally → List ℤ → Next lister.Tally
 Probing m n c k t rows = probing (tests m n c) (windows_in m k) t rows
 
-pub cutting-none : (m : List ℕ) (n c k : ℕ) (t : Tally) → T (not (filled (windows_in m k))) → Counted t (Probing m n c k t) (Go t) × Steady m m
+pub cutting-none : (m : List ℕ) (n c k : ℕ) (t : Tally) → T (not (filled (windows_in m k))) → Counted t (Probing m n c k t) (Ok t) × Steady m m
 cutting-none m n c k t h = (probes-none (tests m n c) (windows_in m k) t h, steady-none m)
 
-pub cutting-before : (m : List ℕ) (n c k : ℕ) (t : Tally) → t.cut ≡ true → Counted t (Probing m n c k t) (Go t) × Steady m m
+pub cutting-before : (m : List ℕ) (n c k : ℕ) (t : Tally) → t.cut ≡ true → Counted t (Probing m n c k t) (Ok t) × Steady m m
 cutting-before m n c k t e = (probes-before (tests m n c) (windows_in m k) t e, steady-none m)
 
 module _ (m m₀ : List ℕ) (n c k : ℕ) (t : Tally) (few : k ≤ 8) (f : First m m₀ k) (h : T (filled (windows_in m k))) (miss : t.cut ≡ false) (upto : ℕ) (front : Front m₀ n c upto) (m₁ : List ℕ)
@@ -216,25 +217,25 @@ module _ (m m₀ : List ℕ) (n c k : ℕ) (t : Tally) (few : k ≤ 8) (f : Firs
   pub cut-within : (left : ℕ) → r ≡ Met left → (0 < left) × (left ≤ t.budget)
   cut-within left e = let q = met-as (seeks (Met left) e) in (q.more, omega (arith, q.sum))
 
-  cut-met : {left : ℕ} → Seeks (windows_in m₀ k) (tests m₀ n c) (setting_in m₀ k) t.budget m₁ upto k (Met left) → Counted t (Probing m₀ n c k t) (Go (cutting (leaving t (left - 1)) true)) × Steady m₀ m₁
+  cut-met : {left : ℕ} → Seeks (windows_in m₀ k) (tests m₀ n c) (setting_in m₀ k) t.budget m₁ upto k (Met left) → Counted t (Probing m₀ n c k t) (Ok (cutting (leaving t (left - 1)) true)) × Steady m₀ m₁
   cut-met {left} (met a b d e x) = (probes-met (tests m₀ n c) (windows_in m₀ k) t t miss begun a left b d e, s)
 
-  cut-end : {left : ℕ} → Seeks (windows_in m₀ k) (tests m₀ n c) (setting_in m₀ k) t.budget m₁ upto k (Over left) → Counted t (Probing m₀ n c k t) (Go (leaving t left)) × Steady m₀ m₁
+  cut-end : {left : ℕ} → Seeks (windows_in m₀ k) (tests m₀ n c) (setting_in m₀ k) t.budget m₁ upto k (Over left) → Counted t (Probing m₀ n c k t) (Ok (leaving t left)) × Steady m₀ m₁
   cut-end {left} (over a b d e) = (probes-end (tests m₀ n c) (windows_in m₀ k) t t miss begun a left b d e, s)
 
-  cut-spent : Seeks (windows_in m₀ k) (tests m₀ n c) (setting_in m₀ k) t.budget m₁ upto k Out → Counted t (Probing m₀ n c k t) (Spent (leaving t 0)) × Steady m₀ m₁
+  cut-spent : Seeks (windows_in m₀ k) (tests m₀ n c) (setting_in m₀ k) t.budget m₁ upto k Out → Counted t (Probing m₀ n c k t) (Err (Spent (leaving t 0))) × Steady m₀ m₁
   cut-spent (out a) = (probes-spent (tests m₀ n c) (windows_in m₀ k) t t miss begun a, s)
 
-  pub cutting-met : (left : ℕ) → r ≡ Met left → (x u : Tally) → x ≡ leaving t (left - 1) → u ≡ cutting x true → Counted t (Probing m₀ n c k t) (Go u) × Steady m₀ m₁
-  cutting-met left e x u a b = subst (λ (u : Tally). Counted t (Probing m₀ n c k t) (Go u) × Steady m₀ m₁) (sym (b ∙ ap (λ (x : Tally). cutting x true) a)) (cut-met (seeks (Met left) e))
+  pub cutting-met : (left : ℕ) → r ≡ Met left → (x u : Tally) → x ≡ leaving t (left - 1) → u ≡ cutting x true → Counted t (Probing m₀ n c k t) (Ok u) × Steady m₀ m₁
+  cutting-met left e x u a b = subst (λ (u : Tally). Counted t (Probing m₀ n c k t) (Ok u) × Steady m₀ m₁) (sym (b ∙ ap (λ (x : Tally). cutting x true) a)) (cut-met (seeks (Met left) e))
 
-  pub cutting-end : (left : ℕ) → r ≡ Over left → (u : Tally) → u ≡ leaving t left → Counted t (Probing m₀ n c k t) (Go u) × Steady m₀ m₁
-  cutting-end left e u a = subst (λ (u : Tally). Counted t (Probing m₀ n c k t) (Go u) × Steady m₀ m₁) (sym a) (cut-end (seeks (Over left) e))
+  pub cutting-end : (left : ℕ) → r ≡ Over left → (u : Tally) → u ≡ leaving t left → Counted t (Probing m₀ n c k t) (Ok u) × Steady m₀ m₁
+  cutting-end left e u a = subst (λ (u : Tally). Counted t (Probing m₀ n c k t) (Ok u) × Steady m₀ m₁) (sym a) (cut-end (seeks (Over left) e))
 
-  pub cutting-spent : r ≡ Out → (u : Tally) → u ≡ leaving t 0 → Counted t (Probing m₀ n c k t) (Spent u) × Steady m₀ m₁
-  cutting-spent e u a = subst (λ (u : Tally). Counted t (Probing m₀ n c k t) (Spent u) × Steady m₀ m₁) (sym a) (cut-spent (seeks Out e))
+  pub cutting-spent : r ≡ Out → (u : Tally) → u ≡ leaving t 0 → Counted t (Probing m₀ n c k t) (Err (Spent u)) × Steady m₀ m₁
+  cutting-spent e u a = subst (λ (u : Tally). Counted t (Probing m₀ n c k t) (Err (Spent u)) × Steady m₀ m₁) (sym a) (cut-spent (seeks Out e))
 
-pub cutting-all : (m m₀ m₂ : List ℕ) (n c k : ℕ) (t : Tally) (r : Tried) → k ≤ 8 → First m m₀ k → Counted t (Probing m₀ n c k t) r × Steady m₀ m₂ → Counted t (Probing m n c k t) r × Steady m m₂
+pub cutting-all : (m m₀ m₂ : List ℕ) (n c k : ℕ) (t : Tally) (r : Result Tally Stopped) → k ≤ 8 → First m m₀ k → Counted t (Probing m₀ n c k t) r × Steady m₀ m₂ → Counted t (Probing m n c k t) r × Steady m m₂
 cutting-all m m₀ m₂ n c k t r few f p =
     let s = first-steady m m₀ k few f in (
       subst (λ (ts : List Test). Counted t (probing ts (windows_in m k) t) r) (tests-steady m m₀ s n c)

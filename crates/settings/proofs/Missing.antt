@@ -1,4 +1,5 @@
 -- Settings that do not meet the tests are passed over: each is a move, and nothing else is counted.
+use Rattle.std.specs.Prelude.{Ok, Err}
 use mathlib.Core.Path.{◌≡◌, refl, sym, ap, ap₂, ◌∙◌, subst}
 use mathlib.Core.Bool.{Bool, true, false}
 use mathlib.Core.Option.{none}
@@ -13,7 +14,7 @@ use Rattle.simulation.specs.Lister as lister
 use Rattle.settings.specs.Tries.{tally_of, spending, leaving, cutting, Charged, Counted, Placing}
 use Rattle.settings.specs.Seek.{Missed, none_yet, one_more}
 use Rattle.settings.specs.declared.Tally.{Tally}
-use Rattle.settings.specs.declared.Tried.TheVariants.{Go, Spent}
+use Rattle.settings.specs.declared.Stopped.TheVariants.{Spent}
 use Rattle.settings.proofs.Counting.{trying-missed, trying-over, probed-go, probed-over}
 use Rattle.settings.proofs.Going.{whole, Tries, tries-next, tries-last, tries-over, probing, Probes, probes-next, probes-last, probes-over, probes-done}
 
@@ -39,19 +40,19 @@ module _ (v : Value) (ts : List Test) (ws : List Window) (rows₀ : List ℤ) (t
 
   -- the last setting does not meet them
   pub tries-end : {s s₁ : List ℤ} {j : ℕ} → Tries v ts ws rows₀ t₀ s rows t → Missed ws ts s j s₁ → (n : ℕ) → suc j + n ≡ t.budget → meets ts s₁ ≡ false → after ws s₁ ≡ none
-      → Placing rows₀ rows t₀ (whole v ts ws rows₀ t₀) (Go (leaving t n))
+      → Placing rows₀ rows t₀ (whole v ts ws rows₀ t₀) (Ok (leaving t n))
   tries-end {s} {s₁} p q n e f g =
-      subst (λ (u : Tally). Placing rows₀ rows t₀ (whole v ts ws rows₀ t₀) (Go u)) (sym (leaving-one t (suc n) (omega arith) (omega arith)) ∙ ap (leaving t) {x = suc n - 1} {y = n} (omega arith))
+      subst (λ (u : Tally). Placing rows₀ rows t₀ (whole v ts ws rows₀ t₀) (Ok u)) (sym (leaving-one t (suc n) (omega arith) (omega arith)) ∙ ap (leaving t) {x = suc n - 1} {y = n} (omega arith))
       (tries-last v ts ws rows₀ t₀ (tries-missed p q (omega arith) (suc n) (omega arith)) (trying-missed v ts s₁ rows (leaving t (suc n)) (λ z. omega arith) f) g)
 
   -- no move is left
-  pub tries-spent : {s s₁ : List ℤ} → Tries v ts ws rows₀ t₀ s rows t → Missed ws ts s t.budget s₁ → Placing rows₀ rows t₀ (whole v ts ws rows₀ t₀) (Spent (leaving t 0))
+  pub tries-spent : {s s₁ : List ℤ} → Tries v ts ws rows₀ t₀ s rows t → Missed ws ts s t.budget s₁ → Placing rows₀ rows t₀ (whole v ts ws rows₀ t₀) (Err (Spent (leaving t 0)))
   tries-spent {s} {s₁} p q = tries-over v ts ws rows₀ t₀ (tries-missed p q (omega arith) 0 (omega arith)) (trying-over v ts s₁ rows (leaving t 0) refl) refl
 
 -- ---- at a cut
 
 module _ (ts : List Test) (ws : List Window) (t₀ t : Tally) (miss : t.cut ≡ false) where
-  one : (s : List ℤ) (n : ℕ) (b : Bool) → 0 < n → n ≤ t.budget → meets ts s ≡ b → Charged (leaving t n) (λ rows. lister.probe ts s (tally_of rows (leaving t n))) (Go (cutting (leaving t (n - 1)) b))
+  one : (s : List ℤ) (n : ℕ) (b : Bool) → 0 < n → n ≤ t.budget → meets ts s ≡ b → Charged (leaving t n) (λ rows. lister.probe ts s (tally_of rows (leaving t n))) (Ok (cutting (leaving t (n - 1)) b))
   one s n b p l f = probed-go ts s (leaving t n) (leaving t (n - 1)) b (λ z. omega arith) (leaving-one t n p l) (sym f)
 
   same : (n : ℕ) → cutting (leaving t (suc n - 1)) false ≡ leaving t n
@@ -63,15 +64,15 @@ module _ (ts : List Test) (ws : List Window) (t₀ t : Tally) (miss : t.cut ≡ 
       subst (Probes ts ws t₀ s₂) (same n) (probes-next ts ws t₀ (probes-missed p q (suc n) (omega arith)) miss (one s₁ (suc n) false (omega arith) (omega arith) f) s₂ g)
 
   -- this setting meets them
-  pub probes-met : {s s₁ : List ℤ} {j : ℕ} → Probes ts ws t₀ s t → Missed ws ts s j s₁ → (n : ℕ) → j + n ≡ t.budget → 0 < n → meets ts s₁ ≡ true → Counted t₀ (probing ts ws t₀) (Go (cutting (leaving t (n - 1)) true))
+  pub probes-met : {s s₁ : List ℤ} {j : ℕ} → Probes ts ws t₀ s t → Missed ws ts s j s₁ → (n : ℕ) → j + n ≡ t.budget → 0 < n → meets ts s₁ ≡ true → Counted t₀ (probing ts ws t₀) (Ok (cutting (leaving t (n - 1)) true))
   probes-met {s} {s₁} p q n e l f = probes-done ts ws t₀ (probes-missed p q n e) miss (one s₁ n true l (omega arith) f) refl
 
   -- the last one does not
-  pub probes-end : {s s₁ : List ℤ} {j : ℕ} → Probes ts ws t₀ s t → Missed ws ts s j s₁ → (n : ℕ) → suc j + n ≡ t.budget → meets ts s₁ ≡ false → after ws s₁ ≡ none → Counted t₀ (probing ts ws t₀) (Go (leaving t n))
+  pub probes-end : {s s₁ : List ℤ} {j : ℕ} → Probes ts ws t₀ s t → Missed ws ts s j s₁ → (n : ℕ) → suc j + n ≡ t.budget → meets ts s₁ ≡ false → after ws s₁ ≡ none → Counted t₀ (probing ts ws t₀) (Ok (leaving t n))
   probes-end {s} {s₁} p q n e f g =
-      subst (λ (u : Tally). Counted t₀ (probing ts ws t₀) (Go u)) (same n)
+      subst (λ (u : Tally). Counted t₀ (probing ts ws t₀) (Ok u)) (same n)
       (probes-last ts ws t₀ (probes-missed p q (suc n) (omega arith)) miss (one s₁ (suc n) false (omega arith) (omega arith) f) g)
 
   -- no move is left
-  pub probes-spent : {s s₁ : List ℤ} → Probes ts ws t₀ s t → Missed ws ts s t.budget s₁ → Counted t₀ (probing ts ws t₀) (Spent (leaving t 0))
+  pub probes-spent : {s s₁ : List ℤ} → Probes ts ws t₀ s t → Missed ws ts s t.budget s₁ → Counted t₀ (probing ts ws t₀) (Err (Spent (leaving t 0)))
   probes-spent {s} {s₁} p q = probes-over ts ws t₀ (probes-missed p q 0 (omega arith)) miss (probed-over ts s₁ (leaving t 0) refl) _ (λ rows. refl)

@@ -61,8 +61,8 @@ module _ {m₀ : List ℕ} {n c k most : ℕ} {m : List ℕ} {from left : ℕ} (
     tested a b e q = ap (λ (ts : List Test). meets ts (setting_in m₁ k)) (sym (tests-steady m₀ m₁ sees-steady n c)) ∙ sym (e ∙ meets-is m₁ n k w c) ∙ q
 
     -- the present setting meets the tests
-    pub sees-here : (a : Bool) → a ≡ meets_in (numbers_in m₁ n) (tests_in m₁ c) → a ≡ true → Sweeping m₀ m₁ n c k most (Here left) × Steady m₀ m₁
-    sees-here a e q = (here {left = left} so_far (omega (arith, p.rest)) l (tested a true e q) w, sees-steady)
+    pub sees-here : (a : Bool) → a ≡ meets_in (numbers_in m₁ n) (tests_in m₁ c) → a ≡ true → Sweeping m₀ m₁ n c k most (Here (left - 1 + 1)) × Steady m₀ m₁
+    sees-here a e q = (here {left = left - 1 + 1} so_far (omega (arith, p.rest)) (omega arith) (tested a true e q) w, sees-steady)
 
     -- it does not
     module _ (a : Bool) (e : a ≡ meets_in (numbers_in m₁ n) (tests_in m₁ c)) (q : a ≡ false) where

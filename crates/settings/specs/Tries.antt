@@ -1,5 +1,5 @@
 -- What has been counted, as the code holds it, and what trying settings answers.
-use Rattle.std.specs.Prelude.{◌≡◌, Bool, List, map, ℕ, ◌+◌, ◌-◌, ◌*◌, ◌≤◌, ◌<◌, get_or, ℤ, pos}
+use Rattle.std.specs.Prelude.{◌≡◌, Bool, List, map, ℕ, ◌+◌, ◌-◌, ◌*◌, ◌≤◌, ◌<◌, get_or, ℤ, pos, Result, Ok, Err}
 use Rattle.semantics.specs.Search as search
 use Rattle.semantics.specs.Search.{full, spent}
 use Rattle.simulation.specs.Nodes.{meaning, test_of}
@@ -11,23 +11,27 @@ use Rattle.machine.specs.declared.Value.{Value}
 use Rattle.settings.specs.Table.{Steady}
 use Rattle.settings.specs.Rows.{rows_at, row_at, words_from, words_of}
 use Rattle.settings.specs.declared.Tally.{Tally}
-use Rattle.settings.specs.declared.Tried.{Tried}
-use Rattle.settings.specs.declared.Tried.TheVariants.{Go, Full, Spent}
+use Rattle.settings.specs.declared.Stopped.{Stopped}
+use Rattle.settings.specs.declared.Stopped.TheVariants.{Full, Spent}
 
 -- what has been counted; the rows written are the first ones of the slice
 abbrev pub tally_of : List ℤ → Tally → lister.Tally
 tally_of rows t = tally t.budget t.skip t.room (rows_at rows t.written) t.moves t.cut
 
--- the search goes on, or is over: "full: a row past the skipped ones was found and has no place"; "spent: the budget was made and the search has not ended"
-abbrev pub next_of : List ℤ → Tried → Next lister.Tally
-next_of rows (Go t) = go (tally_of rows t)
-next_of rows (Full t) = over (closed full (tally_of rows t))
-next_of rows (Spent t) = over (closed spent (tally_of rows t))
+-- the answer, where the search is over: "full: a row past the skipped ones was found and has no place"; "spent: the budget was made and the search has not ended"
+abbrev pub stops : List ℤ → Stopped → search.Answer
+stops rows (Full t) = closed full (tally_of rows t)
+stops rows (Spent t) = closed spent (tally_of rows t)
 
-abbrev pub tally_in : Tried → Tally
-tally_in (Go t) = t
-tally_in (Full t) = t
-tally_in (Spent t) = t
+-- the search goes on, or is over
+abbrev pub next_of : List ℤ → Result Tally Stopped → Next lister.Tally
+next_of rows (Ok t) = go (tally_of rows t)
+next_of rows (Err e) = over (stops rows e)
+
+abbrev pub tally_in : Result Tally Stopped → Tally
+tally_in (Ok t) = t
+tally_in (Err (Full t)) = t
+tally_in (Err (Spent t)) = t
 
 -- one move made
 abbrev pub spending : Tally → Tally
@@ -58,19 +62,18 @@ pub record Counts (t u : Tally) : Type 0 where
   pub spends : u.budget ≤ t.budget
 
 -- if the search goes on, a move was made
-abbrev pub Moved : ℕ → Tried → Type 0
-Moved b (Go u) = u.budget < b
-Moved b (Full u) = Unit {0}
-Moved b (Spent u) = Unit {0}
+abbrev pub Moved : ℕ → Result Tally Stopped → Type 0
+Moved b (Ok u) = u.budget < b
+Moved b (Err e) = Unit {0}
 
 -- what was done is d, whatever the rows are, and the answer is r; no row was written
-pub record Counted (t : Tally) (d : List ℤ → Next lister.Tally) (r : Tried) : Type 0 where
+pub record Counted (t : Tally) (d : List ℤ → Next lister.Tally) (r : Result Tally Stopped) : Type 0 where
   pub is : (rows : List ℤ) → next_of rows r ≡ d rows
   pub counts : Counts t (tally_in r)
   pub same : (tally_in r).written ≡ t.written
 
 -- the same, where a move was made, or the search is over
-pub record Charged (t : Tally) (d : List ℤ → Next lister.Tally) (r : Tried) : Type 0 where
+pub record Charged (t : Tally) (d : List ℤ → Next lister.Tally) (r : Result Tally Stopped) : Type 0 where
   pub counted : Counted t d r
   pub moved : Moved t.budget r
 
@@ -80,23 +83,23 @@ pub record Rowed (rows rows' : List ℤ) (n k : ℕ) : Type 0 where
   pub words : (i : ℕ) → n ≤ i → i < k → words_from rows' (10 * i) 10 ≡ words_of (row_at rows' i)
 
 -- what was done is d, with the rows rows; then they are rows', and the answer is r
-pub record Placing (rows rows' : List ℤ) (t : Tally) (d : Next lister.Tally) (r : Tried) : Type 0 where
+pub record Placing (rows rows' : List ℤ) (t : Tally) (d : Next lister.Tally) (r : Result Tally Stopped) : Type 0 where
   pub is : next_of rows' r ≡ d
   pub counts : Counts t (tally_in r)
   pub rowed : Rowed rows rows' t.written (tally_in r).written
 
 -- the same, where a move was made, or the search is over
-pub record Trying (rows rows' : List ℤ) (t : Tally) (d : Next lister.Tally) (r : Tried) : Type 0 where
+pub record Trying (rows rows' : List ℤ) (t : Tally) (d : Next lister.Tally) (r : Result Tally Stopped) : Type 0 where
   pub placed : Placing rows rows' t d r
   pub moved : Moved t.budget r
 
 -- ---- settings of a path with n nodes, c tests and k windows, in the memory m, which then is m'
 
 -- at a return of v
-abbrev pub AllTrials : List ℕ → List ℕ → ℕ → ℕ → ℕ → Value → List ℤ → List ℤ → Tally → Tried → Type 0
+abbrev pub AllTrials : List ℕ → List ℕ → ℕ → ℕ → ℕ → Value → List ℤ → List ℤ → Tally → Result Tally Stopped → Type 0
 AllTrials m m' n c k v rows rows' t r =
     Placing rows rows' t (lister.trials (meaning (nodes_in m n) (cell_of v)) (tests m n c) (search.settings (windows_in m k)) (tally_of rows t)) r × Steady m m'
 
 -- at a cut
-abbrev pub AllProbes : List ℕ → List ℕ → ℕ → ℕ → ℕ → Tally → Tried → Type 0
+abbrev pub AllProbes : List ℕ → List ℕ → ℕ → ℕ → ℕ → Tally → Result Tally Stopped → Type 0
 AllProbes m m' n c k t r = Counted t (λ rows. lister.probes (tests m n c) (search.settings (windows_in m k)) (tally_of rows t)) r × Steady m m'

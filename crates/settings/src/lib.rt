@@ -10,7 +10,7 @@ ghost use Rattle.simulation.specs.Lister.{charge as chargeS, place as placeS};
 ghost use Rattle.machine.specs.Layout.{value_place, tables_place, number_place};
 ghost use Rattle.semantics.specs.Int.{holds};
 ghost use Rattle.semantics.specs.Search.{under};
-ghost use Rattle.ints.specs.Numbers.{comparison};
+ghost use Rattle.ints.specs.Meaning.{of_comparison};
 ghost use Rattle.machine.specs.Memory.{cell_read_as, node_at, nodes_in, test_as, test_at, windows_in, setting_in, numbers_in, tests_in};
 ghost use Rattle.machine.specs.Terms.{Room, cell_of};
 ghost use Rattle.settings.specs.Table.{window_at, value_at, number_at, holds_by, holds_at, Wrote, Worked, Anew, First, Follows, Renumbered, Steady, Holding};
@@ -19,6 +19,7 @@ ghost use Rattle.settings.specs.Seek.{CanRise, Rising, Rose, Sweeping, Seeking};
 ghost use Rattle.settings.specs.Rows.{words_of, row_with, Written};
 ghost use Rattle.settings.specs.Tries.{tally_of, spending, leaving as leavingS, cutting, Fair, Charged, Placing, AllTrials, AllProbes};
 
+use ints::{Comparison, Operation};
 use machine::{Value, kinds, layout};
 
 mod arms;
@@ -34,10 +35,9 @@ pub struct Tally {
     pub cut: bool,
 }
 
-// The search goes on, or is over: a row has no place, or the budget is spent.
+// Why the search is over, and what was counted: a row has no place, or the budget is spent.
 #[derive(Drop)]
-pub enum Tried {
-    Go(Tally),
+pub enum Stopped {
     Full(Tally),
     Spent(Tally),
 }
@@ -104,19 +104,18 @@ fn number_at(mem: &[u32], k: usize, j: usize) -> i32
     if op == kinds::FREE {
         return value(mem, k, x as usize);
     }
-    ints::operate(
-        op - kinds::OPERATION,
+    Operation::from(op - kinds::OPERATION).apply(
         number(mem, j, kind / kinds::NODE_LEFT % 2, x),
         number(mem, j, kind / kinds::NODE_RIGHT, y),
     )
 }
 
 // Whether a comparison of two cells holds, each by whether it is open and its second word, where n nodes have their numbers.
-fn compared(mem: &[u32], n: usize, c: u32, left: u32, x: u32, right: u32, y: u32) -> bool
+fn compared(mem: &[u32], n: usize, c: Comparison, left: u32, x: u32, right: u32, y: u32) -> bool
     requires { Room mem.now n }
-    ensures { result ≡ holds (comparison c) (number_in (numbers_in mem.now n) (cell_read_as left x)) (number_in (numbers_in mem.now n) (cell_read_as right y)) }
+    ensures { result ≡ holds (of_comparison c) (number_in (numbers_in mem.now n) (cell_read_as left x)) (number_in (numbers_in mem.now n) (cell_read_as right y)) }
 {
-    ints::holds(c, number(mem, n, left, x), number(mem, n, right, y))
+    c.holds(number(mem, n, left, x), number(mem, n, right, y))
 }
 
 // Whether a test holds, by its three words. There is an arm for each kind that a path makes, so that a kind is looked at once.
@@ -125,28 +124,28 @@ fn holds_by(mem: &[u32], n: usize, kind: u32, x: u32, y: u32) -> bool
     ensures { result ≡ holds_by mem.now n (test_as kind x y) }
 {
     match kind {
-        arms::LT_OPEN_KNOWN => compared(mem, n, arms::LT, arms::OPEN, x, arms::KNOWN, y),
-        arms::LE_OPEN_KNOWN => compared(mem, n, arms::LE, arms::OPEN, x, arms::KNOWN, y),
-        arms::GT_OPEN_KNOWN => compared(mem, n, arms::GT, arms::OPEN, x, arms::KNOWN, y),
-        arms::GE_OPEN_KNOWN => compared(mem, n, arms::GE, arms::OPEN, x, arms::KNOWN, y),
-        arms::EQ_OPEN_KNOWN => compared(mem, n, arms::EQ, arms::OPEN, x, arms::KNOWN, y),
-        arms::NE_OPEN_KNOWN => compared(mem, n, arms::NE, arms::OPEN, x, arms::KNOWN, y),
-        arms::LT_KNOWN_OPEN => compared(mem, n, arms::LT, arms::KNOWN, x, arms::OPEN, y),
-        arms::LE_KNOWN_OPEN => compared(mem, n, arms::LE, arms::KNOWN, x, arms::OPEN, y),
-        arms::GT_KNOWN_OPEN => compared(mem, n, arms::GT, arms::KNOWN, x, arms::OPEN, y),
-        arms::GE_KNOWN_OPEN => compared(mem, n, arms::GE, arms::KNOWN, x, arms::OPEN, y),
-        arms::EQ_KNOWN_OPEN => compared(mem, n, arms::EQ, arms::KNOWN, x, arms::OPEN, y),
-        arms::NE_KNOWN_OPEN => compared(mem, n, arms::NE, arms::KNOWN, x, arms::OPEN, y),
-        arms::LT_OPEN_OPEN => compared(mem, n, arms::LT, arms::OPEN, x, arms::OPEN, y),
-        arms::LE_OPEN_OPEN => compared(mem, n, arms::LE, arms::OPEN, x, arms::OPEN, y),
-        arms::GT_OPEN_OPEN => compared(mem, n, arms::GT, arms::OPEN, x, arms::OPEN, y),
-        arms::GE_OPEN_OPEN => compared(mem, n, arms::GE, arms::OPEN, x, arms::OPEN, y),
-        arms::EQ_OPEN_OPEN => compared(mem, n, arms::EQ, arms::OPEN, x, arms::OPEN, y),
-        arms::NE_OPEN_OPEN => compared(mem, n, arms::NE, arms::OPEN, x, arms::OPEN, y),
+        arms::LT_OPEN_KNOWN => compared(mem, n, Comparison::Less, arms::OPEN, x, arms::KNOWN, y),
+        arms::LE_OPEN_KNOWN => compared(mem, n, Comparison::AtMost, arms::OPEN, x, arms::KNOWN, y),
+        arms::GT_OPEN_KNOWN => compared(mem, n, Comparison::Greater, arms::OPEN, x, arms::KNOWN, y),
+        arms::GE_OPEN_KNOWN => compared(mem, n, Comparison::AtLeast, arms::OPEN, x, arms::KNOWN, y),
+        arms::EQ_OPEN_KNOWN => compared(mem, n, Comparison::Equal, arms::OPEN, x, arms::KNOWN, y),
+        arms::NE_OPEN_KNOWN => compared(mem, n, Comparison::Unequal, arms::OPEN, x, arms::KNOWN, y),
+        arms::LT_KNOWN_OPEN => compared(mem, n, Comparison::Less, arms::KNOWN, x, arms::OPEN, y),
+        arms::LE_KNOWN_OPEN => compared(mem, n, Comparison::AtMost, arms::KNOWN, x, arms::OPEN, y),
+        arms::GT_KNOWN_OPEN => compared(mem, n, Comparison::Greater, arms::KNOWN, x, arms::OPEN, y),
+        arms::GE_KNOWN_OPEN => compared(mem, n, Comparison::AtLeast, arms::KNOWN, x, arms::OPEN, y),
+        arms::EQ_KNOWN_OPEN => compared(mem, n, Comparison::Equal, arms::KNOWN, x, arms::OPEN, y),
+        arms::NE_KNOWN_OPEN => compared(mem, n, Comparison::Unequal, arms::KNOWN, x, arms::OPEN, y),
+        arms::LT_OPEN_OPEN => compared(mem, n, Comparison::Less, arms::OPEN, x, arms::OPEN, y),
+        arms::LE_OPEN_OPEN => compared(mem, n, Comparison::AtMost, arms::OPEN, x, arms::OPEN, y),
+        arms::GT_OPEN_OPEN => compared(mem, n, Comparison::Greater, arms::OPEN, x, arms::OPEN, y),
+        arms::GE_OPEN_OPEN => compared(mem, n, Comparison::AtLeast, arms::OPEN, x, arms::OPEN, y),
+        arms::EQ_OPEN_OPEN => compared(mem, n, Comparison::Equal, arms::OPEN, x, arms::OPEN, y),
+        arms::NE_OPEN_OPEN => compared(mem, n, Comparison::Unequal, arms::OPEN, x, arms::OPEN, y),
         _ => compared(
             mem,
             n,
-            kind % kinds::TEST_LEFT,
+            Comparison::from(kind % kinds::TEST_LEFT),
             kind / kinds::TEST_LEFT % 2,
             x,
             kind / kinds::TEST_RIGHT,
@@ -205,10 +204,8 @@ fn work(mem: &mut [u32], i: usize, n: usize, k: usize)
     requires { (k ≤ 8) × Room mem.old n × Worked mem.old i k }
     ensures { Worked mem.new n k × Renumbered mem.old mem.new }
 {
-    let mut j = i;
-    while j < n {
+    for j in i..n {
         write_number(mem, k, j);
-        j += 1;
     }
 }
 
@@ -217,9 +214,7 @@ fn meets(mem: &[u32], n: usize, tests: usize) -> bool
     requires { Room mem.now n × Room mem.now tests }
     ensures { result ≡ meets_in (numbers_in mem.now n) (tests_in mem.now tests) }
 {
-    let mut j = tests;
-    while 0 < j {
-        j -= 1;
+    for j in (0..tests).rev() {
         if !holds_at(mem, n, j) {
             return false;
         }
@@ -232,10 +227,8 @@ fn start_from(mem: &mut [u32], i: usize, k: usize)
     requires { (i ≤ k) × (k ≤ 8) × (tables_place ≤ length mem.old) }
     ensures { Anew mem.old mem.new i k }
 {
-    let mut j = i;
-    while j < k {
+    for j in i..k {
         mem[layout::SETTING + j] = mem[layout::WINDOWS + layout::WINDOW * j];
-        j += 1;
     }
 }
 
@@ -244,12 +237,10 @@ fn filled(mem: &[u32], k: usize) -> bool
     requires { (k ≤ 8) × (tables_place ≤ length mem.now) }
     ensures { result ≡ filledS (windows_in mem.now k) }
 {
-    let mut i: usize = 0;
-    while i < k {
+    for i in 0..k {
         if !has_number(mem, i) {
             return false;
         }
-        i += 1;
     }
     true
 }
@@ -267,9 +258,7 @@ fn next_setting(mem: &mut [u32], k: usize) -> bool
     requires { (k ≤ 8) × (tables_place ≤ length mem.old) }
     ensures { Follows mem.old mem.new k result }
 {
-    let mut i = k;
-    while 0 < i {
-        i -= 1;
+    for i in (0..k).rev() {
         if below(mem, i) {
             raise(mem, i);
             start_from(mem, i + 1, k);
@@ -286,13 +275,7 @@ fn is_free(mem: &[u32], i: usize, j: usize) -> bool
 {
     let kind = mem[layout::NODES + layout::STRIDE * j];
     let x = mem[layout::NODE_LEFTS + layout::STRIDE * j] as usize;
-    if kind % kinds::NODE_LEFT != kinds::FREE {
-        return false;
-    }
-    if x == i {
-        return true;
-    }
-    false
+    kind % kinds::NODE_LEFT == kinds::FREE && x == i
 }
 
 // The first of n nodes that is free variable i; n, where none is.
@@ -300,12 +283,10 @@ fn free_node(mem: &[u32], i: usize, n: usize) -> usize
     requires { Room mem.now n }
     ensures { FreeNode mem.now i n result }
 {
-    let mut j: usize = 0;
-    while j < n {
+    for j in 0..n {
         if is_free(mem, i, j) {
             return j;
         }
-        j += 1;
     }
     n
 }
@@ -314,13 +295,7 @@ fn free_node(mem: &[u32], i: usize, n: usize) -> usize
 fn names(kind: u32, x: u32, a: usize) -> bool
     ensures { result ≡ false → Off a (cell_read_as kind x) }
 {
-    if kind == 0 {
-        return false;
-    }
-    if x as usize == a {
-        return true;
-    }
-    false
+    kind != 0 && x as usize == a
 }
 
 // Whether node j may differ where node a, which lies before it, does: it is a free variable, or one of its sides is node a.
@@ -331,13 +306,9 @@ fn depends(mem: &[u32], a: usize, j: usize) -> bool
     let kind = mem[layout::NODES + layout::STRIDE * j];
     let x = mem[layout::NODE_LEFTS + layout::STRIDE * j];
     let y = mem[layout::NODE_RIGHTS + layout::STRIDE * j];
-    if kind % kinds::NODE_LEFT == kinds::FREE {
-        return true;
-    }
-    if names(kind / kinds::NODE_LEFT % 2, x, a) {
-        return true;
-    }
-    names(kind / kinds::NODE_RIGHT, y, a)
+    kind % kinds::NODE_LEFT == kinds::FREE
+        || names(kind / kinds::NODE_LEFT % 2, x, a)
+        || names(kind / kinds::NODE_RIGHT, y, a)
 }
 
 // The first node behind node a, of n, that may differ where node a does; n, where none may.
@@ -348,20 +319,12 @@ fn first_behind(mem: &[u32], a: usize, n: usize) -> usize
     if n <= a {
         return n;
     }
-    let mut j = a + 1;
-    while j < n {
+    for j in a + 1..n {
         if depends(mem, a, j) {
             return j;
         }
-        j += 1;
     }
     n
-}
-
-fn larger(a: usize, b: usize) -> usize
-    ensures { (a ≤ result) × (b ≤ result) }
-{
-    if a < b { b } else { a }
 }
 
 // Where the nodes end on which a cell rests, by its two words.
@@ -382,10 +345,7 @@ fn test_end(mem: &[u32], j: usize) -> usize
     let kind = mem[layout::TESTS + layout::STRIDE * j];
     let x = mem[layout::TEST_LEFTS + layout::STRIDE * j];
     let y = mem[layout::TEST_RIGHTS + layout::STRIDE * j];
-    larger(
-        cell_end(kind / kinds::TEST_LEFT % 2, x),
-        cell_end(kind / kinds::TEST_RIGHT, y),
-    )
+    cell_end(kind / kinds::TEST_LEFT % 2, x).max(cell_end(kind / kinds::TEST_RIGHT, y))
 }
 
 // Where the nodes, of n, end on which the tests rest, from the newest test back. Once that is the end of all, no further test is looked at: a path may have made hundreds, and its newest ones rest on its newest nodes.
@@ -394,10 +354,8 @@ fn tests_end(mem: &[u32], n: usize, tests: usize) -> usize
     ensures { Front mem.now n tests result }
 {
     let mut end: usize = 0;
-    let mut j = tests;
-    while 0 < j {
-        j -= 1;
-        end = larger(end, test_end(mem, j));
+    for j in (0..tests).rev() {
+        end = end.max(test_end(mem, j));
         if n <= end {
             return n;
         }
@@ -411,12 +369,12 @@ fn plan_of(mem: &[u32], nodes: usize, tests: usize, k: usize) -> Plan
     ensures { Planned mem.now nodes tests (k - 1) result }
 {
     let upto = tests_end(mem, nodes, tests);
-    let moving = free_node(mem, ints::monus(k, 1), upto);
+    let moving = free_node(mem, k.saturating_sub(1), upto);
     let first = first_behind(mem, moving, upto);
     Plan {
-        moving: moving,
-        first: first,
-        upto: upto,
+        moving,
+        first,
+        upto,
     }
 }
 
@@ -434,10 +392,9 @@ fn rise(mem: &mut [u32], a: usize, first: usize, k: usize)
     ensures { Rose mem.old mem.new first k }
 {
     raise(mem, k - 1);
-    if first <= a {
-        return;
+    if a < first {
+        copy_value(mem, k - 1, a);
     }
-    copy_value(mem, k - 1, a);
 }
 
 // Whether the last of k free variables is below its window's high end.
@@ -445,10 +402,7 @@ fn can_rise(mem: &[u32], k: usize) -> bool
     requires { (k ≤ 8) × (tables_place ≤ length mem.now) }
     ensures { CanRise mem.now k result }
 {
-    if k == 0 {
-        return false;
-    }
-    below(mem, k - 1)
+    0 < k && below(mem, k - 1)
 }
 
 // From the present setting on, as only the last free variable goes up, the first one that meets the tests, with so many moves at the most. The nodes before the first that then differs have their numbers.
@@ -456,19 +410,15 @@ fn sweep(mem: &mut [u32], plan: Plan, tests: usize, k: usize, most: u32) -> Swep
     requires { Holding mem.old plan.upto tests k × Apart mem.old (k - 1) plan.moving plan.first × (plan.first ≤ plan.upto) × Worked mem.old plan.first k }
     ensures { Sweeping mem.old mem.new plan.upto tests k most result × Steady mem.old mem.new }
 {
-    let first = plan.first;
-    let upto = plan.upto;
-    let mut left = most;
-    while 0 < left {
-        work(mem, first, upto, k);
-        if meets(mem, upto, tests) {
-            return Swept::Here(left);
+    for left in (0..most).rev() {
+        work(mem, plan.first, plan.upto, k);
+        if meets(mem, plan.upto, tests) {
+            return Swept::Here(left + 1);
         }
-        left -= 1;
         if !can_rise(mem, k) {
             return Swept::Top(left);
         }
-        rise(mem, plan.moving, first, k);
+        rise(mem, plan.moving, plan.first, k);
     }
     Swept::Short
 }
@@ -516,13 +466,11 @@ fn row_word(res: i32, mem: &[u32], k: usize, j: usize) -> i32
     requires { (k ≤ 8) × (tables_place ≤ length mem.now) × (j < 10) }
     ensures { result ≡ get_or (words_of (row_with res (setting_in mem.now k))) j (pos 0) }
 {
-    if j == 0 {
-        return res;
+    match j {
+        0 => res,
+        1 => k as i32,
+        _ => value(mem, k, j - 2),
     }
-    if j == 1 {
-        return k as i32;
-    }
-    value(mem, k, j - 2)
 }
 
 // Writes a row after n others: the result, and the present setting of k free variables.
@@ -530,81 +478,75 @@ fn write_row(rows: &mut [i32], n: usize, res: i32, mem: &[u32], k: usize)
     requires { (k ≤ 8) × (tables_place ≤ length mem.now) × (10 * n + 10 ≤ length rows.old) }
     ensures { Written rows.old rows.new n (row_with res (setting_in mem.now k)) }
 {
-    let mut j: usize = 0;
-    while j < 10 {
+    for j in 0..10 {
         rows[10 * n + j] = row_word(res, mem, k, j);
-        j += 1;
     }
 }
 
-// One move more, which the budget allows.
-fn spend(t: Tally) -> Tally
-    requires { (0 < t.budget) × (t.moves + t.budget < 4294967296) }
-    ensures { result ≡ spending t }
-{
-    Tally {
-        budget: t.budget - 1,
-        skip: t.skip,
-        room: t.room,
-        written: t.written,
-        moves: t.moves + 1,
-        cut: t.cut,
+impl Tally {
+    // One move more, which the budget allows.
+    fn spend(self) -> Tally
+        requires { (0 < self.budget) × (self.moves + self.budget < 4294967296) }
+        ensures { result ≡ spending self }
+    {
+        Tally {
+            budget: self.budget - 1,
+            moves: self.moves + 1,
+            ..self
+        }
     }
-}
 
-// One move more, or the budget is spent.
-pub fn charge(t: Tally) -> Tried
-    requires { t.moves + t.budget < 4294967296 }
-    ensures { Charged t (λ rows. chargeS (tally_of rows t)) result }
-{
-    if t.budget == 0 {
-        return Tried::Spent(t);
+    // One move more, or the budget is spent.
+    pub fn charge(self) -> Result<Tally, Stopped>
+        requires { self.moves + self.budget < 4294967296 }
+        ensures { Charged self (λ rows. chargeS (tally_of rows self)) result }
+    {
+        if self.budget == 0 {
+            return Err(Stopped::Spent(self));
+        }
+        Ok(self.spend())
     }
-    Tried::Go(spend(t))
+
+    // What was counted, where so many moves are left of the budget.
+    pub fn leaving(self, left: u32) -> Tally
+        requires { (left ≤ self.budget) × (self.moves + self.budget < 4294967296) }
+        ensures { result ≡ leavingS self left }
+    {
+        Tally {
+            budget: left,
+            moves: self.moves + (self.budget - left),
+            ..self
+        }
+    }
+
+    // What was counted, where a cut run was found.
+    fn with_cut(self) -> Tally
+        ensures { result ≡ cutting self true }
+    {
+        Tally { cut: true, ..self }
+    }
 }
 
 // A row found: it is skipped, or written, or has no place.
-fn place(rows: &mut [i32], t: Tally, res: i32, mem: &[u32], k: usize) -> Tried
+fn place(rows: &mut [i32], t: Tally, res: i32, mem: &[u32], k: usize) -> Result<Tally, Stopped>
     requires { (k ≤ 8) × (tables_place ≤ length mem.now) × (10 * (t.written + t.room) ≤ length rows.old) }
     ensures { Placing rows.old rows.new t (placeS (row_with res (setting_in mem.now k)) (tally_of rows.old t)) result }
 {
     if 0 < t.skip {
-        return Tried::Go(Tally {
-            budget: t.budget,
+        return Ok(Tally {
             skip: t.skip - 1,
-            room: t.room,
-            written: t.written,
-            moves: t.moves,
-            cut: t.cut,
+            ..t
         });
     }
     if t.room == 0 {
-        return Tried::Full(t);
+        return Err(Stopped::Full(t));
     }
     write_row(rows, t.written, res, mem, k);
-    Tried::Go(Tally {
-        budget: t.budget,
-        skip: t.skip,
+    Ok(Tally {
         room: t.room - 1,
         written: t.written + 1,
-        moves: t.moves,
-        cut: t.cut,
+        ..t
     })
-}
-
-// What was counted, where so many moves are left of the budget.
-fn leaving(t: Tally, left: u32) -> Tally
-    requires { (left ≤ t.budget) × (t.moves + t.budget < 4294967296) }
-    ensures { result ≡ leavingS t left }
-{
-    Tally {
-        budget: left,
-        skip: t.skip,
-        room: t.room,
-        written: t.written,
-        moves: t.moves + (t.budget - left),
-        cut: t.cut,
-    }
 }
 
 // A setting that meets the tests, at a return of v: its row. The nodes before `from` have their numbers.
@@ -616,7 +558,7 @@ fn found(
     v: Value,
     t: Tally,
     rows: &mut [i32],
-) -> Tried
+) -> Result<Tally, Stopped>
     requires { (k ≤ 8) × Room mem.old nodes × Worked mem.old from k × (10 * (t.written + t.room) ≤ length rows.old) }
     ensures { Placing rows.old rows.new t (placeS (row_with (under (setting_in mem.old k) (meaning (nodes_in mem.old nodes) (cell_of v))) (setting_in mem.old k)) (tally_of rows.old t)) result × Renumbered mem.old mem.new }
 {
@@ -633,12 +575,12 @@ pub fn trials(
     v: Value,
     t: Tally,
     rows: &mut [i32],
-) -> Tried
+) -> Result<Tally, Stopped>
     requires { Holding mem.old nodes tests k × Fair (length rows.old) t }
     ensures { AllTrials mem.old mem.new nodes tests k v rows.old rows.new t result }
 {
     if !filled(mem, k) {
-        return Tried::Go(t);
+        return Ok(t);
     }
     first_setting(mem, k);
     let p = plan_of(mem, nodes, tests, k);
@@ -646,53 +588,36 @@ pub fn trials(
     loop {
         match seek(mem, p, tests, k, u.budget) {
             Sought::Met(left) => {
-                match found(mem, p.upto, nodes, k, v, leaving(u, left - 1), rows) {
-                    Tried::Go(w) => {
-                        if !next_setting(mem, k) {
-                            return Tried::Go(w);
-                        }
-                        u = w;
-                    }
-                    Tried::Full(w) => return Tried::Full(w),
-                    Tried::Spent(w) => return Tried::Spent(w),
+                u = found(mem, p.upto, nodes, k, v, u.leaving(left - 1), rows)?;
+                if !next_setting(mem, k) {
+                    return Ok(u);
                 }
             }
-            Sought::Over(left) => return Tried::Go(leaving(u, left)),
-            Sought::Out => return Tried::Spent(leaving(u, 0)),
+            Sought::Over(left) => return Ok(u.leaving(left)),
+            Sought::Out => return Err(Stopped::Spent(u.leaving(0))),
         }
     }
 }
 
-// What was counted, where a cut run was found.
-fn with_cut(t: Tally) -> Tally
-    ensures { result ≡ cutting t true }
-{
-    Tally {
-        budget: t.budget,
-        skip: t.skip,
-        room: t.room,
-        written: t.written,
-        moves: t.moves,
-        cut: true,
-    }
-}
-
 // Settings of k free variables in their windows tried at a cut, until one meets the tests; none, where a cut run was found before.
-pub fn probes(mem: &mut [u32], nodes: usize, tests: usize, k: usize, t: Tally) -> Tried
+pub fn probes(
+    mem: &mut [u32],
+    nodes: usize,
+    tests: usize,
+    k: usize,
+    t: Tally,
+) -> Result<Tally, Stopped>
     requires { Holding mem.old nodes tests k × (t.moves + t.budget < 4294967296) }
     ensures { AllProbes mem.old mem.new nodes tests k t result }
 {
-    if t.cut {
-        return Tried::Go(t);
-    }
-    if !filled(mem, k) {
-        return Tried::Go(t);
+    if t.cut || !filled(mem, k) {
+        return Ok(t);
     }
     first_setting(mem, k);
     let p = plan_of(mem, nodes, tests, k);
     match seek(mem, p, tests, k, t.budget) {
-        Sought::Met(left) => Tried::Go(with_cut(leaving(t, left - 1))),
-        Sought::Over(left) => Tried::Go(leaving(t, left)),
-        Sought::Out => Tried::Spent(leaving(t, 0)),
+        Sought::Met(left) => Ok(t.leaving(left - 1).with_cut()),
+        Sought::Over(left) => Ok(t.leaving(left)),
+        Sought::Out => Err(Stopped::Spent(t.leaving(0))),
     }
 }

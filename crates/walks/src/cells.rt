@@ -12,23 +12,12 @@ fn filled(kind: u32, w: usize) -> usize
     ensures { (result ≤ frame_cells) × Fills result (entry_of kind w) }
 {
     if kind == entry::CALL {
-        let n = w / entry::FUNCTIONS;
-        if n < layout::CELLS {
-            return n;
-        }
-        return layout::CELLS;
+        return (w / entry::FUNCTIONS).min(layout::CELLS);
     }
     if kind < entry::ASK {
         return 0;
     }
     w % layout::CELLS + 1
-}
-
-fn larger(a: usize, b: usize) -> usize
-    requires { (a ≤ frame_cells) × (b ≤ frame_cells) }
-    ensures { (a ≤ result) × (b ≤ result) × (result ≤ frame_cells) }
-{
-    if a < b { b } else { a }
 }
 
 // How many cells of a frame the code uses.
@@ -37,12 +26,10 @@ pub fn in_use(code: &[u32], size: usize) -> usize
     ensures { Uses (code_in code.now size) result × (result ≤ frame_cells) }
 {
     let mut n: usize = 0;
-    let mut e: usize = 0;
-    while e < size {
+    for e in 0..size {
         let kind = code[entry::WORDS * e];
         let w = code[entry::WORDS * e + entry::NUMBER_WORD] as usize;
-        n = larger(n, filled(kind, w));
-        e += 1;
+        n = n.max(filled(kind, w));
     }
     n
 }

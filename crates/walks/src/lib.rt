@@ -42,14 +42,7 @@ fn compares(code: &[u32], size: usize, pc: usize) -> bool
     requires { 2 * size ≤ length code.now }
     ensures { (result ≡ true → Compares code.now size pc) × (result ≡ false → Compares code.now size pc → ⊥) }
 {
-    if pc < size {
-        let kind = code[entry::WORDS * pc];
-        if kind < entry::COMPARE {
-            return false;
-        }
-        return kind <= entry::COMPARE_LAST;
-    }
-    false
+    pc < size && matches!(code[entry::WORDS * pc], entry::COMPARE..=entry::COMPARE_LAST)
 }
 
 // Of each three steps that are left, two marks are kept back for checkpoints that are due later.
@@ -62,18 +55,11 @@ fn is_due(code: &[u32], size: usize, p: Point, s: Stack) -> bool
     requires { (2 * size ≤ length code.now) × Small p × (p.steps < 4294967296) × (s.limit < 4294967296) × (s.height ≤ s.limit) × (s.cells ≤ frame_cells) }
     ensures { (result ≡ true → Due code.now size p s) × (result ≡ false → Due code.now size p s → ⊥) }
 {
-    if p.forced != 0 {
+    if p.forced != 0 || p.windows == 0 || !compares(code, size, p.run.pc) {
         return false;
     }
-    if p.windows == 0 {
-        return false;
-    }
-    let run = p.run;
-    if compares(code, size, run.pc) {
-        let height = s.height + checkpoints::size_of(p, s.cells);
-        return SHARE * height + KEPT_BACK * p.steps <= SHARE * s.limit;
-    }
-    false
+    let height = s.height + checkpoints::size_of(p, s.cells);
+    SHARE * height + KEPT_BACK * p.steps <= SHARE * s.limit
 }
 
 // Whether the code begins with the call of main, whose value is returned: then nothing is ever stored in the first frame, that of the start.
@@ -81,13 +67,7 @@ fn calls_main(code: &[u32], size: usize) -> bool
     requires { 2 * size ≤ length code.now }
     ensures { (result ≡ true → MainFirst code.now size) × (result ≡ false → MainFirst code.now size → ⊥) }
 {
-    if size < 2 {
-        return false;
-    }
-    if code[0] != entry::CALL {
-        return false;
-    }
-    code[entry::WORDS] == entry::RETURN
+    2 <= size && code[0] == entry::CALL && code[entry::WORDS] == entry::RETURN
 }
 
 // Saves a checkpoint, if one is due.
@@ -95,15 +75,12 @@ fn keep(code: &[u32], size: usize, mem: &mut [u32], p: Point, s: Stack) -> Stack
     requires { (2 * size ≤ length code.now) × (size < 65536) × Going mem.old p × Room mem.old s.limit × (s.height ≤ s.limit) × (s.cells ≤ frame_cells) × (CallsMain (code_in code.now size) → Unused s.cells mem.old p.run.depth) }
     ensures { Keeping code.now size mem.old mem.new p s result }
 {
-    if is_due(code, size, p, s) {
-        if calls_main(code, size) {
-            checkpoints::save(mem, p, s.cells, s.height);
-            return Stack {
-                height: s.height + checkpoints::size_of(p, s.cells),
-                limit: s.limit,
-                cells: s.cells,
-            };
-        }
+    if is_due(code, size, p, s) && calls_main(code, size) {
+        checkpoints::save(mem, p, s.cells, s.height);
+        return Stack {
+            height: s.height + checkpoints::size_of(p, s.cells),
+            ..s
+        };
     }
     s
 }
@@ -155,19 +132,11 @@ fn drop_after(mem: &[u32], s: Stack, i: usize) -> Stack
     while checkpoints::NUMBERS <= w {
         let p = checkpoints::point_at(mem, w - checkpoints::NUMBERS);
         if p.choices <= i {
-            return Stack {
-                height: w,
-                limit: s.limit,
-                cells: s.cells,
-            };
+            return Stack { height: w, ..s };
         }
-        w = ints::monus(w, checkpoints::size_of(p, s.cells));
+        w = w.saturating_sub(checkpoints::size_of(p, s.cells));
     }
-    Stack {
-        height: 0,
-        limit: s.limit,
-        cells: s.cells,
-    }
+    Stack { height: 0, ..s }
 }
 
 // The start of main, with so many steps to make and so many outcomes forced.
@@ -177,11 +146,11 @@ fn first(mem: &mut [u32], limit: usize, forced: usize) -> Point
 {
     let run = machine::start(mem);
     Point {
-        run: run,
+        run,
         steps: limit,
         windows: 0,
         choices: 0,
-        forced: forced,
+        forced,
     }
 }
 
@@ -198,7 +167,7 @@ pub fn run_path(
     requires { (2 * size + 16 ≤ length code.now) × (size < 65536) × Begins (code_in code.now size) (of_window job) mem.old forced stack × Filled (of_window job) }
     ensures { FromMain (code_in code.now size) (of_window job) stack.limit budget (outcomes_in mem.old 0 forced) mem.new result }
 {
-    let s = drop_after(mem, stack, ints::monus(forced, 1));
+    let s = drop_after(mem, stack, forced.saturating_sub(1));
     if s.height == 0 {
         let p = first(mem, s.limit, forced);
         return walk(code, size, mem, job, p, s, budget);

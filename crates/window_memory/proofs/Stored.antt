@@ -12,7 +12,8 @@ use mir.Val.{to_z, of_z, SFits}
 use mir.Facts.{to_z-of_z}
 use Rattle.semantics.specs.Program.{Window}
 use Rattle.semantics.specs.Search.{to}
-use Rattle.intervals.specs.Meaning.{of_pair, of_pairs}
+use Rattle.intervals.specs.declared.Window as code
+use Rattle.intervals.specs.Meaning.{of_pair, of_pairs, pair_of, pairs_of}
 use Rattle.window_memory.specs.Memory.{pair_at, pairs_at, put_pair, put_pairs}
 
 -- the eight pairs, by their places
@@ -36,12 +37,15 @@ unfolding put_pairs
 length-put m k [] = refl
 length-put m k (p ∷ ps) = length-put (put_pair m k p) (k + 2) ps ∙ length-pair m k p
 
--- one pair more
-pub put-more : (m : List ℕ) (k : ℕ) (ws : List (List ℤ)) (i : ℕ) → i < length ws → put_pairs m k (take (suc i) ws) ≡ put_pair (put_pairs m k (take i ws)) (k + 2 * i) (get_or ws i [])
+-- one window more
+pub put-more : (m : List ℕ) (k : ℕ) (ws : List code.Window) (i : ℕ) (d : code.Window) → i < length ws
+    → put_pairs m k (take (suc i) (pairs_of ws)) ≡ put_pair (put_pairs m k (take i (pairs_of ws))) (k + 2 * i) (pair_of (get_or ws i d))
 unfolding put_pairs
-put-more m k [] i h = absurd (omega arith)
-put-more m k (q ∷ ws) zero h = ap (λ (n : ℕ). put_pair m n q) (omega arith)
-put-more m k (q ∷ ws) (suc i) h = put-more (put_pair m k q) (k + 2) ws i (omega arith) ∙ ap (λ (n : ℕ). put_pair (put_pairs (put_pair m k q) (k + 2) (take i ws)) n (get_or ws i [])) (omega arith)
+put-more m k [] i d h = absurd (omega arith)
+put-more m k (w ∷ ws) zero d h = ap (λ (n : ℕ). put_pair m n (pair_of w)) (omega arith)
+put-more m k (w ∷ ws) (suc i) d h =
+    put-more (put_pair m k (pair_of w)) (k + 2) ws i d (omega arith)
+    ∙ ap (λ (n : ℕ). put_pair (put_pairs (put_pair m k (pair_of w)) (k + 2) (take i (pairs_of ws))) n (pair_of (get_or ws i d))) (omega arith)
 
 -- ---- what is kept
 

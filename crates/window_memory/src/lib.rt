@@ -2,49 +2,53 @@
 #![tactic(auto)]
 
 ghost use Rattle.std.specs.Prelude.{◌≡◌, ◌+◌, ◌<◌, ◌≤◌, length};
+ghost use Rattle.intervals.specs.Meaning.{pair_of, pairs_of};
 ghost use Rattle.window_memory.specs.Memory.{pair_at, pairs_at, put_pair, put_pairs};
 
-// A pair in memory: the words at a place and after it.
-fn pair_at(mem: &[u32], at: usize) -> [i32; 2]
+use intervals::Window;
+
+// A window in memory: the words at a place and after it.
+fn window_at(mem: &[u32], at: usize) -> Window
     requires { at + 1 < length mem.now }
-    ensures { result ≡ pair_at mem.now at }
+    ensures { pair_of result ≡ pair_at mem.now at }
 {
-    [ints::signed(mem[at]), ints::signed(mem[at + 1])]
+    Window {
+        low: ints::signed(mem[at]),
+        high: ints::signed(mem[at + 1]),
+    }
 }
 
 // The windows of a path, from the sixteen words at a place.
-pub fn load(mem: &[u32], at: usize) -> [[i32; 2]; 8]
+pub fn load(mem: &[u32], at: usize) -> [Window; 8]
     requires { at + 16 ≤ length mem.now }
-    ensures { result ≡ pairs_at mem.now at 8 }
+    ensures { pairs_of result ≡ pairs_at mem.now at 8 }
 {
     [
-        pair_at(mem, at),
-        pair_at(mem, at + 2),
-        pair_at(mem, at + 4),
-        pair_at(mem, at + 6),
-        pair_at(mem, at + 8),
-        pair_at(mem, at + 10),
-        pair_at(mem, at + 12),
-        pair_at(mem, at + 14),
+        window_at(mem, at),
+        window_at(mem, at + 2),
+        window_at(mem, at + 4),
+        window_at(mem, at + 6),
+        window_at(mem, at + 8),
+        window_at(mem, at + 10),
+        window_at(mem, at + 12),
+        window_at(mem, at + 14),
     ]
 }
 
-fn put_pair(mem: &mut [u32], at: usize, p: [i32; 2])
+fn put_window(mem: &mut [u32], at: usize, w: Window)
     requires { at + 1 < length mem.old }
-    ensures { mem.new ≡ put_pair mem.old at p }
+    ensures { mem.new ≡ put_pair mem.old at (pair_of w) }
 {
-    mem[at] = ints::word(p[0]);
-    mem[at + 1] = ints::word(p[1]);
+    mem[at] = ints::word(w.low);
+    mem[at + 1] = ints::word(w.high);
 }
 
 // The windows of a path, into the sixteen words at a place.
-pub fn put(mem: &mut [u32], at: usize, ws: [[i32; 2]; 8])
+pub fn put(mem: &mut [u32], at: usize, ws: [Window; 8])
     requires { at + 16 ≤ length mem.old }
-    ensures { mem.new ≡ put_pairs mem.old at ws }
+    ensures { mem.new ≡ put_pairs mem.old at (pairs_of ws) }
 {
-    let mut i: usize = 0;
-    while i < 8 {
-        put_pair(mem, at + 2 * i, ws[i]);
-        i += 1;
+    for (i, w) in ws.iter().enumerate() {
+        put_window(mem, at + 2 * i, *w);
     }
 }

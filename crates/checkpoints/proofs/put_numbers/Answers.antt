@@ -1,36 +1,9 @@
-use Prim.Native.Nat.{ℕ, ◌+◌}
-use mathlib.Core.Path.{refl, subst}
+use Prim.Native.Nat.{◌+◌}
 use native.Mathlib.Omega.{arith}
 use lib.ListN.{length-set}
-use Rattle.checkpoints.specs.Live.{number_count}
-use Rattle.checkpoints.specs.Words.{Numbered}
 use Rattle.checkpoints.proofs.Places.{mark-below}
-use Rattle.checkpoints.proofs.Copying.{numbered-none, numbered-on}
+use Rattle.checkpoints.proofs.Copying.{numbered-on}
 use Rattle.checkpoints.proofs.put_numbers.Goals as goal
-
--- src/lib.rt:89:5
-pub loop-i-init : goal.loop-i-init
-loop-i-init c = (numbered-none, omega arith, refl)
-
--- src/lib.rt:90:59
-pub overflow_add-to : goal.overflow_add-to
-overflow_add-to c = omega (arith, c.requires.words, c.requires.small, c.loop-i-test.true, c.loop-i.invariant.2)
-
--- src/lib.rt:90:41
-pub overflow_mul-to : goal.overflow_mul-to
-overflow_mul-to c = omega (arith, c.requires.words, c.requires.small, c.loop-i-test.true, c.loop-i.invariant.2)
-
--- src/lib.rt:90:18
-pub overflow_add-to-in-loop-i : goal.overflow_add-to-in-loop-i
-overflow_add-to-in-loop-i c = omega (arith, c.requires.words, c.requires.small, c.loop-i-test.true, c.loop-i.invariant.2)
-
--- src/lib.rt:91:9
-pub offset_bounds-mem-to : goal.offset_bounds-mem-to
-offset_bounds-mem-to c = omega (arith, c.requires.words, c.requires.small, c.loop-i-test.true, c.loop-i.invariant.2)
-
--- src/lib.rt:91:9
-pub bounds-mem-to : goal.bounds-mem-to
-bounds-mem-to c = omega (arith, c.requires.words, c.requires.small, c.loop-i-test.true, c.loop-i.invariant.2)
 
 -- src/lib.rt:89:5
 pub loop-i-preserved : goal.loop-i-preserved
@@ -39,11 +12,3 @@ loop-i-preserved c = (
   omega (arith, c.loop-i-test.true),
   simp length-set c.loop-i.invariant.2,
 )
-
--- src/lib.rt:84:1
-pub shape_of-mem : goal.shape_of-mem
-shape_of-mem c = c.loop-i.invariant.2
-
--- src/lib.rt:84:1
-pub returns : goal.returns
-returns c = subst (λ (k : ℕ). Numbered c.args.mem.now c.loop-i.mem c.args.h c.args.w k) {x = c.loop-i.i} {y = number_count} (omega (arith, c.loop-i.invariant.1, c.loop-i-test.false)) c.loop-i.invariant.0

@@ -1,4 +1,4 @@
-use Prim.Native.Nat.{◌-◌, ◌≤◌}
+use Prim.Native.Nat.{◌≤◌}
 use mathlib.Core.Path.{◌≡◌}
 use lib.ListN.{length}
 use Rattle.checkpoints.specs.Live.{number_count}
@@ -6,7 +6,4 @@ use Rattle.checkpoints.specs.Words.{Numbered}
 use Rattle.checkpoints.proofs.put_numbers.Given as goal
 
 abbrev pub invariant-loop-i : goal.invariant-loop-i
-invariant-loop-i l = Numbered l.initial.mem l.mem l.h l.w l.i × (l.i ≤ number_count) × (length l.mem ≡ length l.initial.mem)
-
-abbrev pub decreases-loop-i : goal.decreases-loop-i
-decreases-loop-i l = number_count - l.i
+invariant-loop-i l = Numbered l.initial.mem l.mem l.number-items l.w l.i × (l.i ≤ number_count) × (length l.mem ≡ length l.initial.mem)

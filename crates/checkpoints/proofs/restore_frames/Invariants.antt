@@ -1,11 +1,8 @@
-use Prim.Native.Nat.{◌+◌, ◌-◌, ◌≤◌}
+use Prim.Native.Nat.{◌≤◌}
 use mathlib.Core.Path.{◌≡◌}
 use lib.ListN.{length}
-use Rattle.checkpoints.specs.Live.{framed, FramesBack}
+use Rattle.checkpoints.specs.Live.{FramesBack}
 use Rattle.checkpoints.proofs.restore_frames.Given as goal
 
 abbrev pub invariant-loop-j : goal.invariant-loop-j
-invariant-loop-j l = FramesBack l.cells l.initial.mem l.mem l.j l.w × (l.j ≤ l.d) × (l.from ≡ l.w + framed l.cells l.j) × (length l.mem ≡ length l.initial.mem)
-
-abbrev pub decreases-loop-j : goal.decreases-loop-j
-decreases-loop-j l = l.d - l.j
+invariant-loop-j l = FramesBack l.cells l.initial.mem l.mem l.j l.w × (l.j ≤ l.d) × (length l.mem ≡ length l.initial.mem)

@@ -1,15 +1,5 @@
-use native.Mathlib.Omega.{arith}
-use mathlib.Core.Path.{◌∙◌}
-use Rattle.machine.proofs.Tables.{room-same, room-less}
-use Rattle.checkpoints.proofs.Places.{temporary-row}
 use Rattle.checkpoints.proofs.Keeping.{back-so}
 use Rattle.checkpoints.proofs.restore_pairs.Goals as goal
-
--- src/lib.rt:231:5
-pub restore_row-requires-3 : goal.restore_row-requires-3
-restore_row-requires-3 c =
-    let e = c.restore_row-2.auto.mem ∙ c.restore_row.auto.mem ∙ c.restore_frames.auto.mem ∙ c.clear.auto.mem in
-    (temporary-row (room-same {m = c.args.mem.now} e c.requires.0.tops), room-less _ (omega arith) (room-same {m = c.args.mem.now} e c.requires.2))
 
 -- src/lib.rt:219:1
 pub returns : goal.returns

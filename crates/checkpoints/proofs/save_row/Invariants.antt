@@ -1,11 +1,8 @@
-use Prim.Native.Nat.{◌+◌, ◌-◌, ◌*◌, ◌≤◌}
+use Prim.Native.Nat.{◌≤◌}
 use mathlib.Core.Path.{◌≡◌}
 use lib.ListN.{length}
 use Rattle.checkpoints.specs.Live.{RowSaved}
 use Rattle.checkpoints.proofs.save_row.Given as goal
 
 abbrev pub invariant-loop-i : goal.invariant-loop-i
-invariant-loop-i l = RowSaved l.initial.mem l.mem l.x l.s l.i l.w × (l.i ≤ l.n) × (l.from ≡ l.x + l.s * l.i) × (length l.mem ≡ length l.initial.mem)
-
-abbrev pub decreases-loop-i : goal.decreases-loop-i
-decreases-loop-i l = l.n - l.i
+invariant-loop-i l = RowSaved l.initial.mem l.mem l.x l.s l.i l.w × (l.i ≤ l.n) × (length l.mem ≡ length l.initial.mem)

@@ -3,28 +3,16 @@ use mathlib.Core.Path.{refl, sym, ap, subst}
 use native.Mathlib.Omega.{arith}
 use lib.ListN.{get_or}
 use Rattle.simulation.specs.Words.{code_in}
-use Rattle.known_steps.specs.declared.Next.{Next}
-use Rattle.known_steps.specs.Turns.{OneOrTwo, once, twice}
+use Rattle.paths.specs.declared.Point.{Point}
+use Rattle.known_steps.specs.Turns.{OneOrTwo, twice}
 use Rattle.known_steps.proofs.Working.{result-made}
 use Rattle.known_steps.proofs.assign.Goals as goal
-
--- src/lib.rt:266:9
-pub returns-then-size-run : goal.returns-then-size-run
-returns-then-size-run c = (λ m before h. once h, refl)
-
--- src/lib.rt:269:9
-pub returns-then-code-run-ne-STORE : goal.returns-then-code-run-ne-STORE
-returns-then-code-run-ne-STORE c = (λ m before h. once h, refl)
-
--- src/lib.rt:271:13
-pub overflow_cast-w : goal.overflow_cast-w
-overflow_cast-w c = omega (arith, c.type_inv.code (2 * c.args.p.run.pc + 1))
 
 -- src/lib.rt:260:1
 pub returns : goal.returns
 returns c = (
-  λ m before h. subst (λ (x : Next). OneOrTwo (code_in c.args.code.now c.args.size) m c.put.new.mem before x.point) (sym c.silent-next.ensures)
+  λ m before h. subst (λ (x : Point). OneOrTwo (code_in c.args.code.now c.args.size) m c.put.new.mem before x) (sym c.proceed.ensures)
       (twice c.args.mem.now c.args.p h
       (result-made c.args.code.now c.args.size c.args.mem.now c.args.p c.requires.2 (omega (arith, c.if-size-run.false)) (get_or c.args.code.now (2 * c.args.p.run.pc) 0) (get_or c.args.code.now (2 * c.args.p.run.pc + 1) 0) refl refl c.if-code-run-ne-STORE.false c.args.v (omega (arith, c.ranges.v)) c.requires.3 c.put.new.mem c.put.auto.mem c.put.ensures)),
-  ap (λ (x : Next). x.point.steps) c.silent-next.ensures,
+  ap (λ (x : Point). x.steps) c.proceed.ensures,
 )

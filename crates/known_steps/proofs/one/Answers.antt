@@ -1,43 +1,23 @@
-use Prim.Native.Nat.{◌+◌, ◌*◌}
 use mathlib.Core.Path.{refl}
-use native.Mathlib.Omega.{arith}
 use Rattle.simulation.specs.Words.{code_in}
-use Rattle.paths.specs.Point.{running}
 use Rattle.machine.proofs.Entries.{goes-run, adv-leaf}
-use Rattle.known_steps.proofs.Making.{one-made, one-not, silent-made}
+use Rattle.known_steps.specs.Turns.{no}
+use Rattle.known_steps.proofs.Making.{one-made, silent-made}
 use Rattle.known_steps.proofs.one.Goals as goal
-
--- src/lib.rt:347:9
-pub returns-then-size-run : goal.returns-then-size-run
-returns-then-size-run c =
-    one-not (code_in c.args.code.now c.args.size) c.args.mem.now _ c.args.p c.args.floor c.stop.result c.stop.ensures refl
-
--- src/lib.rt:351:9
-pub returns-then-kind-lt-NUMBER : goal.returns-then-kind-lt-NUMBER
-returns-then-kind-lt-NUMBER c =
-    one-not (code_in c.args.code.now c.args.size) c.args.mem.now _ c.args.p c.args.floor c.stop-then-kind-lt-NUMBER.result c.stop-then-kind-lt-NUMBER.ensures refl
 
 -- src/lib.rt:354:9
 pub returns-then-kind-lt-ADD : goal.returns-then-kind-lt-ADD
 returns-then-kind-lt-ADD c =
-    one-made (code_in c.args.code.now c.args.size) c.args.mem.now c.args.mem.now c.args.p c.args.floor c.silent.result (running c.args.p c.moved.result) c.silent.ensures
-    (silent-made (code_in c.args.code.now c.args.size) c.args.mem.now c.args.p c.requires.2 c.args.mem.now c.moved.result refl
-    (goes-run c.moved.ensures (adv-leaf c.args.code.now c.args.size c.args.mem.now c.args.p.run c.if-size-run.false c.if-kind-lt-NUMBER.false c.if-kind-lt-ADD.true c.requires.2.ready)))
+    one-made (code_in c.args.code.now c.args.size) c.args.mem.now c.args.mem.now c.args.p c.args.floor c.proceed.result _ c.proceed.ensures
+    (silent-made (code_in c.args.code.now c.args.size) c.args.mem.now c.args.p c.requires.2 c.args.mem.now _ refl
+    (goes-run refl (adv-leaf c.args.code.now c.args.size c.args.mem.now c.args.p.run c.if-size-run.false c.if-kind-lt-NUMBER.false c.if-kind-lt-ADD.true c.requires.2.ready)))
     c.requires.3
 
--- src/lib.rt:356:13
-pub overflow_cast-w : goal.overflow_cast-w
-overflow_cast-w c = omega (arith, c.type_inv.code (2 * c.args.p.run.pc + 1))
+pub returns-then-size-run : goal.returns-then-size-run
+returns-then-size-run c = no refl
 
-pub act-requires : goal.act-requires
-act-requires c =
-    (c.requires.0, c.requires.1, c.requires.2, c.if-size-run.false, refl, refl, omega (arith, c.type_inv.code (2 * c.args.p.run.pc + 1)), c.requires.3)
+pub returns-then-kind-lt-NUMBER : goal.returns-then-kind-lt-NUMBER
+returns-then-kind-lt-NUMBER c = no refl
 
--- src/lib.rt:361:9
 pub returns-then-p-floor : goal.returns-then-p-floor
-returns-then-p-floor c =
-    one-not (code_in c.args.code.now c.args.size) c.args.mem.now _ c.args.p c.args.floor c.stop-then-p-floor.result c.stop-then-p-floor.ensures refl
-
-pub work-requires : goal.work-requires
-work-requires c =
-    (c.requires.0, c.requires.1, c.requires.2, c.if-size-run.false, refl, refl, c.if-kind-lt-ADD.false, omega (arith, c.if-kind-gt-COMPARE_LAST.false), omega (arith, c.if-p-floor.false, c.requires.3))
+returns-then-p-floor c = no refl

@@ -3,10 +3,6 @@ use Rattle.simulation.specs.Words.{code_in}
 use Rattle.known_steps.proofs.Passing.{turns-fewer, moves-less}
 use Rattle.known_steps.proofs.pass.Goals as goal
 
--- src/lib.rt:424:9
-pub make-q-requires : goal.make-q-requires
-make-q-requires c = (c.requires.0, c.requires.1, c.requires.2, c.floor_of.ensures.0)
-
 -- src/lib.rt:427:15
 pub left_of-requires : goal.left_of-requires
 left_of-requires c =

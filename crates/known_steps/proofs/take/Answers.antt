@@ -1,6 +1,6 @@
 use Prim.Native.Nat.{ℕ, ◌+◌, ◌-◌, ◌*◌, ◌%◌}
 use mathlib.Core.Path.{refl}
-use mathlib.Core.Logic.{inl, inr}
+use mathlib.Core.Logic.{inl, inr, ⊎_elim}
 use native.Mathlib.Omega.{arith}
 use lib.ListN.{get_or}
 use mir.Syntax.{w32}
@@ -12,15 +12,9 @@ use Rattle.known_steps.specs.Cells.{value_as}
 use Rattle.known_steps.proofs.Cells.{holds-words}
 use Rattle.known_steps.proofs.take.Goals as goal
 
--- src/lib.rt:80:9
 pub returns-then-j-eq0 : goal.returns-then-j-eq0
 returns-then-j-eq0 c =
-    taking-out c.args.code.now c.args.size c.args.mem.now c.args.run c.args.j (value_as c.pop.result.kind c.pop.result.word) c.pop.result.top (inl c.if-j-eq0.true) c.pop.ensures
-
--- src/lib.rt:83:9
-pub returns-then-size-j : goal.returns-then-size-j
-returns-then-size-j c =
-    taking-out c.args.code.now c.args.size c.args.mem.now c.args.run c.args.j (value_as c.pop-then-size-j.result.kind c.pop-then-size-j.result.word) c.pop-then-size-j.result.top (inr c.if-size-j.true) c.pop-then-size-j.ensures
+    taking-out c.args.code.now c.args.size c.args.mem.now c.args.run c.args.j (value_as c.pop.result.kind c.pop.result.word) c.pop.result.top (⊎_elim (λ e. inl e) (λ q. inr q.1) c.then-j-eq0.either) c.pop.ensures
 
 -- src/lib.rt:88:9
 pub returns-then-k-eq-NUMBER : goal.returns-then-k-eq-NUMBER

@@ -1,6 +1,5 @@
-use Prim.Native.Nat.{◌+◌, ◌*◌}
+use Prim.Native.Nat.{◌*◌}
 use mathlib.Core.Path.{refl}
-use native.Mathlib.Omega.{arith}
 use lib.ListN.{get_or}
 use Rattle.intervals.specs.Meaning.{of_window}
 use Rattle.machine.proofs.Entries.{past_all, goes-run, goes-from, adv-out, adv-fail, adv-big, adv-leaf, adv-op, adv-cmp, adv-cut, adv-call, adv-false, adv-true, adv-jump-false, adv-jump-true, adv-skip, adv-again, adv-begin, adv-ask, adv-own, adv-store, adv-return, adv-returned}
@@ -10,49 +9,18 @@ pub returns-then-size-run : goal.returns-then-size-run
 returns-then-size-run c =
     (adv-out c.args.code.now c.args.size c.args.mem.now c.args.run c.if-size-run.true, refl)
 
-pub overflow_cast-w : goal.overflow_cast-w
-overflow_cast-w c = omega (arith, c.type_inv.code (2 * c.args.run.pc + 1))
-
 pub returns-then-run-eq-DEPTH : goal.returns-then-run-eq-DEPTH
 returns-then-run-eq-DEPTH c =
     (adv-cut c.args.code.now c.args.size c.args.mem.now c.args.run c.if-size-run.false c.in-13.is c.if-run-eq-DEPTH.true, refl)
 
-pub enter-requires : goal.enter-requires
-enter-requires c =
-    (c.requires.0, c.requires.2, omega (arith, c.if-run-eq-DEPTH.false, c.requires.2.deep), c.if-size-run.false, c.requires.1, omega arith)
-
-pub landing-requires : goal.landing-requires
-landing-requires c =
-    (omega (arith, c.if-size-run.false, c.requires.1), omega (arith, c.type_inv.code (2 * c.args.run.pc + 1)))
-
-pub landing-requires-in-17 : goal.landing-requires-in-17
-landing-requires-in-17 c =
-    (omega (arith, c.if-size-run.false, c.requires.1), omega (arith, c.type_inv.code (2 * c.args.run.pc + 1)))
-
-pub overflow_add-run-in-18 : goal.overflow_add-run-in-18
-overflow_add-run-in-18 c =
-    record { fits = omega (arith, c.type_inv.code (2 * c.args.run.pc + 1), c.if-size-run.false, c.requires.1) }
-
 pub returns-then-run-eq0 : goal.returns-then-run-eq0
 returns-then-run-eq0 c =
     adv-returned c.args.code.now c.args.size c.args.mem.now c.args.run c.if-size-run.false
-    c.in-23.is c.if-run-eq0.true c.take-t.result.value c.take-t.result.top c.take-t.ensures
-
-pub operate-requires : goal.operate-requires
-operate-requires c = (
-  c.requires.2,
-  omega (arith, c.if-kind-lt-COMPARE.true, c.in-4-to-12.if-kind-lt4-own.false),
-  omega (arith, c.if-size-run.false, c.requires.1),
-  c.requires.3,
-  c.requires.4,
-  c.pair-p.ensures.left-sized,
-  c.pair-p.ensures.right-sized,
-  c.pair-p.ensures.high,
-)
+    c.in-23.is c.if-run-eq0.true c.take.result.value c.take.result.top c.take.ensures
 
 pub returns-then-kind-lt-COMPARE : goal.returns-then-kind-lt-COMPARE
 returns-then-kind-lt-COMPARE c =
-    goes-from (adv-op c.args.code.now c.args.size c.args.mem.now c.args.run c.if-size-run.false c.in-4-to-12.if-kind-lt4-own.false c.if-kind-lt-COMPARE.true)
+    goes-from (adv-op c.args.code.now c.args.size c.args.mem.now c.args.run c.if-size-run.false c.in-4-to-12.if-kind-lt4-own.false c.if-kind-lt-COMPARE.true _ c.from.ensures)
     (c.operate.ensures _ _ c.pair-p.ensures)
 
 pub returns-else-run-eq-DEPTH : goal.returns-else-run-eq-DEPTH
@@ -86,7 +54,7 @@ returns-in-18 c =
 pub returns-in-19 : goal.returns-in-19
 returns-in-19 c =
     goes-run c.moved-in-19.ensures (adv-again c.args.code.now c.args.size c.args.mem.now c.args.run c.if-size-run.false c.in-19.is
-    c.monus.result c.monus.ensures c.requires.2)
+    c.saturating_sub.result c.saturating_sub.ensures c.requires.2)
 
 pub returns-in-20 : goal.returns-in-20
 returns-in-20 c =
@@ -120,7 +88,7 @@ returns-in-1-to-3 c =
 
 pub returns-else-kind-lt-COMPARE : goal.returns-else-kind-lt-COMPARE
 returns-else-kind-lt-COMPARE c =
-    adv-cmp c.args.code.now c.args.size c.args.mem.now c.args.run c.if-size-run.false c.if-kind-lt-COMPARE.false c.in-4-to-12.if-kind-lt13-own.true c.pair-p.result.left c.pair-p.result.right c.pair-p.result.top c.requires.2 c.pair-p.ensures
+    adv-cmp c.args.code.now c.args.size c.args.mem.now c.args.run c.if-size-run.false c.if-kind-lt-COMPARE.false c.in-4-to-12.if-kind-lt13-own.true _ c.from-in-4-to-12.ensures c.pair-p.result.left c.pair-p.result.right c.pair-p.result.top c.requires.2 c.pair-p.ensures
 
 pub returns-in_default : goal.returns-in_default
 returns-in_default c =

@@ -1,16 +1,6 @@
-use Prim.Native.Nat.{◌+◌, ◌*◌}
 use native.Mathlib.Omega.{arith}
-use lib.ListN.{length-set}
 use Rattle.machine.proofs.Arguments.{entered}
 use Rattle.machine.proofs.enter.Goals as goal
-
-pub bounds-mem-run-2 : goal.bounds-mem-run-2
-bounds-mem-run-2 c =
-    simp length-set (omega (arith, c.gather-top.ensures.ready.tops.words, c.requires.2))
-
-pub overflow_cast-result : goal.overflow_cast-result
-overflow_cast-result c =
-    omega (arith, c.type_inv.code (2 * c.args.size + c.args.g))
 
 pub returns : goal.returns
 returns c =

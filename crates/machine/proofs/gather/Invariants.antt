@@ -1,11 +1,6 @@
-use mathlib.Core.Path.{◌≡◌}
-use lib.ListN.{length}
 use Rattle.simulation.specs.Words.{code_in}
 use Rattle.machine.specs.Terms.{Gathering}
 use Rattle.machine.proofs.gather.Given as goal
 
 abbrev pub invariant-loop-k : goal.invariant-loop-k
-invariant-loop-k l = Gathering (code_in l.code l.size) l.initial.mem l.mem l.run l.n l.k l.j l.top × (length l.mem ≡ length l.initial.mem)
-
-abbrev pub decreases-loop-k : goal.decreases-loop-k
-decreases-loop-k l = l.k
+invariant-loop-k l = Gathering (code_in l.code l.size) l.initial.mem l.mem l.run l.n l.k l.j l.top

@@ -1,14 +1,6 @@
-use Prim.Native.Nat.{◌-◌}
 use native.Mathlib.Omega.{arith}
-use Rattle.machine.specs.Layout.{caller_place, caller_base}
 use Rattle.machine.proofs.Moves.{left-from}
 use Rattle.machine.proofs.leave.Goals as goal
-
-pub overflow_cast-pc : goal.overflow_cast-pc
-overflow_cast-pc c = omega (arith, c.type_inv.mem (caller_place (c.args.run.depth - 1)))
-
-pub overflow_cast-base : goal.overflow_cast-base
-overflow_cast-base c = omega (arith, c.type_inv.mem (caller_base (c.args.run.depth - 1)))
 
 pub returns : goal.returns
 returns c =

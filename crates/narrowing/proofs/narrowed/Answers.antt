@@ -1,4 +1,3 @@
-use Prim.Native.Nat.{ℕ}
 use mathlib.Core.Path.{◌≡◌, sym, ap, ap₂, ◌∙◌, subst}
 use mathlib.Core.Option.{none}
 use mathlib.Core.List.{List}
@@ -8,21 +7,17 @@ use mir.Facts.{to_z-of_z}
 use borrow.Author.Rules.{rules}
 use Rattle.semantics.specs.Program.{Window}
 use Rattle.semantics.specs.Search.{mirrored, decided, clipped}
-use Rattle.ints.specs.Numbers.{number_of, comparison}
-use Rattle.ints.proofs.Chosen.{comparison-number}
+use Rattle.ints.specs.Meaning.{of_comparison}
 use Rattle.ints.proofs.Fits.{same_bits, other-bits}
-use Rattle.intervals.specs.Meaning.{of_window, of_pairs}
+use Rattle.intervals.specs.Meaning.{of_window, of_windows}
 use Rattle.narrowing.specs.Meaning.{range_of, variable_of}
 use Rattle.narrowing.proofs.Sides.{left-narrows, right-narrows, none-narrows, asked-left, asked-right}
 use Rattle.narrowing.proofs.narrowed.Goals as goal
 
-by_number : (c n : ℕ) → n ≡ number_of (mirrored (comparison c)) → comparison n ≡ mirrored (comparison c)
-by_number c n e = ap comparison e ∙ comparison-number (mirrored (comparison c))
-
 pub narrow_side-requires : goal.narrow_side-requires
 narrow_side-requires c =
-    let p = comparison c.args.c in
-    let ws = of_pairs c.args.ws in
+    let p = of_comparison c.args.c in
+    let ws = of_windows c.args.ws in
     let l : SFits w32 c.range_of-w.result.low = search rules in
     let h : SFits w32 c.range_of-w.result.high = search rules in
     let d : decided p (range_of ws c.args.a) (of_window c.range_of-w.result) ≡ none = subst (λ (u : Window). decided p (range_of ws c.args.a) u ≡ none) (sym c.range_of-w.ensures) c.requires.undecided in
@@ -30,8 +25,8 @@ narrow_side-requires c =
 
 pub returns-then-w : goal.returns-then-w
 returns-then-w c =
-    let p = comparison c.args.c in
-    let ws = of_pairs c.args.ws in
+    let p = of_comparison c.args.c in
+    let ws = of_windows c.args.ws in
     let both : Window → Window → List Window = λ u t. clipped (mirrored p) (variable_of c.args.b) u (clipped p (variable_of c.args.a) t ws) in
     let l : SFits w32 c.range_of-w.result.low = search rules in
     let h : SFits w32 c.range_of-w.result.high = search rules in
@@ -42,32 +37,32 @@ returns-then-w c =
 
 pub narrow_side-requires-then-v : goal.narrow_side-requires-then-v
 narrow_side-requires-then-v c =
-    let p = comparison c.args.c in
-    let ws = of_pairs c.args.ws in
+    let p = of_comparison c.args.c in
+    let ws = of_windows c.args.ws in
     let l : SFits w32 c.range_of-w.result.low = search rules in
     let h : SFits w32 c.range_of-w.result.high = search rules in
     let f : SFits w32 c.range_of-v.result.low = search rules in
     let g : SFits w32 c.range_of-v.result.high = search rules in
     let d : decided p (of_window c.range_of-v.result) (range_of ws c.args.b) ≡ none = subst (λ (u : Window). decided p u (range_of ws c.args.b) ≡ none) (sym c.range_of-v.ensures) c.requires.undecided in
-    (search rules, rw (to_z-of_z f, by_number c.args.c c.mirrored.result c.mirrored.ensures) (asked-right p (of_window c.range_of-v.result) (range_of ws c.args.b) d (same_bits f g c.if-v.true)))
+    (search rules, rw (to_z-of_z f, c.mirrored.ensures) (asked-right p (of_window c.range_of-v.result) (range_of ws c.args.b) d (same_bits f g c.if-v.true)))
 
 pub returns-then-v : goal.returns-then-v
 returns-then-v c =
-    let p = comparison c.args.c in
-    let ws = of_pairs c.args.ws in
+    let p = of_comparison c.args.c in
+    let ws = of_windows c.args.ws in
     let both : Window → Window → List Window = λ u t. clipped (mirrored p) (variable_of c.args.b) u (clipped p (variable_of c.args.a) t ws) in
     let l : SFits w32 c.range_of-w.result.low = search rules in
     let h : SFits w32 c.range_of-w.result.high = search rules in
     let f : SFits w32 c.range_of-v.result.low = search rules in
     let g : SFits w32 c.range_of-v.result.high = search rules in
-    rw (to_z-of_z f, by_number c.args.c c.mirrored.result c.mirrored.ensures) at c.narrow_side-then-v.ensures
+    rw (to_z-of_z f, c.mirrored.ensures) at c.narrow_side-then-v.ensures
     ∙ right-narrows p ws (variable_of c.args.a) (variable_of c.args.b) (of_window c.range_of-v.result) (of_window c.range_of-w.result) (other-bits c.range_of-w.result.low c.range_of-w.result.high l h c.if-w.false) (same_bits f g c.if-v.true)
     ∙ ap₂ both c.range_of-v.ensures c.range_of-w.ensures
 
 pub returns : goal.returns
 returns c =
-    let p = comparison c.args.c in
-    let ws = of_pairs c.args.ws in
+    let p = of_comparison c.args.c in
+    let ws = of_windows c.args.ws in
     let both : Window → Window → List Window = λ u t. clipped (mirrored p) (variable_of c.args.b) u (clipped p (variable_of c.args.a) t ws) in
     let l : SFits w32 c.range_of-w.result.low = search rules in
     let h : SFits w32 c.range_of-w.result.high = search rules in

@@ -7,14 +7,16 @@ use Rattle.paths.proofs.Growing.{reached-ranging}
 use Rattle.paths.proofs.Turning.{free-cut, ninth-cut, free_on}
 use Rattle.paths.proofs.Stays.{stays-none, stays_then, stays-pairs, stays-range}
 use Rattle.paths.proofs.after_free.Goals as goal
+use Rattle.paths.proofs.after_free.Goals.{then-p-eq0-via-then-p-eq0, then-p-eq0-via-else-p-eq0+then-p-eq-UNKNOWNS}
 
 pub returns-then-p-eq0 : goal.returns-then-p-eq0
-returns-then-p-eq0 c =
-    (λ job o q next e. free-cut c.args.mem.now c.args.p job o next c.if-p-eq0.true c.requires.0, stays-none)
-
-pub returns-then-p-eq-UNKNOWNS : goal.returns-then-p-eq-UNKNOWNS
-returns-then-p-eq-UNKNOWNS c =
-    (λ job o q next e. ninth-cut c.args.mem.now c.args.p job o next c.if-p-eq-UNKNOWNS.true c.requires.0, stays-none)
+returns-then-p-eq0 c = (
+  λ job o q next e. elim c.then-p-eq0.branch [
+    | then-p-eq0-via-then-p-eq0 w ↦ free-cut c.args.mem.now c.args.p job o next w.if-p-eq0.true c.requires.0
+    | then-p-eq0-via-else-p-eq0+then-p-eq-UNKNOWNS w ↦ ninth-cut c.args.mem.now c.args.p job o next w.if-p-eq-UNKNOWNS.true c.requires.0
+  ],
+  stays-none,
+)
 
 pub write_range-requires : goal.write_range-requires
 write_range-requires c = (
@@ -22,12 +24,6 @@ write_range-requires c = (
   room-same c.reach.auto.mem (subst (Room c.args.mem.now) c.requires.2 c.requires.1.few),
   reached-ranging c.args.mem.now c.reach.new.mem (of_window c.args.w) c.args.p.windows c.args.p.run.nodes c.requires.0.tables
       c.reach.ensures c.requires.4,
-)
-
-pub declare-requires : goal.declare-requires
-declare-requires c = (
-  omega (arith, c.if-p-eq0.false),
-  omega (arith, c.if-p-eq-UNKNOWNS.false, c.requires.0.tables.count),
 )
 
 pub returns : goal.returns

@@ -1,8 +1,7 @@
-use Prim.Native.Nat.{ℕ}
 use mathlib.Core.Path.{refl, sym, subst}
 use native.Mathlib.Omega.{arith}
 use Rattle.machine.specs.Memory.{nodes_in, windows_in}
-use Rattle.paths.specs.Table.{Ranging, Anew}
+use Rattle.paths.specs.Table.{Ranging}
 use Rattle.paths.proofs.Table.{anew-none, anew-more, ranging}
 use Rattle.paths.proofs.all_ranges.Goals as goal
 
@@ -19,7 +18,3 @@ write_range-requires c = (
 pub loop-j-preserved : goal.loop-j-preserved
 loop-j-preserved c =
     (anew-more c.args.mem.now c.loop-j.mem c.write_range.new.mem c.args.k c.loop-j.j c.loop-j.invariant.0 c.write_range.ensures, omega arith, omega (arith, c.write_range.auto.mem, c.loop-j.invariant.2))
-
-pub returns : goal.returns
-returns c =
-    subst (λ (i : ℕ). Anew c.args.mem.now c.loop-j.mem c.args.k i) (omega (arith, c.loop-j-test.false, c.loop-j.invariant.1)) c.loop-j.invariant.0

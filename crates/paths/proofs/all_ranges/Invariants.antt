@@ -1,4 +1,4 @@
-use Prim.Native.Nat.{◌-◌, ◌≤◌}
+use Prim.Native.Nat.{◌≤◌}
 use mathlib.Core.Path.{◌≡◌}
 use lib.ListN.{length}
 use Rattle.paths.specs.Table.{Anew}
@@ -6,6 +6,3 @@ use Rattle.paths.proofs.all_ranges.Given as goal
 
 abbrev pub invariant-loop-j : goal.invariant-loop-j
 invariant-loop-j l = Anew l.initial.mem l.mem l.k l.j × (l.j ≤ l.n) × (length l.mem ≡ length l.initial.mem)
-
-abbrev pub decreases-loop-j : goal.decreases-loop-j
-decreases-loop-j l = l.n - l.j

@@ -3,20 +3,8 @@ use mathlib.Core.Bool.{true, false}
 use Rattle.ints.specs.Numbers.{comparison}
 use Rattle.paths.specs.declared.Point.{Point}
 use Rattle.paths.specs.Point.{flagging}
-use Rattle.paths.proofs.Comparing.{said, compared-so, chosen-so, undecided-so}
+use Rattle.paths.proofs.Comparing.{said, compared-so, chosen-so}
 use Rattle.paths.proofs.compare.Goals as goal
-
-pub choose-o-requires : goal.choose-o-requires
-choose-o-requires c =
-    let k = comparison c.args.c in (
-      c.requires.0,
-      c.requires.2,
-      c.requires.3,
-      undecided-so c.args.mem.now c.args.p k c.args.v c.args.w c.requires.0 c.requires.1 c.requires.4 c.requires.5
-          (said k c.decide.result _ c.range_of-a.result c.range_of-b.result _ _
-          c.in-Open.is c.decide.ensures c.range_of-a.ensures
-          c.range_of-b.ensures),
-    )
 
 pub returns-in-True : goal.returns-in-True
 returns-in-True c =

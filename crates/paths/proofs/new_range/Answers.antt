@@ -1,7 +1,7 @@
 use native.Mathlib.Omega.{arith}
 use Prim.Native.Nat.{◌+◌}
 use Rattle.machine.proofs.Tables.{room-less}
-use Rattle.paths.proofs.Growing.{range-so, grown-none, grown-one}
+use Rattle.paths.proofs.Growing.{range-so, grown-one}
 use Rattle.paths.proofs.new_range.Goals as goal
 
 pub write_range-requires : goal.write_range-requires
@@ -12,7 +12,3 @@ pub returns-then-n-nodes : goal.returns-then-n-nodes
 returns-then-n-nodes c =
     grown-one c.args.mem.now c.write_range.new.mem c.args.k c.args.n c.args.nodes c.requires.0 c.requires.1 c.requires.2 c.if-n-nodes.true
     c.write_range.auto.mem c.write_range.ensures
-
-pub returns-else-n-nodes : goal.returns-else-n-nodes
-returns-else-n-nodes c =
-    grown-none c.args.mem.now c.args.k c.args.n c.args.nodes c.requires.0 c.requires.2 (omega arith)

@@ -6,7 +6,7 @@ use Rattle.intervals.specs.Meaning.{of_window}
 use Rattle.machine.specs.Memory.{machine_at}
 use Rattle.machine.specs.declared.Did.TheVariants as Did
 use Rattle.paths.specs.declared.Turned.TheVariants as Turned
-use Rattle.paths.proofs.Keeping.{standing-kept, growing-kept, silent-on, returned-stops, failed-stops, cut-stops, onwards, done-as, turned, test-asked, test-turned}
+use Rattle.paths.proofs.Keeping.{standing-kept, growing-kept, silent-on, returned-stops, failed-stops, cut-stops, onwards, done-as, turned, test-turned}
 use Rattle.paths.proofs.Stays.{stays_same, stays_then, stays-kept}
 use Rattle.paths.proofs.turn.Goals as goal
 
@@ -25,16 +25,6 @@ after_free-requires c =
     let g = done-as (advance known work x (machine_at c.args.mem.now c.args.p.run)) job c.args.mem.now c.args.p.run.nodes c.advance.new.mem c.args.p.windows c.advance.result
     (Did.Free c.in-Free.r c.in-Free.w) c.in-Free.is c.advance.ensures in
     (standing-kept c.args.p g.asked.kept c.advance.auto.mem c.requires.2.standing, g.asked.ready, g.asked.one, g.asked.node, g.filled)
-
-pub after_test-requires : goal.after_test-requires
-after_test-requires c =
-    let x = code_in c.args.code.now c.args.size in
-    let job = of_window c.args.job in
-    let g = done-as (advance known work x (machine_at c.args.mem.now c.args.p.run)) job c.args.mem.now c.args.p.run.nodes c.advance.new.mem c.args.p.windows c.advance.result
-    (Did.Test c.in-Test.c c.in-Test.v c.in-Test.w c.in-Test.r)
-    c.in-Test.is c.advance.ensures in
-    test-asked c.args.mem.now c.args.p job x c.requires.2 c.advance.new.mem c.in-Test.c c.in-Test.v c.in-Test.w
-    c.in-Test.r g
 
 pub returns-in-Silent : goal.returns-in-Silent
 returns-in-Silent c =

@@ -1,8 +1,6 @@
 use Prim.Native.Nat.{ℕ}
 use mathlib.Core.Path.{◌≡◌, ap, ap₂, ◌∙◌}
-use native.Mathlib.Omega.{arith}
 use lib.IntN.{ℤ}
-use lib.ListN.{length-set}
 use mir.Syntax.{w32}
 use mir.Val.{to_z, of_z, SFits}
 use mir.Facts.{to_z-of_z}
@@ -13,9 +11,6 @@ use Rattle.paths.proofs.write_range.Goals as goal
 
 back : (z : ℤ) (x : ℕ) → SFits w32 z → x ≡ of_z w32 (to_z w32 (of_z w32 z)) → to_z w32 x ≡ z
 back z x f e = ap (to_z w32) (e ∙ ap (of_z w32) (to_z-of_z f)) ∙ to_z-of_z f
-
-pub bounds-mem-j-2 : goal.bounds-mem-j-2
-bounds-mem-j-2 c = simp length-set (omega (arith, c.requires.1.words))
 
 pub returns : goal.returns
 returns c =

@@ -1,12 +1,14 @@
 use mir.Syntax.{w64}
-use mathlib.Core.Path.{refl, ◌∙◌}
+use mir.Val.{SFits}
 use mir.Facts.{to_z-of_z}
-use Rattle.semantics.specs.Search.{max_z}
-use Rattle.ints.proofs.Read.{read₂}
+use Rattle.intervals.proofs.Narrow.{max-is}
 use Rattle.ranges.proofs.most_of.Goals as goal
 
 pub returns : goal.returns
 returns c =
-    let p = read₂ max_z c.ranges.a c.ranges.b refl refl c.most.ensures in
-    let q = read₂ max_z c.ranges.c c.ranges.d refl refl c.most-2.ensures in
-    to_z-of_z {w = w64} {z = c.most-3.result} (record { sfits = c.most-3.type_inv }) ∙ read₂ max_z {w = w64} (record { sfits = c.most.type_inv }) (record { sfits = c.most-2.type_inv }) p q c.most-3.ensures
+    let p : SFits w64 c.max.result = record { sfits = c.max.type_inv } in
+    let q : SFits w64 c.max-2.result = record { sfits = c.max-2.type_inv } in
+    let r : SFits w64 c.max-3.result = record { sfits = c.max-3.type_inv } in
+    let a = simp (to_z-of_z c.ranges.a, to_z-of_z c.ranges.b, max-is) at c.max.ensures.value in
+    let b = simp (to_z-of_z c.ranges.c, to_z-of_z c.ranges.d, max-is) at c.max-2.ensures.value in
+    rw (to_z-of_z r) (rw (to_z-of_z p, to_z-of_z q, max-is, a, b) at c.max-3.ensures.value)

@@ -8,7 +8,6 @@ use Rattle.search.proofs.Rounds.{begins-first, round-as, resumes-as}
 use Rattle.search.proofs.Searching.{between_first, between-fair, between-less, between_next, between-over}
 use Rattle.search.proofs.run.Goals as goal
 
--- src/lib.rt:225:5
 pub loop-k-init : goal.loop-k-init
 loop-k-init c = (
   between_first (code_in c.args.code.now c.args.size) (of_window c.args.job) c.args.limit c.args.skip (length c.args.rows.now / 10) c.args.budget c.args.mem.now c.args.rows.now,
@@ -16,9 +15,8 @@ loop-k-init c = (
   refl,
 )
 
--- src/lib.rt:226:13
-pub round-r-requires : goal.round-r-requires
-round-r-requires c = (
+pub round-rounded-requires : goal.round-rounded-requires
+round-rounded-requires c = (
   c.requires.0,
   c.requires.1,
   c.loop-k.invariant.1,
@@ -26,27 +24,24 @@ round-r-requires c = (
   between-fair (code_in c.args.code.now c.args.size) (of_window c.args.job) c.args.limit c.args.skip (length c.args.rows.now / 10) c.args.budget c.args.mem.now c.args.rows.now c.loop-k.mem c.loop-k.rows c.loop-k.forced c.loop-k.t c.loop-k.invariant.0 c.ranges.budget.fits (omega arith),
 )
 
--- src/lib.rt:225:5
 pub loop-k-smaller : goal.loop-k-smaller
 loop-k-smaller c =
-    let h = round-as (code_in c.args.code.now c.args.size) (of_window c.args.job) c.loop-k.stack.limit c.args.limit c.loop-k.mem c.round-r.new.mem c.loop-k.rows c.round-r.new.rows c.loop-k.forced c.loop-k.t c.round-r.result.then c.loop-k.invariant.2 c.round-r.ensures.0 in
+    let h = round-as (code_in c.args.code.now c.args.size) (of_window c.args.job) c.loop-k.stack.limit c.args.limit c.loop-k.mem c.round-rounded.new.mem c.loop-k.rows c.round-rounded.new.rows c.loop-k.forced c.loop-k.t c.round-rounded.result.then c.loop-k.invariant.2 c.round-rounded.ensures.0 in
     between-less (code_in c.args.code.now c.args.size) (of_window c.args.job) c.args.limit c.args.skip (length c.args.rows.now / 10) c.args.budget c.args.mem.now c.args.rows.now c.loop-k.mem c.loop-k.rows c.loop-k.forced
-    c.loop-k.t c.loop-k.invariant.0 c.round-r.new.mem c.round-r.new.rows c.round-r.result.then h c.in-On.k c.in-On.u c.in-On.is
+    c.loop-k.t c.loop-k.invariant.0 c.round-rounded.new.mem c.round-rounded.new.rows c.round-rounded.result.then h c.in-Ok.k c.in-Ok.u c.in-Ok.is
 
--- src/lib.rt:225:5
 pub loop-k-preserved : goal.loop-k-preserved
 loop-k-preserved c =
-    let h = round-as (code_in c.args.code.now c.args.size) (of_window c.args.job) c.loop-k.stack.limit c.args.limit c.loop-k.mem c.round-r.new.mem c.loop-k.rows c.round-r.new.rows c.loop-k.forced c.loop-k.t c.round-r.result.then c.loop-k.invariant.2 c.round-r.ensures.0 in
-    let g = resumes-as (code_in c.args.code.now c.args.size) (of_window c.args.job) c.round-r.new.mem c.loop-k.stack.limit c.args.limit c.round-r.result.then c.round-r.result.stack c.in-On.k c.in-On.u c.in-On.is c.loop-k.invariant.2 c.round-r.ensures.1 in (
+    let h = round-as (code_in c.args.code.now c.args.size) (of_window c.args.job) c.loop-k.stack.limit c.args.limit c.loop-k.mem c.round-rounded.new.mem c.loop-k.rows c.round-rounded.new.rows c.loop-k.forced c.loop-k.t c.round-rounded.result.then c.loop-k.invariant.2 c.round-rounded.ensures.0 in
+    let g = resumes-as (code_in c.args.code.now c.args.size) (of_window c.args.job) c.round-rounded.new.mem c.loop-k.stack.limit c.args.limit c.round-rounded.result.then c.round-rounded.result.stack c.in-Ok.k c.in-Ok.u c.in-Ok.is c.loop-k.invariant.2 c.round-rounded.ensures.1 in (
       between_next (code_in c.args.code.now c.args.size) (of_window c.args.job) c.args.limit c.args.skip (length c.args.rows.now / 10) c.args.budget c.args.mem.now c.args.rows.now c.loop-k.mem c.loop-k.rows c.loop-k.forced
-          c.loop-k.t c.loop-k.invariant.0 c.round-r.new.mem c.round-r.new.rows c.round-r.result.then h c.in-On.k c.in-On.u c.in-On.is c.round-r.auto.mem c.round-r.auto.rows,
+          c.loop-k.t c.loop-k.invariant.0 c.round-rounded.new.mem c.round-rounded.new.rows c.round-rounded.result.then h c.in-Ok.k c.in-Ok.u c.in-Ok.is c.round-rounded.auto.mem c.round-rounded.auto.rows,
       g.0,
       g.1,
     )
 
--- src/lib.rt:235:30
-pub returns-in-Over : goal.returns-in-Over
-returns-in-Over c =
-    let h = round-as (code_in c.args.code.now c.args.size) (of_window c.args.job) c.loop-k.stack.limit c.args.limit c.loop-k.mem c.round-r.new.mem c.loop-k.rows c.round-r.new.rows c.loop-k.forced c.loop-k.t c.round-r.result.then c.loop-k.invariant.2 c.round-r.ensures.0 in
+pub returns-in-Err : goal.returns-in-Err
+returns-in-Err c =
+    let h = round-as (code_in c.args.code.now c.args.size) (of_window c.args.job) c.loop-k.stack.limit c.args.limit c.loop-k.mem c.round-rounded.new.mem c.loop-k.rows c.round-rounded.new.rows c.loop-k.forced c.loop-k.t c.round-rounded.result.then c.loop-k.invariant.2 c.round-rounded.ensures.0 in
     between-over (code_in c.args.code.now c.args.size) (of_window c.args.job) c.args.limit c.args.skip (length c.args.rows.now / 10) c.args.budget c.args.mem.now c.args.rows.now c.loop-k.mem c.loop-k.rows c.loop-k.forced
-    c.loop-k.t c.loop-k.invariant.0 (omega arith) c.round-r.new.mem c.round-r.new.rows c.round-r.result.then h c.in-Over.a c.in-Over.is c.round-r.auto.rows
+    c.loop-k.t c.loop-k.invariant.0 (omega arith) c.round-rounded.new.mem c.round-rounded.new.rows c.round-rounded.result.then h c.in-Err.a c.in-Err.is c.round-rounded.auto.rows

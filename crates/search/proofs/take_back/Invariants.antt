@@ -5,6 +5,3 @@ use Rattle.search.proofs.take_back.Given as goal
 
 abbrev pub invariant-loop-i : goal.invariant-loop-i
 invariant-loop-i l = (l.i ≤ l.n) × (l.mem ≡ l.initial.mem) × FalseFrom l.initial.mem l.i l.n
-
-abbrev pub decreases-loop-i : goal.decreases-loop-i
-decreases-loop-i l = l.i

@@ -7,9 +7,6 @@ use Rattle.settings.proofs.filled.Goals as goal
 pub loop-i-init : goal.loop-i-init
 loop-i-init c = (omega arith, filled-first _ _ c.requires.0)
 
-pub has_number-requires : goal.has_number-requires
-has_number-requires c = (omega arith, c.requires.1)
-
 pub returns-then-not-has_number : goal.returns-then-not-has_number
 returns-then-not-has_number c =
     sym (c.loop-i.invariant.1 ∙ filled-one c.args.mem.now c.args.k c.loop-i.i false c.loop-i-test.true

@@ -8,6 +8,3 @@ use Rattle.settings.proofs.filled.Given as goal
 
 abbrev pub invariant-loop-i : goal.invariant-loop-i
 invariant-loop-i l = (l.i ≤ l.k) × (filled (windows_in l.mem l.k) ≡ filled (tab (window_at l.mem) l.i (l.k - l.i)))
-
-abbrev pub decreases-loop-i : goal.decreases-loop-i
-decreases-loop-i l = l.k - l.i

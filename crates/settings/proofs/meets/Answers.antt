@@ -1,17 +1,8 @@
-use mathlib.Core.Path.{◌∙◌, refl, sym}
+use mathlib.Core.Path.{◌∙◌, sym}
 use mathlib.Core.Bool.{true, false}
 use native.Mathlib.Omega.{arith}
 use Rattle.settings.proofs.Pass.{meets-none, meets-one}
 use Rattle.settings.proofs.meets.Goals as goal
-
-pub loop-j-init : goal.loop-j-init
-loop-j-init c = (omega arith, refl)
-
-pub holds_at-requires : goal.holds_at-requires
-holds_at-requires c = (
-  c.requires.0,
-  record { words = omega (arith, c.requires.1.words); small = omega (arith, c.requires.1.small) },
-)
 
 pub returns-then-not-holds_at : goal.returns-then-not-holds_at
 returns-then-not-holds_at c =

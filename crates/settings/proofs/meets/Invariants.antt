@@ -6,6 +6,3 @@ use Rattle.settings.proofs.meets.Given as goal
 
 abbrev pub invariant-loop-j : goal.invariant-loop-j
 invariant-loop-j l = (l.j ≤ l.tests) × (meets_in (numbers_in l.mem l.n) (tests_in l.mem l.tests) ≡ meets_in (numbers_in l.mem l.n) (tests_in l.mem l.j))
-
-abbrev pub decreases-loop-j : goal.decreases-loop-j
-decreases-loop-j l = l.j

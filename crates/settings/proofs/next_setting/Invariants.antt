@@ -5,6 +5,3 @@ use Rattle.settings.proofs.next_setting.Given as goal
 
 abbrev pub invariant-loop-i : goal.invariant-loop-i
 invariant-loop-i l = (l.i ≤ l.k) × (l.mem ≡ l.initial.mem) × ((j : ℕ) → l.i ≤ j → j < l.k → Top l.mem j)
-
-abbrev pub decreases-loop-i : goal.decreases-loop-i
-decreases-loop-i l = l.i

@@ -2,13 +2,8 @@ use mir.Syntax.{w32}
 use mathlib.Core.Path.{◌∙◌}
 use native.Mathlib.Omega.{arith}
 use mir.Facts.{to_z-of_z}
-use Rattle.machine.specs.Memory.{numbers_in}
-use Rattle.settings.proofs.Entries.{closed-number, number-there, number-none}
+use Rattle.settings.proofs.Entries.{number-there, number-none}
 use Rattle.settings.proofs.number.Goals as goal
-
-pub returns-then-kind-eq0 : goal.returns-then-kind-eq0
-returns-then-kind-eq0 c =
-    to_z-of_z {w = w32} (record { sfits = c.signed.type_inv }) ∙ c.signed.ensures ∙ closed-number (numbers_in c.args.mem.now c.args.n) c.args.kind c.args.x c.if-kind-eq0.true
 
 pub returns-then-i-n : goal.returns-then-i-n
 returns-then-i-n c =

@@ -5,11 +5,6 @@ use Rattle.settings.proofs.Entries.{wrote, raised-fits, raised}
 use borrow.Author.Rules.{rules}
 use Rattle.settings.proofs.raise.Goals as goal
 
-pub overflow_add-signed : goal.overflow_add-signed
-overflow_add-signed c =
-    raised-fits (get_or c.args.mem.now (value_place c.args.i) 0) (get_or c.args.mem.now (window_high c.args.i) 0) (record { sfits = c.signed.type_inv }) c.signed.ensures
-    (c.type_inv.mem (window_high c.args.i)) c.requires.2
-
 pub returns : goal.returns
 returns c =
     let v = get_or c.args.mem.now (value_place c.args.i) 0 in

@@ -9,17 +9,8 @@ pub loop-left-init : goal.loop-left-init
 loop-left-init c =
     sees-first c.args.mem.now c.args.plan.upto c.args.tests c.args.k c.args.most c.args.plan.first c.requires.3
 
-pub work-requires : goal.work-requires
-work-requires c = (c.requires.0.few, record { words = omega (arith, c.requires.0.nodes.words, c.loop-left.invariant.size); small = c.requires.0.nodes.small }, c.loop-left.invariant.worked)
-
-pub meets-requires : goal.meets-requires
-meets-requires c = (record { words = omega (arith, c.requires.0.nodes.words, c.loop-left.invariant.size); small = c.requires.0.nodes.small }, record { words = omega (arith, c.requires.0.tests.words, c.loop-left.invariant.size); small = c.requires.0.tests.small })
-
 pub returns-then-meets : goal.returns-then-meets
 returns-then-meets c = sees-here c.loop-left.invariant c.requires.0.few c.loop-left-test.true c.work.new.mem c.work.ensures.0 c.work.ensures.1 c.meets.result c.meets.ensures c.if-meets.true
-
-pub can_rise-requires : goal.can_rise-requires
-can_rise-requires c = (c.requires.0.few, omega (arith, c.requires.0.nodes.words, c.loop-left.invariant.size, c.work.auto.mem))
 
 pub returns-then-not-can_rise : goal.returns-then-not-can_rise
 returns-then-not-can_rise c = sees-top c.loop-left.invariant c.requires.0.few c.loop-left-test.true c.work.new.mem c.work.ensures.0 c.work.ensures.1 c.meets.result c.meets.ensures c.if-meets.false
@@ -37,9 +28,6 @@ rise-requires c =
 
 pub loop-left-preserved : goal.loop-left-preserved
 loop-left-preserved c = sees-rose c.loop-left.invariant c.requires.0.few c.loop-left-test.true c.work.new.mem c.work.ensures.0 c.work.ensures.1 c.meets.result c.meets.ensures c.if-meets.false c.rise.new.mem c.args.plan.first c.rise.ensures (omega (arith, c.work.auto.mem, c.rise.auto.mem))
-
-pub shape_of-mem : goal.shape_of-mem
-shape_of-mem c = c.loop-left.invariant.size
 
 pub returns : goal.returns
 returns c = sees-short c.loop-left.invariant (omega arith)

@@ -3,6 +3,3 @@ use Rattle.settings.proofs.sweep.Given as goal
 
 abbrev pub invariant-loop-left : goal.invariant-loop-left
 invariant-loop-left l = Sees l.initial.mem l.plan.upto l.tests l.k l.most l.mem l.plan.first l.left
-
-abbrev pub decreases-loop-left : goal.decreases-loop-left
-decreases-loop-left l = l.left

@@ -1,4 +1,3 @@
-use Prim.Native.Nat.{◌-◌}
 use mathlib.Core.Path.{◌≡◌}
 use lib.ListN.{length}
 use Rattle.settings.specs.Table.{Worked, Renumbered}
@@ -6,6 +5,3 @@ use Rattle.settings.proofs.work.Given as goal
 
 abbrev pub invariant-loop-j : goal.invariant-loop-j
 invariant-loop-j l = (length l.mem ≡ length l.initial.mem) × Worked l.mem l.j l.k × Renumbered l.initial.mem l.mem
-
-abbrev pub decreases-loop-j : goal.decreases-loop-j
-decreases-loop-j l = l.n - l.j

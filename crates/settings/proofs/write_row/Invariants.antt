@@ -1,4 +1,4 @@
-use Prim.Native.Nat.{◌≤◌, ◌-◌}
+use Prim.Native.Nat.{◌≤◌}
 use mathlib.Core.Path.{◌≡◌}
 use lib.ListN.{length}
 use Rattle.machine.specs.Memory.{setting_in}
@@ -8,6 +8,3 @@ use Rattle.settings.proofs.write_row.Given as goal
 
 abbrev pub invariant-loop-j : goal.invariant-loop-j
 invariant-loop-j l = (l.j ≤ 10) × (length l.rows ≡ length l.initial.rows) × Wording l.initial.rows l.rows l.n l.j (row_with l.res (setting_in l.mem l.k))
-
-abbrev pub decreases-loop-j : goal.decreases-loop-j
-decreases-loop-j l = 10 - l.j

@@ -23,12 +23,12 @@ size_of-requires c = (c.point_at-p.ensures.1, c.requires.1)
 
 -- src/lib.rt:126:5
 pub loop-w-smaller : goal.loop-w-smaller
-loop-w-smaller c = omega (arith, c.monus-w.ensures, c.size_of.ensures, c.loop-w-test.true)
+loop-w-smaller c = omega (arith, c.saturating_sub-w.ensures, c.size_of.ensures, c.loop-w-test.true)
 
 -- src/lib.rt:126:5
 pub loop-w-preserved : goal.loop-w-preserved
 loop-w-preserved c =
-    subst (Left c.args.mem.now c.args.s) (sym (c.monus-w.ensures ∙ ap (λ (n : ℕ). c.loop-w.w - n) c.size_of.ensures))
+    subst (Left c.args.mem.now c.args.s) (sym (c.saturating_sub-w.ensures ∙ ap (λ (n : ℕ). c.loop-w.w - n) c.size_of.ensures))
     (left_less c.args.mem.now c.args.s c.loop-w.w c.point_at-p.result c.loop-w-test.true c.point_at-p.ensures.0 c.loop-w.invariant)
 
 -- src/lib.rt:121:1

@@ -32,9 +32,3 @@ overflow_add-result c = let d = c.is_due.ensures.0 c.if-is_due.true in omega (ar
 
 pub returns-then-calls_main : goal.returns-then-calls_main
 returns-then-calls_main c = kept (c.is_due.ensures.0 c.if-is_due.true) c.save.ensures.0 c.save.ensures.1 (ap (λ (n : ℕ). record { height = c.args.s.height + n; limit = c.args.s.limit; cells = c.args.s.cells }) c.size_of.ensures)
-
-pub returns-else-calls_main : goal.returns-else-calls_main
-returns-else-calls_main c = passed (λ a b. c.calls_main.ensures.1 c.if-calls_main.false a) refl refl
-
-pub returns-else-is_due : goal.returns-else-is_due
-returns-else-is_due c = passed (λ a b. c.is_due.ensures.1 c.if-is_due.false b) refl refl

@@ -1,12 +1,9 @@
-use Prim.Native.Nat.{◌-◌, ◌≤◌}
 use mathlib.Core.Path.{◌≡◌}
 use lib.ListN.{take}
+use Rattle.intervals.specs.Meaning.{pairs_of}
 use Rattle.window_memory.specs.Memory.{put_pairs}
 use Rattle.window_memory.proofs.put.Given as goal
 
--- the first i pairs are put
+-- the first i windows are put
 abbrev pub invariant-loop-i : goal.invariant-loop-i
-invariant-loop-i l = (l.i ≤ 8) × (l.mem ≡ put_pairs l.initial.mem l.at (take l.i l.ws))
-
-abbrev pub decreases-loop-i : goal.decreases-loop-i
-decreases-loop-i l = 8 - l.i
+invariant-loop-i l = l.mem ≡ put_pairs l.initial.mem l.at (take l.i (pairs_of l.fn.ws))

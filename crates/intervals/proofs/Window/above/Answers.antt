@@ -1,31 +1,24 @@
-use mathlib.Core.Path.{◌≡◌}
-use mathlib.Core.Bool.{true, false}
-use lib.Signed.{le_z}
 use mir.Syntax.{w32}
 use mir.Val.{SFits}
 use mir.Facts.{to_z-of_z}
 use borrow.Author.Rules.{rules}
+use Rattle.semantics.specs.Search.{clip}
 use Rattle.intervals.specs.Meaning.{of_window}
 use Rattle.intervals.proofs.Undecided.{under-high}
-use Rattle.intervals.proofs.Narrow.{suc-fits, gt-kept, gt-cut}
+use Rattle.intervals.proofs.Narrow.{more-one, max-is, suc-fits}
 use Rattle.intervals.proofs.Window.above.Goals as goal
 
-pub overflow_add-result : goal.overflow_add-result
-overflow_add-result c =
+pub overflow_add-k : goal.overflow_add-k
+overflow_add-k c =
     let h : SFits w32 c.args.self.high = search rules in
     rw (to_z-of_z c.ranges.k) (suc-fits c.args.k c.args.self.high c.ranges.k h (under-high (of_window c.args.self) c.args.k c.requires))
 
-pub returns-then-self-k : goal.returns-then-self-k
-returns-then-self-k c =
+pub returns : goal.returns
+unfolding clip
+returns c =
     let l : SFits w32 c.args.self.low = search rules in
     let h : SFits w32 c.args.self.high = search rules in
+    let m : SFits w32 c.max.result = record { sfits = c.max.type_inv } in
     let p = suc-fits c.args.k c.args.self.high c.ranges.k h (under-high (of_window c.args.self) c.args.k c.requires) in
-    let e : le_z c.args.self.low c.args.k ≡ true = simp (to_z-of_z l, to_z-of_z c.ranges.k) at c.if-self-k.true in
-    simp (to_z-of_z h, to_z-of_z c.ranges.k, to_z-of_z p, gt-cut (of_window c.args.self) c.args.k e)
-
-pub returns-else-self-k : goal.returns-else-self-k
-returns-else-self-k c =
-    let l : SFits w32 c.args.self.low = search rules in
-    let h : SFits w32 c.args.self.high = search rules in
-    let e : le_z c.args.self.low c.args.k ≡ false = simp (to_z-of_z l, to_z-of_z c.ranges.k) at c.if-self-k.false in
-    simp (to_z-of_z l, to_z-of_z h, gt-kept (of_window c.args.self) c.args.k e)
+    let e = simp (to_z-of_z l, to_z-of_z c.ranges.k, to_z-of_z p, max-is) at c.max.ensures.value in
+    rw (to_z-of_z h, to_z-of_z m, e, more-one c.args.k)

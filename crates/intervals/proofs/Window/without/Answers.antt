@@ -43,10 +43,10 @@ returns-then-self-k-2 c =
     let p = pred_fits c.args.self.low c.args.k l c.ranges.k (subst (λ (z : ℤ). c.args.self.low ≺ z) e (around (of_window c.args.self) c.args.k ne c.requires).wide) in
     simp (to_z-of_z l, to_z-of_z c.ranges.k, to_z-of_z p, ne-high (of_window c.args.self) c.args.k d e)
 
-pub returns : goal.returns
-returns c =
+pub returns-else-self-k-2 : goal.returns-else-self-k-2
+returns-else-self-k-2 c =
     let l : SFits w32 c.args.self.low = search rules in
     let h : SFits w32 c.args.self.high = search rules in
     let d = other-bits c.args.self.low c.args.k l c.ranges.k c.if-self-k.false in
     let e = other-bits c.args.self.high c.args.k h c.ranges.k c.if-self-k-2.false in
-    simp (to_z-of_z l, to_z-of_z h, ne-kept (of_window c.args.self) c.args.k d e)
+    simp (ne-kept (of_window c.args.self) c.args.k d e)

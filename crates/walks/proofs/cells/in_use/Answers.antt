@@ -36,12 +36,9 @@ pub overflow_cast-w : goal.overflow_cast-w
 overflow_cast-w c = omega (arith, c.type_inv.code (2 * c.loop-e.e + 1))
 
 -- src/cells.rt:45:9
-pub larger-n-requires : goal.larger-n-requires
-larger-n-requires c = (c.loop-e.invariant.1, c.filled.ensures.0)
-
 -- src/cells.rt:42:5
 pub loop-e-preserved : goal.loop-e-preserved
-loop-e-preserved c = (one_more c.args.code.now c.loop-e.e c.loop-e.n c.filled.result c.larger-n.result c.loop-e.invariant.0 c.filled.ensures.1 c.larger-n.ensures.0 c.larger-n.ensures.1, c.larger-n.ensures.2, omega (arith, c.loop-e-test.true))
+loop-e-preserved c = (one_more c.args.code.now c.loop-e.e c.loop-e.n c.filled.result c.max-n.result c.loop-e.invariant.0 c.filled.ensures.1 (omega (arith, c.max-n.ensures)) (omega (arith, c.max-n.ensures)), omega (arith, c.max-n.ensures, c.loop-e.invariant.1, c.filled.ensures.0), omega (arith, c.loop-e-test.true))
 
 -- src/cells.rt:36:1
 pub returns : goal.returns

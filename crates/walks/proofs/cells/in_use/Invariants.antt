@@ -7,6 +7,3 @@ use Rattle.walks.proofs.cells.in_use.Given as goal
 
 abbrev pub invariant-loop-e : goal.invariant-loop-e
 invariant-loop-e l = ((i : ℕ) → i < l.e → Fills l.n (entry_of (get_or l.code (2 * i) 0) (get_or l.code (2 * i + 1) 0))) × (l.n ≤ frame_cells) × (l.e ≤ l.size)
-
-abbrev pub decreases-loop-e : goal.decreases-loop-e
-decreases-loop-e l = l.size - l.e
