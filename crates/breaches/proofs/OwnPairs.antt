@@ -3,7 +3,7 @@ use Prim.Native.Nat.{ℕ, zero, suc, ◌+◌, ◌^◌, ◌≤◌, ◌<◌}
 use mathlib.Core.Path.{◌≡◌, refl, sym, ap, ap₂, ◌∙◌, subst}
 use mathlib.Core.Bool.{Bool, true, false, cond}
 use mathlib.Core.List.{List, [], ◌∷◌, ◌++◌, append_assoc, append-nil}
-use mathlib.Core.Option.{Option, none}
+use Rattle.std.specs.Prelude.{Option, None}
 use native.Mathlib.Omega.{arith}
 use lib.ListN.{length, get_or, drop, drop_of_length-le}
 use lib.Seq.{drop-cons, get_or-drop}
@@ -65,7 +65,7 @@ module _ (ks : List ℕ) where
         ∙ ap (λ (l : List Own). breaching (word vs) (pair_rule wide) l ++ breaching (word vs) (pair_rule wide) (owns_from (suc i) (drop (suc i) ks))) (here-is i)
         ∙ ap (λ (n : ℕ). breaching (word vs) (pair_rule wide) (own_here ks i) ++ breaching (word vs) (pair_rule wide) (owns_from n (drop n ks))) t
 
-    pub pair-start : least_with (breaches_from ks vs wide 0) none ≡ least (breaches_from ks vs wide 0)
+    pub pair-start : least_with (breaches_from ks vs wide 0) None ≡ least (breaches_from ks vs wide 0)
     pair-start = with_none (breaches_from ks vs wide 0)
 
     pub pair_turn : (i : ℕ) (p : Option ℕ) {q : Option ℕ} → i < length ks → q ≡ least_with (breaching (word vs) (pair_rule wide) (own_here ks i)) p

@@ -5,10 +5,17 @@ use Rattle.syntax.specs.Ast.{bit}
 use Rattle.semantics.specs.Program.{Window}
 use Rattle.text_rules.specs.Own.{Own, own, breaching, is_reversed, is_wide}
 use Rattle.text_rules.specs.Answers.{minus_at, owns_from}
+use Rattle.breaches.specs.declared.pairs.PairRule.{PairRule}
+use Rattle.breaches.specs.declared.pairs.PairRule.TheVariants.{Reversed, Wide}
 
 -- the value of token i
 abbrev pub word : List ℕ → ℕ → ℕ
 word values i = get_or values i 0
+
+-- a rule of the code is rule 19
+abbrev pub wide_rule : PairRule → Bool
+wide_rule Reversed = false
+wide_rule Wide = true
 
 -- the pairs that break rule 19, or rule 18
 abbrev pub pair_rule : Bool → Window → Bool

@@ -1,14 +1,13 @@
 // Rule 10: how many functions, parameters and declarations.
-ghost use Rattle.std.specs.Prelude.{◌≡◌, ◌+◌, ◌*◌, ◌≤◌, length};
-ghost use Rattle.events.specs.Stored.{event_words, stored};
+ghost use Rattle.std.specs.Prelude.{◌≡◌};
 ghost use Rattle.text_rules.specs.Scan.{least};
 ghost use Rattle.text_rules.specs.Rules.{counted, over, too_many};
 ghost use Rattle.events.specs.Read.{as_event};
-ghost use Rattle.text_rules.specs.Answers.{place, least_with};
+ghost use Rattle.text_rules.specs.Answers.{least_with};
 ghost use Rattle.breaches.specs.Answers.{tallied, Room};
 
-use events::event::{Event, event_at};
-use text_rules::broken::{Broken, lesser};
+use events::event::{Event, Events};
+use text_rules::broken::lesser;
 
 // How many there may be.
 const FUNCTIONS: usize = 16;
@@ -37,14 +36,13 @@ fn count(tally: Tally, event: Event) -> Tally
             declarations: 0,
         },
         Event::Parameter(_) => Tally {
-            functions: tally.functions,
             parameters: tally.parameters + 1,
             declarations: tally.declarations + 1,
+            ..tally
         },
         Event::Declares(_) => Tally {
-            functions: tally.functions,
-            parameters: tally.parameters,
             declarations: tally.declarations + 1,
+            ..tally
         },
         _ => tally,
     }
@@ -52,52 +50,33 @@ fn count(tally: Tally, event: Event) -> Tally
 
 // What breaks the rule at one event, after those of the tally, with what was found before.
 #[tactic(auto, unfolding(text_rules::specs::Rules::over, text_rules::specs::Answers::least_with))]
-fn exceeds(tally: Tally, event: Event, best: Broken) -> Broken
-    ensures { place result ≡ least_with (over (tallied tally) (as_event event)) (place best) }
+fn exceeds(tally: Tally, event: Event, best: Option<usize>) -> Option<usize>
+    ensures { result ≡ least_with (over (tallied tally) (as_event event)) best }
 {
     match event {
-        Event::Function(token) => {
-            if FUNCTIONS <= tally.functions {
-                return lesser(token, best);
-            }
-            best
+        Event::Function(token) if tally.functions >= FUNCTIONS => lesser(token, best),
+        Event::Parameter(token)
+            if tally.parameters >= PARAMETERS || tally.declarations >= DECLARATIONS => {
+            lesser(token, best)
         }
-        Event::Parameter(token) => {
-            if PARAMETERS <= tally.parameters {
-                return lesser(token, best);
-            }
-            if DECLARATIONS <= tally.declarations {
-                return lesser(token, best);
-            }
-            best
-        }
-        Event::Declares(token) => {
-            if DECLARATIONS <= tally.declarations {
-                return lesser(token, best);
-            }
-            best
-        }
+        Event::Declares(token) if tally.declarations >= DECLARATIONS => lesser(token, best),
         _ => best,
     }
 }
 
-// The least of the names in n events that are one too many.
-pub fn too_many(events: &[u32], n: usize) -> Broken
-    requires { event_words * n ≤ length events.now }
-    ensures { place result ≡ least (too_many (stored events.now n)) }
+// The least of the names in some events that are one too many.
+pub fn too_many(events: &Events) -> Option<usize>
+    ensures { result ≡ least (too_many events.now) }
 {
     let mut tally = Tally {
         functions: 0,
         parameters: 0,
         declarations: 0,
     };
-    let mut best = Broken::Nowhere;
-    let mut i = 0;
-    while i < n {
-        let event = event_at(events, i);
+    let mut best = None;
+    for &event in events.as_slice() {
         best = exceeds(tally, event, best);
         tally = count(tally, event);
-        i += 1;
     }
     best
 }

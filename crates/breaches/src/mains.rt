@@ -1,65 +1,44 @@
 // Rule 8: the function main.
-ghost use Rattle.std.specs.Prelude.{◌≡◌, [], ◌∷◌, ◌*◌, ◌≤◌, length};
+ghost use Rattle.std.specs.Prelude.{◌≡◌, [], ◌∷◌};
 ghost use Rattle.text_rules.specs.Scan.{least};
-ghost use Rattle.text_rules.specs.Spelling.{is_main};
+ghost use Rattle.text_rules.specs.Spelling.{main_in};
 ghost use Rattle.text_rules.specs.Rules.{mains, with_parameters, bad_main};
-ghost use Rattle.text_rules.specs.Answers.{head_words, place, least_with, stored_heads, head};
+ghost use Rattle.text_rules.specs.Answers.{least_with, as_head};
 
-use text_rules::broken::{Broken, lesser};
-use text_rules::heads::{HEAD_ARITY, HEAD_WORDS};
+use syntax::source::Source;
+use text_rules::broken::lesser;
+use text_rules::heads::{Head, Heads};
 use text_rules::mains::main_number;
-use text_rules::spelling::{is_main, word};
+use text_rules::spelling::is_main;
 
 // What breaks the rule at one function, with what was found before.
 #[tactic(auto, unfolding(text_rules::specs::Rules::mains, text_rules::specs::Rules::with_parameters, text_rules::specs::Answers::least_with))]
-fn main_with(
-    text: &[u8],
-    places: &[u32],
-    values: &[u32],
-    name: usize,
-    arity: usize,
-    best: Broken,
-) -> Broken
-    ensures { place result ≡ least_with (with_parameters (mains (is_main text.now places.now values.now) (head name arity ∷ []))) (place best) }
+fn main_with(source: &Source, head: Head, best: Option<usize>) -> Option<usize>
+    ensures { result ≡ least_with (with_parameters (mains (main_in source.now) (as_head head ∷ []))) best }
 {
-    if is_main(text, places, values, name) {
-        if 0 < arity {
-            return lesser(name, best);
-        }
+    if is_main(source, head.name) && head.arity > 0 {
+        return lesser(head.name, best);
     }
     best
 }
 
-// The least of the names of those of h functions that are main and have parameters.
-fn mains_with(text: &[u8], places: &[u32], values: &[u32], heads: &[u32], h: usize) -> Broken
-    requires { head_words * h ≤ length heads.now }
-    ensures { place result ≡ least (with_parameters (mains (is_main text.now places.now values.now) (stored_heads heads.now h))) }
+// The least of the names of those functions that are main and have parameters.
+fn mains_with(source: &Source, heads: &Heads) -> Option<usize>
+    ensures { result ≡ least (with_parameters (mains (main_in source.now) heads.now)) }
 {
-    let mut best = Broken::Nowhere;
-    let mut k = 0;
-    while k < h {
-        let name = word(heads, HEAD_WORDS * k);
-        let arity = word(heads, HEAD_WORDS * k + HEAD_ARITY);
-        best = main_with(text, places, values, name, arity, best);
-        k += 1;
+    let mut best = None;
+    for &head in heads.as_slice() {
+        best = main_with(source, head, best);
     }
     best
 }
 
-// What is wrong with main: there is none among the h functions (at the end's token), or it has parameters.
-pub fn main_rule(
-    text: &[u8],
-    places: &[u32],
-    values: &[u32],
-    heads: &[u32],
-    h: usize,
-    end: usize,
-) -> Broken
-    requires { head_words * h ≤ length heads.now }
-    ensures { place result ≡ least (bad_main end (mains (is_main text.now places.now values.now) (stored_heads heads.now h))) }
+// What is wrong with main: there is none among the functions (at the end's token), or it has parameters.
+pub fn main_rule(source: &Source, heads: &Heads, end: usize) -> Option<usize>
+    ensures { result ≡ least (bad_main end (mains (main_in source.now) heads.now)) }
 {
-    if main_number(text, places, values, heads, h) < h {
-        return mains_with(text, places, values, heads, h);
+    if main_number(source, heads) < heads.as_slice().len() {
+        return mains_with(source, heads);
     }
-    Broken::At(end)
+    Some(end)
 }

@@ -1,42 +1,30 @@
 // Rules 18 and 19: the own pairs of free declarations. The tokens show them: behind a `free` stands a semicolon, or the low end of a pair.
-ghost use Rattle.std.specs.Prelude.{◌≡◌, ◌+◌, ◌^◌, ◌≤◌, ◌<◌, length, get_or};
+ghost use Rattle.std.specs.Prelude.{◌≡◌, ◌+◌, ◌^◌, ◌≤◌, ◌<◌, length};
 ghost use Rattle.std.specs.Int.Signed.{mag};
 ghost use Rattle.syntax.specs.Ast.{bit};
 ghost use Rattle.semantics.specs.Search.{to};
 ghost use Rattle.text_rules.specs.Scan.{least};
 ghost use Rattle.text_rules.specs.Own as O;
 ghost use Rattle.text_rules.specs.Own.{breaching};
-ghost use Rattle.text_rules.specs.Answers.{place, least_with, minus_at};
-ghost use Rattle.breaches.specs.Pairs.{word, pair_rule, own_here, breaches_from};
+ghost use Rattle.text_rules.specs.Answers.{least_with, minus_at};
+ghost use Rattle.breaches.specs.Pairs.{word, wide_rule, pair_rule, own_here, breaches_from};
 
-use syntax::token;
-use text_rules::broken::{Broken, lesser};
+use syntax::source::Source;
+use syntax::token::TokenKind;
+use text_rules::broken::lesser;
 
-// The kind of token i, END past the last.
-fn kind_at(kinds: &[u8], i: usize) -> u8
-    ensures { result ≡ get_or kinds.now i 0 }
-{
-    if i < kinds.len() {
-        return kinds[i];
-    }
-    token::END
+// What a pair must not be: its low end above its high end, which is rule 18, or of over 4,096 values, which is rule 19.
+#[derive(Clone, Copy, PartialEq, Eq, Debug)]
+pub enum PairRule {
+    Reversed,
+    Wide,
 }
 
 // Whether token i is a minus.
-fn is_minus(kinds: &[u8], i: usize) -> bool
-    ensures { result ≡ minus_at kinds.now i }
+fn is_minus(source: &Source, i: usize) -> bool
+    ensures { result ≡ minus_at source.now.kinds i }
 {
-    kind_at(kinds, i) == token::MINUS
-}
-
-// The value of token i, 0 past the last.
-fn value_at(values: &[u32], i: usize) -> u32
-    ensures { result ≡ get_or values.now i 0 }
-{
-    if i < values.len() {
-        return values[i];
-    }
-    0
+    matches!(source.kind(i), TokenKind::Minus)
 }
 
 // The token of an end's number, if its first token is i: behind the minus, if there is one.
@@ -44,10 +32,7 @@ fn number_token(i: usize, minus: bool) -> usize
     requires { i < 2 ^ 32 }
     ensures { result ≡ i + bit minus }
 {
-    if minus {
-        return i + 1;
-    }
-    i
+    i + usize::from(minus)
 }
 
 // A number with a minus or without, exact in 64 bits.
@@ -55,56 +40,54 @@ fn signed(minus: bool, value: u32) -> i64
     ensures { (result ≡ O.signed minus value) × (mag result < 2 ^ 61) }
 {
     if minus {
-        return 0 - (value as i64);
+        return -i64::from(value);
     }
-    value as i64
+    i64::from(value)
 }
 
-// Whether a pair breaks rule 19, if `wide`, or rule 18. It has over 4,096 values if high is as far above low.
-fn breaks(low: i64, high: i64, wide: bool) -> bool
+// Whether a pair breaks a rule. It has over 4,096 values if high is as far above low.
+fn breaks(low: i64, high: i64, rule: PairRule) -> bool
     requires { (mag low < 2 ^ 61) × (mag high < 2 ^ 61) }
-    ensures { result ≡ pair_rule wide (to low high) }
+    ensures { result ≡ pair_rule (wide_rule rule) (to low high) }
 {
-    if wide {
-        return 4096 <= high - low;
+    match rule {
+        PairRule::Reversed => high < low,
+        PairRule::Wide => 4096 <= high - low,
     }
-    high < low
 }
 
-// What breaks the rule at token i, with what was found before.
-fn breach_at(kinds: &[u8], values: &[u32], i: usize, wide: bool, best: Broken) -> Broken
+// What breaks a rule at token i, with what was found before.
+fn breach_at(source: &Source, i: usize, rule: PairRule, best: Option<usize>) -> Option<usize>
     requires { i < 65536 }
-    ensures { place result ≡ least_with (breaching (word values.now) (pair_rule wide) (own_here kinds.now i)) (place best) }
+    ensures { result ≡ least_with (breaching (word source.now.values) (pair_rule (wide_rule rule)) (own_here source.now.kinds i)) best }
 {
-    if kind_at(kinds, i) != token::FREE {
+    let TokenKind::Free = source.kind(i) else {
         return best;
-    }
+    };
     let first = i + 1;
-    if kind_at(kinds, first) == token::SEMI {
+    if let TokenKind::Semi = source.kind(first) {
         return best;
     }
-    let minus = is_minus(kinds, first);
+    let minus = is_minus(source, first);
     let number = number_token(first, minus);
-    let low = signed(minus, value_at(values, number));
+    let low = signed(minus, source.value(number));
     let after = number + 2;
-    let second = is_minus(kinds, after);
-    let high = signed(second, value_at(values, number_token(after, second)));
-    if breaks(low, high, wide) {
+    let second = is_minus(source, after);
+    let high = signed(second, source.value(number_token(after, second)));
+    if breaks(low, high, rule) {
         return lesser(first, best);
     }
     best
 }
 
-// The least of the low ends' first tokens of the own pairs that have over 4,096 values, if `wide`, or whose low end is above the high end.
-pub fn bad_pair(kinds: &[u8], values: &[u32], wide: bool) -> Broken
-    requires { length kinds.now ≤ 65536 }
-    ensures { place result ≡ least (breaches_from kinds.now values.now wide 0) }
+// The least of the low ends' first tokens of the own pairs that break a rule.
+pub fn bad_pair(source: &Source, rule: PairRule) -> Option<usize>
+    requires { length source.now.kinds ≤ 65536 }
+    ensures { result ≡ least (breaches_from source.now.kinds source.now.values (wide_rule rule) 0) }
 {
-    let mut best = Broken::Nowhere;
-    let mut i = 0;
-    while i < kinds.len() {
-        best = breach_at(kinds, values, i, wide, best);
-        i += 1;
+    let mut best = None;
+    for i in 0..source.len() {
+        best = breach_at(source, i, rule, best);
     }
     best
 }

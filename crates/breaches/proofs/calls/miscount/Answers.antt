@@ -1,5 +1,5 @@
 use Prim.Native.Nat.{ℕ}
-use mathlib.Core.Path.{◌≡◌, refl, sym, ap, ◌∙◌}
+use mathlib.Core.Path.{◌≡◌, refl}
 use mathlib.Core.Bool.{Bool}
 use mathlib.Core.List.{List, []}
 use borrow.Author.Tests.{eq-eqb, ne_eqb}
@@ -7,7 +7,7 @@ use Rattle.events.specs.declared.event.Event.{Event}
 use Rattle.events.specs.declared.event.Event.TheVariants.{Function, Parameter, Thing, Opens, Closes, Declares, Uses, Calls, Ends}
 use Rattle.text_rules.specs.Rules.{Head, wrong, miscounted}
 use Rattle.events.specs.Read.{as_event}
-use Rattle.text_rules.specs.Answers.{least_with, found}
+use Rattle.text_rules.specs.Answers.{least_with}
 use Rattle.breaches.proofs.calls.miscount.Goals as goal
 
 -- Only a call can break rule 7.
@@ -23,17 +23,17 @@ other same hs (Uses i) h = refl
 other same hs (Calls i n) h = absurd (h i n refl)
 other same hs (Ends i b) h = refl
 
-pub returns-in-Nothing : goal.returns-in-Nothing
+pub returns-in-Some : goal.returns-in-Some
 unfolding miscounted wrong least_with
-returns-in-Nothing c = rw (c.in-Calls.is, ← (sym (ap found c.in-Nothing.is) ∙ c.arity_of-arity.ensures))
+returns-in-Some c = rw (c.in-Calls.is, ← c.in-Some.ensures, ne_eqb _ _ c.if-arity-count.true) c.lesser.ensures
 
-pub returns-then-m-count : goal.returns-then-m-count
+pub returns-in_default-arity_of : goal.returns-in_default-arity_of
 unfolding miscounted wrong least_with
-returns-then-m-count c = rw (c.in-Calls.is, ← (sym (ap found c.in-Number.is) ∙ c.arity_of-arity.ensures), eq-eqb _ _ c.if-m-count.true)
+returns-in_default-arity_of c = rw (c.in-Calls.is, ← c.in-Some.ensures, eq-eqb _ _ c.if-arity-count.false)
 
-pub returns-else-m-count : goal.returns-else-m-count
+pub returns-in_default-arity_of-2 : goal.returns-in_default-arity_of-2
 unfolding miscounted wrong least_with
-returns-else-m-count c = rw (c.in-Calls.is, ← (sym (ap found c.in-Number.is) ∙ c.arity_of-arity.ensures), ne_eqb _ _ c.if-m-count.false) c.lesser.ensures
+returns-in_default-arity_of-2 c = rw (c.in-Calls.is, ← c.in_default-arity_of.ensures)
 
 pub returns-in_default : goal.returns-in_default
 unfolding least_with

@@ -1,9 +1,10 @@
 use Prim.Native.Nat.{ℕ, ◌+◌}
-use mathlib.Core.Path.{sym, ◌∙◌}
-use borrow.Author.Rules.{rules}
+use mathlib.Core.Path.{refl, sym, ap, ◌∙◌}
 use native.Mathlib.Omega.{arith}
+use lib.ListN.{length, length-map}
 use Rattle.events.specs.Event.{Event, function, parameter, thing, opens, closes, declares, uses, calls, ends}
-use Rattle.text_rules.specs.Rules.{Tally, counted, over}
+use Rattle.text_rules.specs.Scan.{least}
+use Rattle.text_rules.specs.Rules.{Tally, counted, over, too_many}
 use Rattle.text_rules.proofs.Scans.{ahead-start, ahead-turn, ahead-end}
 use Rattle.breaches.proofs.counts.too_many.Invariants.{Within}
 use Rattle.breaches.proofs.counts.too_many.Goals as goal
@@ -20,15 +21,17 @@ within_more i t (uses x) w = omega arith
 within_more i t (calls x n) w = omega arith
 within_more i t (ends x b) w = omega arith
 
-pub loop-i-init : goal.loop-i-init
-loop-i-init c = (search rules, omega arith, ahead-start counted over _ _ _)
+pub loop-event-init : goal.loop-event-init
+loop-event-init c = (omega arith, ahead-start counted over _ _)
 
 pub count-tally-requires : goal.count-tally-requires
 count-tally-requires c =
-    omega (arith, c.loop-i.invariant.1)
+    let e = simp length-map at (ap length c.as_slice-event-items.ensures.events) in
+    omega (arith, e, c.loop-event.invariant.0, c.loop-event-test.true, c.as_slice-event-items.ensures.few)
 
-pub loop-i-preserved : goal.loop-i-preserved
-loop-i-preserved c = (search rules, rw c.count-tally.ensures (within_more _ _ _ c.loop-i.invariant.1), ahead-turn counted over _ _ _ _ _ c.loop-i-test.true c.event_at-event.ensures c.count-tally.ensures c.exceeds-best.ensures ∙ c.loop-i.invariant.2)
+pub loop-event-preserved : goal.loop-event-preserved
+loop-event-preserved c =
+    (rw c.count-tally.ensures (within_more _ _ _ c.loop-event.invariant.0), ahead-turn counted over _ _ _ _ _ c.loop-event-test.true refl c.count-tally.ensures c.exceeds-best.ensures ∙ c.loop-event.invariant.1)
 
 pub returns : goal.returns
-returns c = sym (ahead-end counted over _ _ _ _ _ c.loop-i-test.false) ∙ c.loop-i.invariant.2
+returns c = sym (ahead-end counted over _ _ _ _ c.loop-event-test.false) ∙ c.loop-event.invariant.1 ∙ ap (λ es. least (too_many es)) c.as_slice-event-items.ensures.events

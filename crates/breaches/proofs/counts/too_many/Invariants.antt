@@ -1,9 +1,9 @@
-use Prim.Native.Nat.{ℕ, ◌≤◌, ◌-◌}
+use Prim.Native.Nat.{ℕ, ◌≤◌}
 use mathlib.Core.Path.{◌≡◌}
-use Rattle.events.specs.Stored.{stored}
+use mathlib.Core.List.{map}
+use Rattle.events.specs.Read.{as_event}
 use Rattle.text_rules.specs.Scan.{least}
 use Rattle.text_rules.specs.Rules.{Tally, counted, over, too_many}
-use Rattle.text_rules.specs.Answers.{place}
 use Rattle.breaches.specs.Answers.{tallied}
 use Rattle.text_rules.proofs.Scans.{ahead}
 use Rattle.breaches.proofs.counts.too_many.Given as goal
@@ -15,8 +15,5 @@ pub record Within (i : ℕ) (t : Tally) : Type 0 where
   pub parameters : t.parameters ≤ i
   pub declarations : t.declarations ≤ i
 
-abbrev pub invariant-loop-i : goal.invariant-loop-i
-invariant-loop-i l = (l.i ≤ l.n) × Within l.i (tallied l.tally) × (ahead counted over l.events l.n l.i (tallied l.tally) (place l.best) ≡ least (too_many (stored l.events l.n)))
-
-abbrev pub decreases-loop-i : goal.decreases-loop-i
-decreases-loop-i l = l.n - l.i
+abbrev pub invariant-loop-event : goal.invariant-loop-event
+invariant-loop-event l = Within l.event-index (tallied l.tally) × (ahead counted over l.event-items l.event-index (tallied l.tally) l.best ≡ least (too_many (map as_event l.event-items)))

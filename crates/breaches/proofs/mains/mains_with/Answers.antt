@@ -1,13 +1,18 @@
-use mathlib.Core.Path.{sym, ◌∙◌}
-use borrow.Author.Rules.{rules}
+use mathlib.Core.Path.{refl, sym, ap, ◌∙◌}
+use Rattle.text_rules.specs.Scan.{least}
+use Rattle.text_rules.specs.Rules.{mains, with_parameters}
+use Rattle.text_rules.specs.Spelling.{main_in}
 use Rattle.text_rules.proofs.Functions.{main-start, main-turn, main-end}
 use Rattle.breaches.proofs.mains.mains_with.Goals as goal
 
-pub loop-k-init : goal.loop-k-init
-loop-k-init c = (search rules, main-start _ _ _)
+pub loop-head-init : goal.loop-head-init
+loop-head-init c = main-start _ _
 
-pub loop-k-preserved : goal.loop-k-preserved
-loop-k-preserved c = (search rules, main-turn _ _ _ _ _ c.loop-k-test.true (rw (← c.word-name.ensures, ← c.word-arity.ensures) c.main_with-best.ensures) ∙ c.loop-k.invariant.1)
+pub loop-head-preserved : goal.loop-head-preserved
+loop-head-preserved c = main-turn _ _ _ _ _ c.loop-head-test.true refl c.main_with-best.ensures ∙ c.loop-head.invariant
 
 pub returns : goal.returns
-returns c = sym (main-end _ _ _ _ _ c.loop-k-test.false) ∙ c.loop-k.invariant.1
+returns c =
+    sym (main-end _ _ _ _ c.loop-head-test.false)
+    ∙ c.loop-head.invariant
+    ∙ ap (λ hs. least (with_parameters (mains (main_in c.args.source.now) hs))) c.as_slice-head-items.ensures.heads

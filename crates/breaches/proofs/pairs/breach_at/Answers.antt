@@ -1,13 +1,19 @@
+use mathlib.Core.Path.{ap}
 use native.Mathlib.Omega.{arith}
 use mir.Facts.{to_z-of_z}
+use Rattle.syntax.specs.TokenKinds.{kind_number}
+use Rattle.syntax.proofs.SameKinds.{same-token}
+use Rattle.breaches.specs.Pairs.{wide_rule}
 use Rattle.breaches.proofs.OwnPairs.{bit-small, not_free, plain-free, breach-found, breach-none}
 use Rattle.breaches.proofs.pairs.breach_at.Goals as goal
 
-pub returns-then-kind_at-ne-FREE : goal.returns-then-kind_at-ne-FREE
-returns-then-kind_at-ne-FREE c = not_free c.args.kinds.now c.args.values.now c.args.wide c.args.i _ c.kind_at.ensures c.if-kind_at-ne-FREE.true
+pub returns-in_default : goal.returns-in_default
+returns-in_default c =
+    not_free c.args.source.now.kinds c.args.source.now.values (wide_rule c.args.rule) c.args.i _ c.kind.ensures (λ e. c.in_default.not-Free (same-token e))
 
-pub returns-then-kind_at-eq-SEMI : goal.returns-then-kind_at-eq-SEMI
-returns-then-kind_at-eq-SEMI c = plain-free c.args.kinds.now c.args.values.now c.args.wide c.args.i c.kind_at.ensures c.if-kind_at-ne-FREE.false _ c.kind_at-2.ensures c.if-kind_at-eq-SEMI.true
+pub returns-in-Semi : goal.returns-in-Semi
+returns-in-Semi c =
+    plain-free c.args.source.now.kinds c.args.source.now.values (wide_rule c.args.rule) c.args.i c.kind.ensures (ap kind_number c.in-Free.is) _ c.kind-2.ensures (ap kind_number c.in-Semi.is)
 
 pub overflow_add-after : goal.overflow_add-after
 overflow_add-after c = omega (arith, c.number_token-number.ensures, bit-small c.is_minus-minus.result)
@@ -18,11 +24,11 @@ number_token-requires c = omega (arith, c.number_token-number.ensures, bit-small
 pub returns-then-breaks : goal.returns-then-breaks
 returns-then-breaks c =
     let says = rw (to_z-of_z (record { sfits = c.signed-low.type_inv }), to_z-of_z (record { sfits = c.signed-high.type_inv })) at c.breaks.ensures in
-    breach-found c.args.kinds.now c.args.values.now c.args.wide c.args.i c.kind_at.ensures c.if-kind_at-ne-FREE.false c.kind_at-2.ensures c.if-kind_at-eq-SEMI.false
-    c.is_minus-minus.ensures c.number_token-number.ensures c.value_at.ensures c.signed-low.ensures.0 c.is_minus-second.ensures c.number_token.ensures c.value_at-2.ensures c.signed-high.ensures.0 says _ c.if-breaks.true c.lesser.ensures
+    breach-found c.args.source.now.kinds c.args.source.now.values (wide_rule c.args.rule) c.args.i c.kind.ensures (ap kind_number c.in-Free.is) c.kind-2.ensures (λ e. c.in_default-kind.not-Semi (same-token e))
+    c.is_minus-minus.ensures c.number_token-number.ensures c.value.ensures c.signed-low.ensures.0 c.is_minus-second.ensures c.number_token.ensures c.value-2.ensures c.signed-high.ensures.0 says _ c.if-breaks.true c.lesser.ensures
 
 pub returns : goal.returns
 returns c =
     let says = rw (to_z-of_z (record { sfits = c.signed-low.type_inv }), to_z-of_z (record { sfits = c.signed-high.type_inv })) at c.breaks.ensures in
-    breach-none c.args.kinds.now c.args.values.now c.args.wide c.args.i c.kind_at.ensures c.if-kind_at-ne-FREE.false c.kind_at-2.ensures c.if-kind_at-eq-SEMI.false
-    c.is_minus-minus.ensures c.number_token-number.ensures c.value_at.ensures c.signed-low.ensures.0 c.is_minus-second.ensures c.number_token.ensures c.value_at-2.ensures c.signed-high.ensures.0 says _ c.if-breaks.false
+    breach-none c.args.source.now.kinds c.args.source.now.values (wide_rule c.args.rule) c.args.i c.kind.ensures (ap kind_number c.in-Free.is) c.kind-2.ensures (λ e. c.in_default-kind.not-Semi (same-token e))
+    c.is_minus-minus.ensures c.number_token-number.ensures c.value.ensures c.signed-low.ensures.0 c.is_minus-second.ensures c.number_token.ensures c.value-2.ensures c.signed-high.ensures.0 says _ c.if-breaks.false
