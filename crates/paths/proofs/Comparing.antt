@@ -11,9 +11,9 @@ use Rattle.semantics.specs.Program.{Window}
 use Rattle.semantics.specs.Search.{Value, range, decided, narrowed, in_use}
 use Rattle.simulation.specs.Machine.{Machine}
 use Rattle.simulation.specs.Path.{State, Went, on, outcome, holding, chose, choosing, comparing}
+use Rattle.std.specs.Prelude.{Option as Answer}
 use Rattle.simulation.specs.Nodes.{range_in}
 use Rattle.intervals.specs.declared.Window as win
-use Rattle.ranges.specs.declared.Decided.{Decided}
 use Rattle.intervals.specs.Meaning.{of_window}
 use Rattle.ranges.specs.Meaning.{of_decided}
 use Rattle.machine.specs.Memory.{machine_at, windows_in, ranges_in}
@@ -27,7 +27,7 @@ use Rattle.paths.proofs.Machinery.{machine-stays, ready-stays, ready-flagged}
 use Rattle.paths.proofs.Stays.{stays-none}
 
 -- what deciding by two ranges has said
-pub said : (c : Cmp) (d u : Decided) (a b : win.Window) (v w : Window) → d ≡ u → of_decided d ≡ decided c (of_window a) (of_window b) → of_window a ≡ v → of_window b ≡ w → of_decided u ≡ decided c v w
+pub said : (c : Cmp) (d u : Answer Bool) (a b : win.Window) (v w : Window) → d ≡ u → of_decided d ≡ decided c (of_window a) (of_window b) → of_window a ≡ v → of_window b ≡ w → of_decided u ≡ decided c v w
 said c d u a b v w e f g h = ap of_decided (sym e) ∙ f ∙ ap₂ (decided c) g h
 
 -- what is compared, once the ranges have said what they can
