@@ -20,8 +20,7 @@ use Rattle.machine.specs.Memory.{machine_at, windows_in, ranges_in}
 use Rattle.machine.specs.Terms.{cell_of, meant, Ready, flagged}
 use Rattle.machine.specs.declared.Value as code
 use Rattle.paths.specs.declared.Point.{Point}
-use Rattle.paths.specs.Choice.{Undecided}
-use Rattle.paths.specs.Point.{state_at, Standing, chosen, Chose, flagging, Usable, Compared}
+use Rattle.paths.specs.Point.{state_at, Standing, chosen, Chose, flagging, Compared}
 use Rattle.paths.proofs.Narrowing.{range-is}
 use Rattle.paths.proofs.Machinery.{machine-stays, ready-stays, ready-flagged}
 use Rattle.paths.proofs.Stays.{stays-none}
@@ -79,6 +78,3 @@ module _ (m : List ℕ) (p : Point) (c : Cmp) (v w : code.Value) (h : Standing m
     older = omega arith;
     stays = s.stays;
   })
-
-  pub undecided-so : Usable n v → Usable n w → none ≡ decided c (range_in (ranges_in m n) (cell_of v)) (range_in (ranges_in m n) (cell_of w)) → Undecided m n c v w
-  undecided-so a b e = record { left-sized = a.sized; left = a.within; right-sized = b.sized; right = b.within; is = sym e }
