@@ -235,14 +235,14 @@ fn act(
 {
     let run = p.run;
     match kind {
-        entry::NEVER => Some(p.proceed(machine::flagged(run, false))),
-        entry::ALWAYS => Some(p.proceed(machine::flagged(run, true))),
+        entry::NEVER => Some(p.proceed(run.flagged(false))),
+        entry::ALWAYS => Some(p.proceed(run.flagged(true))),
         entry::JUMP => Some(p.proceed(Run {
-            pc: machine::landing(run, false, w),
+            pc: run.landing(false, w),
             ..run
         })),
         entry::JUMP_TRUE => Some(p.proceed(Run {
-            pc: machine::landing(run, true, w),
+            pc: run.landing(true, w),
             ..run
         })),
         entry::SKIP => Some(p.proceed(Run {

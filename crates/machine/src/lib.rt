@@ -38,6 +38,39 @@ pub struct Run {
     pub nodes: usize,
 }
 
+impl Run {
+    // The same at another entry.
+    fn moved(self, pc: usize) -> Run
+        ensures { result ≡ movedS self pc }
+    {
+        Run { pc, ..self }
+    }
+
+    // The same at the next entry, with another flag.
+    pub fn flagged(self, flag: bool) -> Run
+        requires { self.pc < 65536 }
+        ensures { result ≡ movedS (flaggedS self flag) (self.pc + 1) }
+    {
+        Run {
+            pc: self.pc + 1,
+            flag,
+            ..self
+        }
+    }
+
+    // Where a jump over w entries goes that is made if the flag is as said.
+    pub fn landing(self, flag: bool, w: usize) -> usize
+        requires { (self.pc < 65536) × (w < 4294967296) }
+        ensures { result ≡ landingS flag self.flag w (suc self.pc) }
+    {
+        if self.flag == flag {
+            self.pc + 1 + w
+        } else {
+            self.pc + 1
+        }
+    }
+}
+
 // What working one entry did: the machine goes on, without a step or after one; it has reached a free declaration, whose window starts as this pair, or a comparison of two values; or the run has ended. `Silent`, `Step` and `Free` have the run first: in one place, it stays in registers.
 #[derive(Drop)]
 pub enum Did {
@@ -375,37 +408,6 @@ fn enter(code: &[u32], size: usize, mem: &mut [u32], run: Run, g: usize, n: usiz
     }
 }
 
-// The same at another entry.
-fn moved(run: Run, pc: usize) -> Run
-    ensures { result ≡ movedS run pc }
-{
-    Run { pc, ..run }
-}
-
-// The same at the next entry, with another flag.
-pub fn flagged(run: Run, flag: bool) -> Run
-    requires { run.pc < 65536 }
-    ensures { result ≡ movedS (flaggedS run flag) (run.pc + 1) }
-{
-    Run {
-        pc: run.pc + 1,
-        flag,
-        ..run
-    }
-}
-
-// Where a jump over w entries goes that is made if the flag is as said.
-pub fn landing(run: Run, flag: bool, w: usize) -> usize
-    requires { (run.pc < 65536) × (w < 4294967296) }
-    ensures { result ≡ landingS flag run.flag w (suc run.pc) }
-{
-    if run.flag == flag {
-        run.pc + 1 + w
-    } else {
-        run.pc + 1
-    }
-}
-
 // Where a path starts.
 pub fn start(mem: &mut [u32]) -> Run
     requires { tables_place ≤ length mem.old }
@@ -433,7 +435,7 @@ pub fn advance(code: &[u32], size: usize, mem: &mut [u32], job: Window, run: Run
     let kind = code[2 * run.pc];
     let w = code[2 * run.pc + 1] as usize;
     match kind {
-        entry::NUMBER..=entry::ARGUMENT => Did::Silent(moved(run, run.pc + 1)),
+        entry::NUMBER..=entry::ARGUMENT => Did::Silent(run.moved(run.pc + 1)),
         entry::ADD..=entry::COMPARE_LAST => {
             let p = pair(code, size, mem, run, w);
             if kind < entry::COMPARE {
@@ -464,13 +466,13 @@ pub fn advance(code: &[u32], size: usize, mem: &mut [u32], job: Window, run: Run
                 w / entry::FUNCTIONS,
             ))
         }
-        entry::NEVER => Did::Silent(flagged(run, false)),
-        entry::ALWAYS => Did::Silent(flagged(run, true)),
-        entry::JUMP => Did::Silent(moved(run, landing(run, false, w))),
-        entry::JUMP_TRUE => Did::Silent(moved(run, landing(run, true, w))),
-        entry::SKIP => Did::Silent(moved(run, run.pc + 1 + w)),
-        entry::AGAIN => Did::Step(moved(run, run.pc.saturating_sub(w))),
-        entry::BEGIN => Did::Step(moved(run, run.pc + 1)),
+        entry::NEVER => Did::Silent(run.flagged(false)),
+        entry::ALWAYS => Did::Silent(run.flagged(true)),
+        entry::JUMP => Did::Silent(run.moved(run.landing(false, w))),
+        entry::JUMP_TRUE => Did::Silent(run.moved(run.landing(true, w))),
+        entry::SKIP => Did::Silent(run.moved(run.pc + 1 + w)),
+        entry::AGAIN => Did::Step(run.moved(run.pc.saturating_sub(w))),
+        entry::BEGIN => Did::Step(run.moved(run.pc + 1)),
         entry::ASK => Did::Free(ask(mem, run, Address(w % layout::CELLS), k), job),
         entry::STORE => Did::Silent(store(code, size, mem, run, Address(w % layout::CELLS))),
         entry::RETURN => {

@@ -11,23 +11,22 @@ use Rattle.semantics.specs.Program.{Window}
 use Rattle.semantics.specs.Search.{Value, range, decided, narrowed, in_use}
 use Rattle.simulation.specs.Machine.{Machine}
 use Rattle.simulation.specs.Path.{State, Went, on, outcome, holding, chose, choosing, comparing}
+use Rattle.std.specs.Prelude.{Option as Answer}
 use Rattle.simulation.specs.Nodes.{range_in}
 use Rattle.intervals.specs.declared.Window as win
-use Rattle.ranges.specs.declared.Decided.{Decided}
 use Rattle.intervals.specs.Meaning.{of_window}
 use Rattle.ranges.specs.Meaning.{of_decided}
 use Rattle.machine.specs.Memory.{machine_at, windows_in, ranges_in}
 use Rattle.machine.specs.Terms.{cell_of, meant, Ready, flagged}
 use Rattle.machine.specs.declared.Value as code
 use Rattle.paths.specs.declared.Point.{Point}
-use Rattle.paths.specs.Choice.{Undecided}
-use Rattle.paths.specs.Point.{state_at, Standing, chosen, Chose, flagging, Usable, Compared}
+use Rattle.paths.specs.Point.{state_at, Standing, chosen, Chose, flagging, Compared}
 use Rattle.paths.proofs.Narrowing.{range-is}
 use Rattle.paths.proofs.Machinery.{machine-stays, ready-stays, ready-flagged}
 use Rattle.paths.proofs.Stays.{stays-none}
 
 -- what deciding by two ranges has said
-pub said : (c : Cmp) (d u : Decided) (a b : win.Window) (v w : Window) → d ≡ u → of_decided d ≡ decided c (of_window a) (of_window b) → of_window a ≡ v → of_window b ≡ w → of_decided u ≡ decided c v w
+pub said : (c : Cmp) (d u : Answer Bool) (a b : win.Window) (v w : Window) → d ≡ u → of_decided d ≡ decided c (of_window a) (of_window b) → of_window a ≡ v → of_window b ≡ w → of_decided u ≡ decided c v w
 said c d u a b v w e f g h = ap of_decided (sym e) ∙ f ∙ ap₂ (decided c) g h
 
 -- what is compared, once the ranges have said what they can
@@ -79,6 +78,3 @@ module _ (m : List ℕ) (p : Point) (c : Cmp) (v w : code.Value) (h : Standing m
     older = omega arith;
     stays = s.stays;
   })
-
-  pub undecided-so : Usable n v → Usable n w → none ≡ decided c (range_in (ranges_in m n) (cell_of v)) (range_in (ranges_in m n) (cell_of w)) → Undecided m n c v w
-  undecided-so a b e = record { left-sized = a.sized; left = a.within; right-sized = b.sized; right = b.within; is = sym e }

@@ -2,7 +2,7 @@
 use mathlib.Core.Path.{◌≡◌, refl, sym, ap, ap₂, ◌∙◌, subst}
 use mathlib.Core.Bool.{Bool, false}
 use mathlib.Core.List.{List, map}
-use Prim.Native.Nat.{ℕ, zero, suc, ◌+◌, ◌-◌, ◌≤◌, ◌<◌}
+use Prim.Native.Nat.{ℕ, zero, suc, ◌+◌, ◌-◌, ◌≤◌}
 use native.Mathlib.Omega.{arith}
 use lib.ListN.{length}
 use Rattle.semantics.specs.Program.{Window}
@@ -17,8 +17,9 @@ use Rattle.simulation.specs.Measure.{turns_left}
 use Rattle.simulation.proofs.Drive.{Nears, Nearer, turn-nears}
 use Rattle.machine.specs.Layout.{frame_cells, frame_place}
 use Rattle.machine.specs.Memory.{nodes_in, cells, callers, machine_at, windows_in, starts_in, tests_in, outcomes_in, test_at}
-use Rattle.ints.specs.Numbers.{comparison}
-use Rattle.machine.specs.Terms.{meant, Room, Kept, Ready, Goes, Gave, Tested, flagged, Done}
+use Rattle.ints.specs.declared.Comparison.{Comparison}
+use Rattle.ints.specs.Meaning.{of_comparison}
+use Rattle.machine.specs.Terms.{meant, Kept, Ready, Goes, Gave, Tested, flagged, Done}
 use Rattle.machine.specs.declared.Did.{Did}
 use Rattle.machine.proofs.Stays.{kept-none}
 use Rattle.machine.specs.declared.Run.{Run}
@@ -193,22 +194,10 @@ module _ (m : List ℕ) (p : Point) (job : Window) (c : Code) (g : Going m p) wh
       (turn_is job c (machine_at m p.run) (state_at m p) d (state_at m₁ p) e (state-kept p k)) h in
       (t, onwards job c m m₂ p r g len t)
 
-  pub test-asked : (m₁ : List ℕ) (o : ℕ) (v w : code.Value) (r : Run) → Tested (advance known work c (machine_at m p.run)) m p.run.nodes m₁ o v w r
-      → Standing m₁ p × Ready m₁ r × (r.nodes ≡ p.run.nodes) × Room m₁ (p.choices + p.steps + 1) × (o < 6) × Usable p.run.nodes v × Usable p.run.nodes w
-  test-asked m₁ o v w r t = (
-    subst (λ (l : List ℕ). Standing l p) (sym t.same) g.standing,
-    subst (λ (l : List ℕ). Ready l r) (sym t.same) t.ready,
-    t.nodes,
-    subst (λ (l : List ℕ). Room l (p.choices + p.steps + 1)) (sym t.same) g.choices,
-    t.six,
-    record { sized = t.left-sized; within = t.left },
-    record { sized = t.right-sized; within = t.right },
-  )
-
-  pub test-turned : (m₁ m₂ : List ℕ) (r : Turned) (o : ℕ) (v w : code.Value) (run : Run) → length m₂ ≡ length m → Tested (advance known work c (machine_at m p.run)) m p.run.nodes m₁ o v w run
-      → Turning (turning in_use job (Doing.test (comparison o) (meant m₁ p.run.nodes v) (meant m₁ p.run.nodes w) (λ b. machine_at m₁ (flagged run b))) (state_at m₁ p)) m₂ p r
+  pub test-turned : (m₁ m₂ : List ℕ) (r : Turned) (o : Comparison) (v w : code.Value) (run : Run) → length m₂ ≡ length m → Tested (advance known work c (machine_at m p.run)) m p.run.nodes m₁ o v w run
+      → Turning (turning in_use job (Doing.test (of_comparison o) (meant m₁ p.run.nodes v) (meant m₁ p.run.nodes w) (λ b. machine_at m₁ (flagged run b))) (state_at m₁ p)) m₂ p r
       → Turning (turn in_use job c (machine_at m p.run) (state_at m p)) m₂ p r × Onwards m₂ r
   test-turned m₁ m₂ r o v w run len t h =
-      turned m m₂ r (Doing.test (comparison o) (meant m p.run.nodes v) (meant m p.run.nodes w) (λ b. machine_at m (flagged run b))) kept-none len t.is
-      (subst (λ (l : List ℕ). Turning (turning in_use job (Doing.test (comparison o) (meant l p.run.nodes v) (meant l p.run.nodes w) (λ b. machine_at l (flagged run b)))
+      turned m m₂ r (Doing.test (of_comparison o) (meant m p.run.nodes v) (meant m p.run.nodes w) (λ b. machine_at m (flagged run b))) kept-none len t.is
+      (subst (λ (l : List ℕ). Turning (turning in_use job (Doing.test (of_comparison o) (meant l p.run.nodes v) (meant l p.run.nodes w) (λ b. machine_at l (flagged run b)))
       (state_at l p)) m₂ p r) t.same h)

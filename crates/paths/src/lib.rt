@@ -9,7 +9,7 @@ ghost use Rattle.simulation.specs.Path.{holding as holdingS};
 ghost use Rattle.simulation.specs.Words.{code_in};
 ghost use Rattle.simulation.specs.Nodes as nodes;
 ghost use Rattle.simulation.specs.Nodes.{range_in, Within};
-ghost use Rattle.ints.specs.Numbers.{comparison};
+ghost use Rattle.ints.specs.Meaning.{of_comparison};
 ghost use Rattle.intervals.specs.Meaning.{Filled, of_window};
 ghost use Rattle.narrowing.specs.Meaning.{variable_of, Stands};
 ghost use Rattle.machine.specs.Layout.{tables_place};
@@ -21,9 +21,9 @@ ghost use Rattle.paths.specs.Point.{Standing, Stays, Chose, chosen, running, fla
 ghost use Rattle.paths.specs.Turn.{Growing, Grown, spending, declaring, AfterStep, AfterTest, AfterFree, OneTurn};
 
 use intervals::Window;
+use ints::{Comparison, Operation};
 use machine::{Did, Run, Value, kinds, layout};
 use narrowing::Side;
-use ranges::Decided;
 
 // Where a path stands, beside the memory: the machine's run, the steps that may still be made, how many windows and choices there are, and how many forced outcomes are still to come.
 #[derive(Clone, Copy)]
@@ -112,8 +112,8 @@ fn window_of(mem: &[u32], k: usize, i: usize) -> Window
         };
     }
     Window {
-        low: -2147483648,
-        high: 2147483647,
+        low: i32::MIN,
+        high: i32::MAX,
     }
 }
 
@@ -168,7 +168,7 @@ fn range_at(mem: &[u32], k: usize, j: usize) -> Window
     }
     let v = cell_range(mem, j, kind / kinds::NODE_LEFT % 2, x);
     let w = cell_range(mem, j, kind / kinds::NODE_RIGHT, y);
-    ranges::range(op - kinds::OPERATION, v, w)
+    ranges::range(Operation::from(op - kinds::OPERATION), v, w)
 }
 
 // Node j gets its range.
@@ -197,7 +197,7 @@ fn store_pair(mem: &mut [u32], at: usize, w: Window, k: usize)
     ensures { PairSet mem.old mem.new at (of_window w) k }
 {
     let ws = window_memory::load(mem, at);
-    window_memory::put(mem, at, narrowing::with_pair(ws, k, [w.low, w.high]));
+    window_memory::put(mem, at, narrowing::with_window(ws, k, w));
 }
 
 // A free declaration is reached: window k starts as its pair, and the pair is kept.
@@ -245,12 +245,12 @@ fn word_of(v: Value) -> u32
     }
 }
 
-// Notes test t: the comparison, by its number, holds of the two values.
-fn note(mem: &mut [u32], t: usize, c: u32, v: Value, w: Value)
-    requires { Room mem.old (t + 1) × (c < 6) × Sized v × Sized w }
-    ensures { Noting mem.old mem.new t (test_by (comparison c) v w) }
+// Notes test t: the comparison holds of the two values.
+fn note(mem: &mut [u32], t: usize, c: Comparison, v: Value, w: Value)
+    requires { Room mem.old (t + 1) × Sized v × Sized w }
+    ensures { Noting mem.old mem.new t (test_by (of_comparison c) v w) }
 {
-    mem[layout::TESTS + layout::STRIDE * t] = c
+    mem[layout::TESTS + layout::STRIDE * t] = u32::from(c)
         + kinds::TEST_LEFT * open_bit(v)
         + kinds::TEST_RIGHT * open_bit(w);
     mem[layout::TEST_LEFTS + layout::STRIDE * t] = word_of(v);
@@ -279,10 +279,10 @@ fn idle(s: Side, r: Window) -> bool
     }
 }
 
-// The windows narrow where the comparison, by its number, holds; then all nodes get their ranges.
-fn narrow(mem: &mut [u32], k: usize, n: usize, c: u32, v: Value, w: Value)
-    requires { Tables mem.old k n × Undecided mem.old n (comparison c) v w }
-    ensures { Narrowed mem.old mem.new k n (comparison c) v w }
+// The windows narrow where the comparison holds; then all nodes get their ranges.
+fn narrow(mem: &mut [u32], k: usize, n: usize, c: Comparison, v: Value, w: Value)
+    requires { Tables mem.old k n × Undecided mem.old n (of_comparison c) v w }
+    ensures { Narrowed mem.old mem.new k n (of_comparison c) v w }
 {
     let a = side(mem, k, n, v);
     let b = side(mem, k, n, w);
@@ -294,18 +294,17 @@ fn narrow(mem: &mut [u32], k: usize, n: usize, c: u32, v: Value, w: Value)
     all_ranges(mem, k, n);
 }
 
-// The number of the comparison that holds where this one has the outcome o.
-fn holding(o: bool, c: u32) -> u32
-    requires { c < 6 }
-    ensures { (comparison result ≡ holdingS o (comparison c)) × (result < 6) }
+// The comparison that holds where this one has the outcome o.
+fn holding(o: bool, c: Comparison) -> Comparison
+    ensures { of_comparison result ≡ holdingS o (of_comparison c) }
 {
     if o { c } else { ranges::negated(c) }
 }
 
 // A choice: its outcome is taken, its test noted, and the windows narrow.
-fn choose(mem: &mut [u32], p: Point, c: u32, v: Value, w: Value) -> bool
-    requires { Standing mem.old p × Room mem.old (p.choices + 1) × (c < 6) × Undecided mem.old p.run.nodes (comparison c) v w }
-    ensures { Chose mem.old mem.new p (comparison c) v w result }
+fn choose(mem: &mut [u32], p: Point, c: Comparison, v: Value, w: Value) -> bool
+    requires { Standing mem.old p × Room mem.old (p.choices + 1) × Undecided mem.old p.run.nodes (of_comparison c) v w }
+    ensures { Chose mem.old mem.new p (of_comparison c) v w result }
 {
     let o = take(mem, p.choices, p.forced);
     let held = holding(o, c);
@@ -314,17 +313,16 @@ fn choose(mem: &mut [u32], p: Point, c: u32, v: Value, w: Value) -> bool
     o
 }
 
-// A comparison, by its number: the ranges decide it, or a choice is made.
-fn compare(mem: &mut [u32], p: Point, c: u32, v: Value, w: Value) -> Point
-    requires { Standing mem.old p × Ready mem.old p.run × Room mem.old (p.choices + 1) × (c < 6) × Usable p.run.nodes v × Usable p.run.nodes w }
-    ensures { Compared mem.old mem.new p (comparison c) v w result }
+// A comparison: the ranges decide it, or a choice is made.
+fn compare(mem: &mut [u32], p: Point, c: Comparison, v: Value, w: Value) -> Point
+    requires { Standing mem.old p × Ready mem.old p.run × Room mem.old (p.choices + 1) × Usable p.run.nodes v × Usable p.run.nodes w }
+    ensures { Compared mem.old mem.new p (of_comparison c) v w result }
 {
     let a = range_of(mem, p.run.nodes, v);
     let b = range_of(mem, p.run.nodes, w);
     match ranges::decide(c, a, b) {
-        Decided::True => p.flag(true),
-        Decided::False => p.flag(false),
-        Decided::Open => {
+        Some(o) => p.flag(o),
+        None => {
             let o = choose(mem, p, c, v, w);
             p.count().flag(o)
         }
@@ -353,10 +351,10 @@ fn after_step(mem: &mut [u32], p: Point, run: Run) -> Turned
     Turned::On(p.forced == 0, p.spend(run))
 }
 
-// A comparison, by its number.
-fn after_test(mem: &mut [u32], p: Point, run: Run, c: u32, v: Value, w: Value) -> Turned
-    requires { Standing mem.old p × Ready mem.old run × (run.nodes ≡ p.run.nodes) × Room mem.old (p.choices + p.steps + 1) × (c < 6) × Usable p.run.nodes v × Usable p.run.nodes w }
-    ensures { AfterTest mem.old mem.new p run (comparison c) v w result × Stays mem.old mem.new p.run.nodes p.choices }
+// A comparison.
+fn after_test(mem: &mut [u32], p: Point, run: Run, c: Comparison, v: Value, w: Value) -> Turned
+    requires { Standing mem.old p × Ready mem.old run × (run.nodes ≡ p.run.nodes) × Room mem.old (p.choices + p.steps + 1) × Usable p.run.nodes v × Usable p.run.nodes w }
+    ensures { AfterTest mem.old mem.new p run (of_comparison c) v w result × Stays mem.old mem.new p.run.nodes p.choices }
 {
     if p.steps == 0 {
         return Turned::Cut;

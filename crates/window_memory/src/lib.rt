@@ -1,8 +1,9 @@
 // The windows of a path in memory: eight pairs, two words each.
 #![tactic(auto)]
 
-ghost use Rattle.std.specs.Prelude.{◌≡◌, ◌+◌, ◌<◌, ◌≤◌, length};
-ghost use Rattle.intervals.specs.Meaning.{pair_of, pairs_of};
+ghost use Rattle.std.specs.Prelude.{◌≡◌, ◌+◌, ◌<◌, ◌≤◌, length, FitsSigned};
+ghost use Rattle.std.specs.Int.{w32};
+ghost use Rattle.intervals.specs.Meaning.{of_windows, of_pairs, pair_of, pairs_of};
 ghost use Rattle.window_memory.specs.Memory.{pair_at, pairs_at, put_pair, put_pairs};
 
 use intervals::Window;
@@ -35,18 +36,21 @@ pub fn load(mem: &[u32], at: usize) -> [Window; 8]
     ]
 }
 
+// A window, into the words at a place and after it; each of its ends has 32 bits.
 fn put_window(mem: &mut [u32], at: usize, w: Window)
     requires { at + 1 < length mem.old }
-    ensures { mem.new ≡ put_pair mem.old at (pair_of w) }
+    ensures words { mem.new ≡ put_pair mem.old at (pair_of w) }
+    ensures fits { FitsSigned w32 w.low × FitsSigned w32 w.high }
 {
     mem[at] = ints::word(w.low);
     mem[at + 1] = ints::word(w.high);
 }
 
-// The windows of a path, into the sixteen words at a place.
+// The windows of a path, into the sixteen words at a place, from which they can be loaded again.
 pub fn put(mem: &mut [u32], at: usize, ws: [Window; 8])
     requires { at + 16 ≤ length mem.old }
-    ensures { mem.new ≡ put_pairs mem.old at (pairs_of ws) }
+    ensures words { mem.new ≡ put_pairs mem.old at (pairs_of ws) }
+    ensures loaded { of_pairs (pairs_at mem.new at 8) ≡ of_windows ws }
 {
     for (i, w) in ws.iter().enumerate() {
         put_window(mem, at + 2 * i, *w);

@@ -15,5 +15,5 @@ less (suc n) h = omega arith
 pub returns : goal.returns
 returns c =
     let o : ℕ = node_op (kind c.args.mem.now c.args.j) - 1 in
-    c.range.ensures ∙ ap₂ (λ (v w : Window). fitted (span (numbers.operation o) v w)) c.cell_range-v.ensures c.cell_range-w.ensures
+    rw c.from.ensures at c.range.ensures ∙ ap₂ (λ (v w : Window). fitted (span (numbers.operation o) v w)) c.cell_range-v.ensures c.cell_range-w.ensures
     ∙ range-op c.args.mem.now c.args.k c.args.j o (less (node_op (kind c.args.mem.now c.args.j)) c.if-op-eq-FREE.false)
