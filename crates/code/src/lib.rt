@@ -1,8 +1,139 @@
-// The code of a program, as the compiler writes it and the machine works it: entries of two words, a kind and what it is done with.
+// The code of a program, as the compiler makes it and the machine works it.
 #![tactic(auto)]
 
-pub mod entry;
+ghost use Rattle.std.specs.Prelude.{◌≡◌, ℕ, ◌<◌, ◌≤◌, [], ◌∷◌, ◌++◌, length, map, take, set, get_or, replicate};
+ghost use Rattle.simulation.specs.Code.{Code as Told, act, fail};
+ghost use Rattle.code.specs.Meaning.{as_entry};
+
+use ints::{Comparison, Operation};
+use std::marker::Model;
 
 // "An address names a variable and is never itself a value of the program": the number of a variable's declaration in its function, parameters first.
-#[derive(Drop)]
+#[derive(Clone, Copy, PartialEq, Eq, Debug)]
 pub struct Address(pub usize);
+
+// An entry of the code.
+#[derive(Clone, Copy, PartialEq, Eq, Debug)]
+pub enum Entry {
+    // The run fails.
+    Fail,
+    // An operand that takes no work: a number, or a variable.
+    Number(i32),
+    Name(Address),
+    // The end of an argument, whose code is so many entries long.
+    Argument(usize),
+    // An operation or a comparison of two operands, the right one of which has so many entries.
+    Operate(Operation, usize),
+    Compare(Comparison, usize),
+    // A call of a function, by its number, with so many arguments.
+    Call { function: usize, count: usize },
+    // The flag is set to this.
+    Constant(bool),
+    // Forward over so many entries, if the flag is as said.
+    Jump { flag: bool, over: usize },
+    // Forward over so many entries.
+    Skip(usize),
+    // Back by so many entries, to a while's condition.
+    Again(usize),
+    // A statement begun.
+    Begin,
+    // A variable declared free.
+    Ask(Address),
+    // The same with its own pair, the numbers at the two entries before it.
+    Own(Address),
+    // The operand before goes into a variable.
+    Store(Address),
+    // The operand before is returned.
+    Return,
+}
+
+// How many entries there is room for: as many as a text's tokens need.
+pub const ENTRIES: usize = 2052;
+
+// How many functions a program has at most.
+pub const FUNCTIONS: usize = 16;
+
+// Where the functions begin that a program has not: the entry where a run fails.
+pub const NOWHERE: usize = 2;
+
+// A code: its entries, and where each function begins.
+#[derive(Drop)]
+pub struct Code {
+    entries: [Entry; ENTRIES],
+    count: usize,
+    starts: [usize; FUNCTIONS],
+}
+
+impl Model for Code {
+    ghost Value = { Told };
+
+    ghost view = { λ c. record { entries = map as_entry (take c.count c.entries); starts = c.starts } };
+
+    ghost invariant = { λ c. (c.count ≤ 2052) × (length c.entries ≡ 2052) × (length c.starts ≡ 16) };
+}
+
+impl Code {
+    // A code with no entries and no functions.
+    pub fn new() -> Code
+        ensures entries { result.entries ≡ [] }
+        ensures starts { result.starts ≡ replicate 16 2 }
+    {
+        Code {
+            entries: [Entry::Fail; ENTRIES],
+            count: 0,
+            starts: [NOWHERE; FUNCTIONS],
+        }
+    }
+
+    // How many entries there are.
+    pub fn len(&self) -> usize
+        ensures value { result ≡ length self.now.entries }
+        ensures few { result ≤ 2052 }
+    {
+        self.count
+    }
+
+    // Entry i.
+    pub fn entry(&self, i: usize) -> Entry
+        requires { (i < length self.now.entries) × (i < 65536) }
+        ensures { as_entry result ≡ get_or self.now.entries i (act fail) }
+    {
+        self.entries[i]
+    }
+
+    // Where function g begins.
+    pub fn start(&self, g: usize) -> usize
+        requires { g < 16 }
+        ensures { result ≡ get_or self.now.starts g 2 }
+    {
+        self.starts[g]
+    }
+
+    // Adds an entry behind the others.
+    pub fn push(&mut self, entry: Entry)
+        requires { length self.old.entries < 2052 }
+        ensures entries { self.new.entries ≡ self.old.entries ++ as_entry entry ∷ [] }
+        ensures starts { self.new.starts ≡ self.old.starts }
+    {
+        self.entries[self.count] = entry;
+        self.count += 1;
+    }
+
+    // Entry `at` becomes another.
+    pub fn set(&mut self, at: usize, entry: Entry)
+        requires { (at < length self.old.entries) × (at < 65536) }
+        ensures entries { self.new.entries ≡ set self.old.entries at (as_entry entry) }
+        ensures starts { self.new.starts ≡ self.old.starts }
+    {
+        self.entries[at] = entry;
+    }
+
+    // Function `function` begins at entry `at`.
+    pub fn set_start(&mut self, function: usize, at: usize)
+        requires { function < 16 }
+        ensures entries { self.new.entries ≡ self.old.entries }
+        ensures starts { self.new.starts ≡ set self.old.starts function at }
+    {
+        self.starts[function] = at;
+    }
+}

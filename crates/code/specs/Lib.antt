@@ -1,0 +1,2 @@
+-- What the code's entries mean.
+pub mod Meaning
