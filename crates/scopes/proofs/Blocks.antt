@@ -1,224 +1,117 @@
--- What each store into the words of a scope does to the blocks that they hold.
-use Prim.Native.Nat.{ℕ, zero, suc, ◌+◌, ◌-◌, ◌*◌, ◌≤◌, ◌<◌}
-use mathlib.Core.Path.{◌≡◌, refl, ap, sym, ◌∙◌}
-use mathlib.Core.List.{List, []}
-use native.Mathlib.Omega.{arith}
-use lib.ListN.{length, get_or, set, length-set}
-use lib.Seq.{get_or-set_same, get_or-set_other}
-use Rattle.events.specs.Event.{Event, function, parameter, opens, closes, declares}
-use Rattle.text_rules.specs.Names.{Declared}
-use Rattle.text_rules.specs.Scopes.{added, outer, entered, scope}
-use Rattle.scopes.specs.Memory.{scope_slot, scope_start, scope_words, declaration, start, from, blocks_of, Ordered, none, more, Room, Moved, scope_of}
-use Rattle.scopes.specs.declared.scope.Scope.{Scope}
+-- What the steps of the code do to the blocks.
+use Rattle.std.proofs.Common.{◌≡◌, ℕ, suc, ◌+◌, ◌<◌, List, [], ◌∷◌, ◌++◌, length, map, take, drop, reverse, refl, ap, sym, add-one, arith, length-append, length-drop}
+use Rattle.std.proofs.lemmas.List.{reverse-append, length-reverse, length-map, length-take-le, take_all, drop_all, take-map, map-append, take-append-le, drop-append-le}
+use Rattle.events.specs.declared.event.Event.{Event}
+use Rattle.events.specs.declared.event.Event.TheVariants.{Function, Parameter, Thing, Opens, Closes, Declares, Uses, Calls, Ends}
+use Rattle.events.specs.Read.{as_event}
+use Rattle.text_rules.specs.Names.{Declared, variable, seen}
+use Rattle.text_rules.specs.Scopes.{Scope, scope, added, outer, entered}
+use Rattle.scopes.specs.Memory.{as_declared, blocks_of, scope_of, Ordered}
+use Rattle.scopes.specs.declared.scope.Declaration as C
 
--- ---- reading after a store
+-- ---- how many there are
 
-declaration-other : (l : List ℕ) (i v j : ℕ) → ¬ (scope_words * j ≡ i) → ¬ (scope_words * j + scope_slot ≡ i) → declaration (set l i v) j ≡ declaration l j
-declaration-other l i v j p q = rw (get_or-set_other l i (scope_words * j) v 0 p, get_or-set_other l i (scope_words * j + scope_slot) v 0 q)
+pub length-blocks : (ds : List Declared) (ss : List ℕ) → length (blocks_of ds ss) ≡ length ss
+unfolding blocks_of
+length-blocks ds [] = refl
+length-blocks ds (s ∷ ss) = ap suc (length-blocks (take s ds) ss)
 
-start-other : (l : List ℕ) (i v j : ℕ) → ¬ (scope_words * j + scope_start ≡ i) → start (set l i v) j ≡ start l j
-start-other l i v j p = get_or-set_other l i (scope_words * j + scope_start) v 0 p
+pub length-seen : (ds : List Declared) (ss : List ℕ) → Ordered (length ds) ss → length (seen (blocks_of ds ss)) ≡ length ds
+unfolding blocks_of seen
+length-seen ds [] h = sym h
+length-seen ds (s ∷ ss) h =
+    let e : length (take s ds) ≡ s = length-take-le s ds h.0 in
+    let r = length-seen (take s ds) ss (rw e h.1) in
+    omega (arith, r, e, h.0, length-append (reverse (drop s ds)) (seen (blocks_of (take s ds) ss)), length-reverse (drop s ds), length-drop s ds)
 
--- ---- lists of declarations, and blocks, by what is read
+pub reverse-push : (ss : List ℕ) (s : ℕ) → reverse (ss ++ s ∷ []) ≡ s ∷ reverse ss
+reverse-push ss s = reverse-append ss (s ∷ [])
 
-from-agree : (l l' : List ℕ) (end k n : ℕ) → ((j : ℕ) → j < end → declaration l' j ≡ declaration l j) → k + n ≤ end → from l' k n ≡ from l k n
-unfolding from
-from-agree l l' end k zero h le = refl
-from-agree l l' end k (suc n) h le = rw (h (k + n) (omega arith), from-agree l l' end k n h (omega arith))
+-- ---- a block begins, and one ends
 
-module _ (l l' : List ℕ) where
-  blocks-agree :
-      {b end : ℕ}
-      → ((j : ℕ) → j < end → declaration l' j ≡ declaration l j)
-      → ((j : ℕ) → j < b → start l' j ≡ start l j)
-      → Ordered l b end
-      → blocks_of l' b end ≡ blocks_of l b end
-  unfolding blocks_of
-  blocks-agree d s none = refl
-  blocks-agree d s (more {b = b} {end = end} h o) =
-      rw (s b (omega arith))
-      (rw (
-        from-agree l l' end (start l b) (end - start l b) d (omega arith),
-        blocks-agree (λ j p. d j (omega arith)) (λ j p. s j (omega arith)) o,
-      ))
+pub opened : (ds : List C.Declaration) (ss : List ℕ) (n : ℕ) → scope_of ds (ss ++ length ds ∷ []) n ≡ scope ([] ∷ blocks_of (map as_declared ds) (reverse ss)) n
+unfolding blocks_of
+opened ds ss n =
+    let e : length (map as_declared ds) ≡ length ds = length-map ds as_declared in
+    let t : take (length ds) (map as_declared ds) ≡ map as_declared ds = take_all (length ds) (map as_declared ds) (omega (arith, e)) in
+    let d : drop (length ds) (map as_declared ds) ≡ [] = drop_all (length ds) (map as_declared ds) (omega (arith, e)) in
+    rw (reverse-push ss (length ds), t, d)
 
-  ordered-agree : {b end : ℕ} → ((j : ℕ) → j < b → start l' j ≡ start l j) → Ordered l b end → Ordered l' b end
-  ordered-agree s none = none
-  ordered-agree s (more {b = b} {end = end} h o) =
-      let e : start l' b ≡ start l b = s b (omega arith) in
-      more {b = b} {end = end} (omega arith) (rw e (ordered-agree (λ j p. s j (omega arith)) o))
-
--- more blocks end before a later end
-later : {l : List ℕ} {b end end' : ℕ} → end ≤ end' → Ordered l b end → Ordered l b end'
-later h none = none
-later {end' = end'} h (more {b = b} p o) = more {b = b} {end = end'} (omega arith) o
-
--- ---- a function begins
-
-pub begun : (l : List ℕ) (s : Scope) (i : ℕ) → 3 ≤ length l → Moved l s (function i) (set l 2 0) (record { blocks = 1; seen = 0; next = 0 })
-unfolding entered blocks_of from
-begun l s i h =
-    let e : start (set l 2 0) 0 ≡ 0 = get_or-set_same l 2 0 0 (omega arith) in
-    record {
-      means = rw e;
-      ordered = more {b = 0} {end = 0} (omega arith) none;
-      blocks = omega arith;
-      seen = omega arith;
-      next = omega arith;
-    }
-
--- ---- a block begins
-
-pub opened :
-    (l : List ℕ) (s : Scope) → Room l s → scope_words * s.blocks + scope_words ≤ length l
-    → Moved l s opens (set l (scope_words * s.blocks + scope_start) s.seen) (record { blocks = s.blocks + 1; seen = s.seen; next = s.next })
-unfolding entered blocks_of from
-opened l s room h =
-    let b = s.blocks in
-    let l' = set l (scope_words * b + scope_start) s.seen in
-    let at : start l' b ≡ s.seen = get_or-set_same l (scope_words * b + scope_start) s.seen 0 (omega arith) in
-    let below : ((j : ℕ) → j < b → start l' j ≡ start l j) = λ j p. start-other l (scope_words * b + scope_start) s.seen j (omega arith) in
-    let same : ((j : ℕ) → j < s.seen → declaration l' j ≡ declaration l j) =
-    λ j p. declaration-other l (scope_words * b + scope_start) s.seen j (omega arith) (omega arith) in
-    let e : b + 1 ≡ suc b = omega arith in
-    let z : s.seen - s.seen ≡ 0 = omega arith in
-    record {
-      means = rw (e, at, z, blocks-agree l l' same below room.ordered);
-      ordered = rw e (more {b = b} {end = s.seen} (omega arith) (rw at (ordered-agree l l' below room.ordered)));
-      blocks = omega arith;
-      seen = omega arith;
-      next = omega arith;
-    }
-
--- ---- a block ends
-
-pub closed_none : (l : List ℕ) (s : Scope) → Room l s → s.blocks ≡ 0 → Moved l s closes l s
-unfolding entered blocks_of outer
-closed_none l s room e = record { means = rw e; ordered = room.ordered; blocks = omega arith; seen = omega arith; next = omega arith }
-
-record Closed (l : List ℕ) (b end : ℕ) : Type 0 where
-  blocks : blocks_of l (b - 1) (start l (b - 1)) ≡ outer (blocks_of l b end)
-  ordered : Ordered l (b - 1) (start l (b - 1))
-  less : start l (b - 1) ≤ end
-
-close : {l : List ℕ} {b end : ℕ} → Ordered l b end → ¬ (b ≡ 0) → Closed l b end
+pub closed : (ds : List C.Declaration) (ss : List ℕ) (s n : ℕ) → scope_of (take s ds) ss n ≡ scope (outer (blocks_of (map as_declared ds) (reverse (ss ++ s ∷ [])))) n
 unfolding blocks_of outer
-close none n = absurd (n refl)
-close (more {b = b} h o) n =
-    let e : suc b - 1 ≡ b = omega arith in
-    record { blocks = rw e; ordered = rw e o; less = rw e h }
-
-pub closed :
-    (l : List ℕ) (s : Scope) (seen : ℕ) → Room l s → ¬ (s.blocks ≡ 0) → seen ≡ get_or l (scope_words * (s.blocks - 1) + scope_start) 0
-    → Moved l s closes l (record { blocks = s.blocks - 1; seen = seen; next = s.next })
-unfolding entered
-closed l s seen room n e =
-    let c = close room.ordered n in
-    record {
-      means = rw (e, c.blocks);
-      ordered = rw e c.ordered;
-      blocks = omega arith;
-      seen = rw e (omega (arith, c.less));
-      next = omega arith;
-    }
+closed ds ss s n = rw (reverse-push ss s, take-map as_declared s ds)
 
 -- ---- a declaration
 
-grown :
-    (l l' : List ℕ) {b end : ℕ} (i n : ℕ)
-    → ((j : ℕ) → j < end → declaration l' j ≡ declaration l j)
-    → ((j : ℕ) → start l' j ≡ start l j)
-    → declaration l' end ≡ record { name = i; slot = n }
-    → ¬ (b ≡ 0)
-    → Ordered l b end
-    → blocks_of l' b (end + 1) ≡ added i n (blocks_of l b end)
-unfolding blocks_of from added
-grown l l' i n d s e z none = absurd (z refl)
-grown l l' i n d s e z (more {b = b} {end = end} h o) =
-    let p : end + 1 - start l b ≡ suc (end - start l b) = omega arith in
-    let q : start l b + (end - start l b) ≡ end = omega arith in
-    rw (s b, p) (rw (q, e)
-    (rw (
-      from-agree l l' end (start l b) (end - start l b) d (omega arith),
-      blocks-agree l l' (λ j t. d j (omega arith)) (λ j t. s j) o,
-    )))
+-- d is the newest of the declarations of the innermost block
+newer : (ds : List Declared) (i n s : ℕ) (ss : List ℕ) → Ordered (length ds) (s ∷ ss) → blocks_of (ds ++ variable i n ∷ []) (s ∷ ss) ≡ added i n (blocks_of ds (s ∷ ss))
+unfolding blocks_of added
+newer ds i n s ss h =
+    let t : take s (ds ++ variable i n ∷ []) ≡ take s ds = take-append-le s ds (variable i n ∷ []) h.0 in
+    let d : drop s (ds ++ variable i n ∷ []) ≡ drop s ds ++ variable i n ∷ [] = drop-append-le s ds (variable i n ∷ []) h.0 in
+    rw (t, d, reverse-append (drop s ds) (variable i n ∷ []))
 
-pub pushed :
-    (l : List ℕ) (s : Scope) (i : ℕ) → Room l s → 0 < s.blocks
-    → Moved l s (declares i) (set (set l (scope_words * s.seen) i) (scope_words * s.seen + scope_slot) s.next) (record { blocks = s.blocks; seen = s.seen + 1; next = s.next + 1 })
+module _ (ds : List C.Declaration) (d : C.Declaration) where
+  pushed : map as_declared (ds ++ d ∷ []) ≡ map as_declared ds ++ variable d.name d.slot ∷ []
+  pushed = map-append as_declared ds (d ∷ [])
+
+  pub declared : (ss : List ℕ) (m : ℕ) → Ordered (length ds) (reverse ss) → 0 < length ss
+      → scope_of (ds ++ d ∷ []) ss m ≡ scope (added d.name d.slot (blocks_of (map as_declared ds) (reverse ss))) m
+  declared ss m h lt = go (reverse ss) h (length-reverse ss)
+    where
+      go : (rs : List ℕ) → Ordered (length ds) rs → length rs ≡ length ss → scope (blocks_of (map as_declared (ds ++ d ∷ [])) rs) m ≡ scope (added d.name d.slot (blocks_of (map as_declared ds) rs)) m
+      go [] o e = absurd (omega (arith, e, lt))
+      go (s ∷ rs) o e =
+          let q : length (map as_declared ds) ≡ length ds = length-map ds as_declared in
+          rw pushed (ap (λ (bs : List (List Declared)). scope bs m) (newer (map as_declared ds) d.name d.slot s rs (rw q o)))
+
+  -- the first one, in a block that it opens
+  pub declared-first : (m : ℕ) → ds ≡ [] → scope_of (ds ++ d ∷ []) ([] ++ length ds ∷ []) m ≡ scope (added d.name d.slot []) m
+  unfolding blocks_of added
+  declared-first m e = rw e
+
+pub none-of : {X : Type 0} (xs : List X) → (0 < length xs → ⊥) → xs ≡ []
+none-of [] f = refl
+none-of (x ∷ xs) f = absurd (f (omega arith))
+
+abbrev pub declaration : ℕ → ℕ → C.Declaration
+declaration i n = record { name = i; slot = n }
+
+-- what the code has after a declaration: ds and ss are what it had before it, ds' and ss' what it had where it wrote it
+module _ (i n n' : ℕ) (ds ds' ds'' : List C.Declaration) (ss ss' : List ℕ) where
+  pub declares-first : (k : ℕ) → ds' ≡ ds → n' ≡ n → k ≡ length ds → ss' ≡ ss ++ k ∷ [] → ss ≡ [] → Ordered (length ds) (reverse ss) → ds'' ≡ ds' ++ declaration i n' ∷ []
+      → scope_of ds'' ss' (n' + 1) ≡ scope (added i n (blocks_of (map as_declared ds) (reverse ss))) (suc n)
+  unfolding blocks_of
+  declares-first k a b q f e o g =
+      let x : Ordered (length ds) (reverse []) = rw e at o in
+      rw (g, a, b, f, q, e, add-one) (declared-first ds (declaration i n) (suc n) (none-of ds (λ lt. omega (arith, lt, x))))
+
+  pub declares : ds' ≡ ds → n' ≡ n → ss' ≡ ss → Ordered (length ds) (reverse ss) → 0 < length ss → ds'' ≡ ds' ++ declaration i n' ∷ []
+      → scope_of ds'' ss' (n' + 1) ≡ scope (added i n (blocks_of (map as_declared ds) (reverse ss))) (suc n)
+  declares a b f o lt g = rw (g, a, b, f, add-one) (declared ds (declaration i n) ss (suc n) o lt)
+
+  pub ordered-first : (k : ℕ) → ds' ≡ ds → k ≡ length ds → ss' ≡ ss ++ k ∷ [] → ss ≡ [] → Ordered (length ds) (reverse ss) → ds'' ≡ ds' ++ declaration i n' ∷ [] → Ordered (length ds'') (reverse ss')
+  ordered-first k a q f e o g =
+      let x : Ordered (length ds) (reverse []) = rw e at o in
+      rw (f, e, q) (omega (arith, x), x)
+
+  pub ordered-later : ds' ≡ ds → ss' ≡ ss → Ordered (length ds) (reverse ss) → 0 < length ss → ds'' ≡ ds' ++ declaration i n' ∷ [] → Ordered (length ds'') (reverse ss')
+  ordered-later a f o lt g = rw f (go (reverse ss) o (length-reverse ss))
+    where
+      go : (rs : List ℕ) → Ordered (length ds) rs → length rs ≡ length ss → Ordered (length ds'') rs
+      go [] p e = absurd (omega (arith, e, lt))
+      go (s ∷ rs) p e = (omega (arith, p.0, ap length a, ap length g, length-append ds' (declaration i n' ∷ [])), p.1)
+
+-- ---- an event that is none of these
+
+pub stays : (s : Scope) (x : Event) → ((i : ℕ) → x ≡ Function i → ⊥) → ((i : ℕ) → x ≡ Parameter i → ⊥) → ((i : ℕ) → x ≡ Declares i → ⊥) → (x ≡ Opens → ⊥) → (x ≡ Closes → ⊥) → s ≡ entered s (as_event x)
 unfolding entered
-pushed l s i room pos =
-    let k = s.seen in
-    let l₁ = set l (scope_words * k) i in
-    let l₂ = set l₁ (scope_words * k + scope_slot) s.next in
-    let st : ((j : ℕ) → start l₂ j ≡ start l j) =
-    λ j. start-other l₁ (scope_words * k + scope_slot) s.next j (omega arith) ∙ start-other l (scope_words * k) i j (omega arith) in
-    let same : ((j : ℕ) → j < k → declaration l₂ j ≡ declaration l j) =
-    λ j p. declaration-other l₁ (scope_words * k + scope_slot) s.next j (omega arith) (omega arith) ∙ declaration-other l (scope_words * k) i j (omega arith) (omega arith) in
-    let name : get_or l₂ (scope_words * k) 0 ≡ i =
-    get_or-set_other l₁ (scope_words * k + scope_slot) (scope_words * k) s.next 0 (omega arith) ∙ get_or-set_same l (scope_words * k) i 0 (omega arith) in
-    let slot : get_or l₂ (scope_words * k + scope_slot) 0 ≡ s.next = get_or-set_same l₁ (scope_words * k + scope_slot) s.next 0 (simp length-set (omega arith)) in
-    let last : declaration l₂ k ≡ record { name = i; slot = s.next } = rw (name, slot) in
-    record {
-      means = rw (grown l l₂ i s.next same st last (omega arith) room.ordered, next-suc s.next);
-      ordered = later (omega arith) (ordered-agree l l₂ (λ j p. st j) room.ordered);
-      blocks = omega arith;
-      seen = omega arith;
-      next = omega arith;
-    }
-  where
-    next-suc : (n : ℕ) → n + 1 ≡ suc n
-    next-suc n = omega arith
-
--- a declaration where no block is open
-pub room-first :
-    {l l₁ : List ℕ} {s s₁ : Scope} → Room l s → scope_words * s.blocks + scope_words ≤ length l
-    → (Moved l s opens l₁ s₁) × (s₁.blocks ≡ s.blocks + 1) × (s₁.seen ≡ s.seen) × (s₁.next ≡ s.next)
-    → length l₁ ≡ length l
-    → (Room l₁ s₁) × (0 < s₁.blocks)
-room-first room h a e = (
-  record {
-    ordered = a.0.ordered;
-    blocks = omega (arith, a.1);
-    seen = omega (arith, a.2, room.seen);
-    small = omega (arith, a.2, room.small);
-    next = omega (arith, a.3, room.next);
-  },
-  omega (arith, a.1),
-)
-
-pub declared-first :
-    {l l₁ l₂ : List ℕ} {s s₁ s₂ : Scope} {i : ℕ} → Room l s → s.blocks ≡ 0
-    → (Moved l s opens l₁ s₁) × (s₁.blocks ≡ s.blocks + 1) × (s₁.seen ≡ s.seen) × (s₁.next ≡ s.next)
-    → (Moved l₁ s₁ (declares i) l₂ s₂) × (s₂.blocks ≡ s₁.blocks)
-    → Moved l s (declares i) l₂ s₂
-unfolding blocks_of entered added
-declared-first {l} {l₁} {l₂} {s} {s₁} {s₂} {i} room z a b =
-    let m = a.0 in
-    let p = b.0 in
-    let bs = m.blocks in
-    let n = p.next in
-    let k = p.seen in
-    record {
-      means = p.means ∙ ap (λ x. entered x (declares i)) m.means ∙ first (blocks_of l s.blocks s.seen) s.next i (empty s.blocks z);
-      ordered = p.ordered;
-      blocks = omega (arith, b.1);
-      seen = omega (arith, a.2);
-      next = omega (arith, a.3);
-    }
-  where
-    empty : (k : ℕ) → k ≡ 0 → blocks_of l k s.seen ≡ []
-    empty k e = rw e
-
-    first : (bs : List (List Declared)) (n i : ℕ) → bs ≡ [] → entered (entered (scope bs n) opens) (declares i) ≡ entered (scope bs n) (declares i)
-    first bs n i e = rw e
-
--- a parameter is declared as a variable is
-pub as-parameter : {l l' : List ℕ} {s s' : Scope} {i : ℕ} → Moved l s (declares i) l' s' → Moved l s (parameter i) l' s'
-unfolding entered
-as-parameter m = record { means = m.means; ordered = m.ordered; blocks = m.blocks; seen = m.seen; next = m.next }
-
--- ---- any other event
-
-pub stays : {l : List ℕ} {s : Scope} {e : Event} → Room l s → entered (scope_of l s) e ≡ scope_of l s → Moved l s e l s
-stays room e = record { means = sym e; ordered = room.ordered; blocks = omega arith; seen = omega arith; next = omega arith }
+stays s (Function i) f _ _ _ _ = absurd (f i refl)
+stays s (Parameter i) _ p _ _ _ = absurd (p i refl)
+stays s (Thing e i) _ _ _ _ _ = refl
+stays s Opens _ _ _ o _ = absurd (o refl)
+stays s Closes _ _ _ _ c = absurd (c refl)
+stays s (Declares i) _ _ d _ _ = absurd (d i refl)
+stays s (Uses i) _ _ _ _ _ = refl
+stays s (Calls i n) _ _ _ _ _ = refl
+stays s (Ends i b) _ _ _ _ _ = refl

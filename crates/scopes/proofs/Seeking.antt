@@ -1,21 +1,14 @@
 -- The lookup, one declaration or one block at a time.
-use Prim.Native.Nat.{ℕ, suc, ◌+◌, ◌-◌, ◌*◌, ◌≤◌, ◌<◌}
-use mathlib.Core.Path.{◌≡◌, refl, ap, sym, ◌∙◌, subst}
-use mathlib.Core.Bool.{Bool, true, false, cond}
-use mathlib.Core.List.{List, [], ◌∷◌, ◌++◌}
-use mathlib.Core.Option.{Option, none, some}
-use native.Mathlib.Omega.{arith}
-use lib.ListN.{get_or}
+use Rattle.std.proofs.Common.{◌≡◌, ℕ, suc, ◌+◌, ◌-◌, ◌≤◌, ◌<◌, Bool, true, false, cond, Option, None, Some, List, [], ◌∷◌, ◌++◌, length, get_or, map, take, drop, reverse, refl, ap, sym, ◌∙◌, subst, arith}
+use Rattle.std.proofs.lemmas.List.{reverse-append, length-map, length-take-le, take_all, drop_all, take-take, take_more, drop-append-le, get_or-map}
 use Rattle.text_rules.specs.Names.{Declared, in_block, sought, seen, compared}
-use Rattle.scopes.specs.Memory.{scope_slot, scope_start, scope_words, declaration, start, from, blocks_of, Ordered}
-use Rattle.scopes.specs.Memory as M
-use Rattle.scopes.specs.Answers.{slot_of, compared_of}
-use Rattle.scopes.specs.declared.lookup.Sought.{Sought}
-use Rattle.scopes.specs.declared.lookup.Sought.TheVariants.{Nothing}
+use Rattle.scopes.specs.Memory.{as_declared, blocks_of, Ordered}
+use Rattle.scopes.specs.declared.scope.Declaration as C
+use Rattle.scopes.proofs.Blocks.{reverse-push}
 
 -- the first of two that is there
 abbrev either : Option ℕ → Option ℕ → Option ℕ
-either o x = elim o [ none ↦ x | some n ↦ some n ]
+either o x = elim o [ None ↦ x | Some n ↦ Some n ]
 
 module _ (same : ℕ → ℕ → Bool) (i : ℕ) where
   -- c declarations have been compared without a hit, and of the blocks `all` the blocks bs are left
@@ -34,10 +27,10 @@ module _ (same : ℕ → ℕ → Bool) (i : ℕ) where
 
   module _ {all : List (List Declared)} {c : ℕ} where
     -- the next declaration has the name
-    hit : {d : Declared} {b : List Declared} {bs : List (List Declared)} → Left all c ((d ∷ b) ∷ bs) → same d.name i ≡ true → Ended all (some d.slot) (c + 1)
+    hit : {d : Declared} {b : List Declared} {bs : List (List Declared)} → Left all c ((d ∷ b) ∷ bs) → same d.name i ≡ true → Ended all (Some d.slot) (c + 1)
     unfolding sought in_block seen compared
     hit {d} {b} {bs} l e =
-        let f : sought same ((d ∷ b) ∷ bs) i ≡ some d.slot = ap (λ t. either (cond t (some d.slot) (in_block same b i)) (sought same bs i)) e in
+        let f : sought same ((d ∷ b) ∷ bs) i ≡ Some d.slot = ap (λ t. either (cond t (Some d.slot) (in_block same b i)) (sought same bs i)) e in
         let n : compared same (seen ((d ∷ b) ∷ bs)) i ≡ 1 = ap (λ t. suc (cond t 0 (compared same (b ++ seen bs) i))) e in
         record { finds = sym f ∙ l.finds; counts = omega (arith, n, l.counts) }
 
@@ -45,7 +38,7 @@ module _ (same : ℕ → ℕ → Bool) (i : ℕ) where
     miss : {d : Declared} {b : List Declared} {bs : List (List Declared)} → Left all c ((d ∷ b) ∷ bs) → same d.name i ≡ false → Left all (c + 1) (b ∷ bs)
     unfolding sought in_block seen compared
     miss {d} {b} {bs} l e =
-        let f : sought same ((d ∷ b) ∷ bs) i ≡ sought same (b ∷ bs) i = ap (λ t. either (cond t (some d.slot) (in_block same b i)) (sought same bs i)) e in
+        let f : sought same ((d ∷ b) ∷ bs) i ≡ sought same (b ∷ bs) i = ap (λ t. either (cond t (Some d.slot) (in_block same b i)) (sought same bs i)) e in
         let n : compared same (seen ((d ∷ b) ∷ bs)) i ≡ suc (compared same (seen (b ∷ bs)) i) = ap (λ t. suc (cond t 0 (compared same (b ++ seen bs) i))) e in
         record { finds = sym f ∙ l.finds; counts = omega (arith, n, l.counts) }
 
@@ -55,113 +48,98 @@ module _ (same : ℕ → ℕ → Bool) (i : ℕ) where
     over l = record { finds = l.finds; counts = l.counts }
 
     -- no block is left
-    missed : Left all c [] → Ended all none c
+    missed : Left all c [] → Ended all None c
     unfolding sought seen compared
     missed l = record { finds = l.finds; counts = omega (arith, l.counts) }
 
--- ---- in words
+-- ---- in the lists of the code
 
 -- the newest of the declarations from s on and before k
-newest : (l : List ℕ) (s k : ℕ) → s < k → from l s (k - s) ≡ declaration l (k - 1) ∷ from l s (k - 1 - s)
-unfolding from
-newest l s k h =
-    let p : k - s ≡ suc (k - 1 - s) = omega arith in
-    let q : s + (k - 1 - s) ≡ k - 1 = omega arith in
-    rw p (rw q refl)
+newest : (ds : List Declared) (s k : ℕ) (d : Declared) → s < k → k ≤ length ds → reverse (drop s (take k ds)) ≡ get_or ds (k - 1) d ∷ reverse (drop s (take (k - 1) ds))
+newest ds s k d lt le =
+    let p : k - 1 + 1 ≡ k = omega arith in
+    let t : take k ds ≡ take (k - 1) ds ++ get_or ds (k - 1) d ∷ [] = ap (λ (m : ℕ). take m ds) (sym p) ∙ take_more ds (k - 1) d (omega arith) in
+    let n : length (take (k - 1) ds) ≡ k - 1 = length-take-le (k - 1) ds (omega arith) in
+    ap (λ (xs : List Declared). reverse (drop s xs)) t ∙ ap reverse (drop-append-le s (take (k - 1) ds) (get_or ds (k - 1) d ∷ []) (omega (arith, n))) ∙ reverse-append (drop s (take (k - 1) ds)) (get_or ds (k - 1) d ∷ [])
 
 -- there is none
-no_more : (l : List ℕ) (s k : ℕ) → k ≤ s → from l s (k - s) ≡ []
-unfolding from
-no_more l s k h =
-    let p : k - s ≡ 0 = omega arith in
-    rw p refl
+no_more : (ds : List Declared) (s k : ℕ) → k ≤ s → k ≤ length ds → reverse (drop s (take k ds)) ≡ []
+no_more ds s k h le = ap reverse (drop_all s (take k ds) (omega (arith, h, length-take-le k ds le)))
 
--- the innermost block, taken off
-record Taken (l : List ℕ) (b end s : ℕ) : Type 0 where
-  blocks : blocks_of l b end ≡ from l s (end - s) ∷ blocks_of l (b - 1) s
-  ordered : Ordered l (b - 1) s
-  less : s ≤ end
-
-taken : {l : List ℕ} {b end : ℕ} {s : ℕ} → Ordered l b end → 0 < b → s ≡ get_or l (scope_words * (b - 1) + scope_start) 0 → Taken l b end s
-unfolding blocks_of
-taken M.none h e = absurd (omega arith)
-taken {l} {s = s} (M.more {b = b} {end = end} p o) h e =
-    let q : suc b - 1 ≡ b = omega arith in
-    let t : s ≡ start l b = rw q at e in
-    record { blocks = rw (q, t); ordered = rw (q, t) o; less = rw t p }
-
--- no block is left
-none_left : (l : List ℕ) (b end : ℕ) → b ≤ 0 → blocks_of l b end ≡ []
-unfolding blocks_of
-none_left l b end h =
-    let e : b ≡ 0 = omega arith in
-    rw e refl
+-- the innermost of b blocks, taken off
+innermost : (ss : List ℕ) (b d : ℕ) → 0 < b → b ≤ length ss → reverse (take b ss) ≡ get_or ss (b - 1) d ∷ reverse (take (b - 1) ss)
+innermost ss b d lt le =
+    let p : b - 1 + 1 ≡ b = omega arith in
+    ap (λ (m : ℕ). reverse (take m ss)) (sym p) ∙ ap reverse (take_more ss (b - 1) d (omega arith)) ∙ reverse-push (take (b - 1) ss) (get_or ss (b - 1) d)
 
 -- ---- the two loops
 
--- n declarations have been compared without a hit; the outer b blocks are left, with the declarations before k
-pub record Outer (same : ℕ → ℕ → Bool) (l : List ℕ) (blocks seen i n : ℕ) (found : Sought) (b k : ℕ) : Type 0 where
-  pub nothing : found ≡ Nothing n
-  pub inside : b ≤ blocks
-  pub before : n + k ≡ seen
-  pub ordered : Ordered l b k
-  pub rest : Left same i (blocks_of l blocks seen) n (blocks_of l b k)
+module _ (same : ℕ → ℕ → Bool) (ds : List C.Declaration) (ss : List ℕ) (i : ℕ) where
+  abbrev D : List Declared
+  D = map as_declared ds
 
--- the same within a block, whose first declaration is s; b blocks are around it
-pub record Inner (same : ℕ → ℕ → Bool) (l : List ℕ) (blocks seen i b s n : ℕ) (found : Sought) (k : ℕ) : Type 0 where
-  pub nothing : found ≡ Nothing n
-  pub before : n + k ≡ seen
-  pub least : s ≤ k
-  pub rest : Left same i (blocks_of l blocks seen) n (from l s (k - s) ∷ blocks_of l b s)
+  abbrev all : List (List Declared)
+  all = blocks_of D (reverse ss)
 
-module _ {same : ℕ → ℕ → Bool} {l : List ℕ} {blocks seen i : ℕ} where
-  pub starts : Ordered l blocks seen → Outer same l blocks seen i 0 (Nothing 0) blocks seen
-  starts o = record { nothing = refl; inside = omega arith; before = omega arith; ordered = o; rest = all_left same i (blocks_of l blocks seen) }
+  -- n declarations have been compared without a hit; the outer b blocks are left, with the declarations before k
+  pub record Outer (n b k : ℕ) : Type 0 where
+    pub inside : b ≤ length ss
+    pub before : n + k ≡ length ds
+    pub ordered : Ordered k (reverse (take b ss))
+    pub rest : Left same i all n (blocks_of (take k D) (reverse (take b ss)))
+
+  -- the same within a block, whose first declaration is s; b blocks are around it
+  pub record Inner (b s n k : ℕ) : Type 0 where
+    pub inside : b ≤ length ss
+    pub before : n + k ≡ length ds
+    pub least : s ≤ k
+    pub ordered : Ordered s (reverse (take b ss))
+    pub rest : Left same i all n (reverse (drop s (take k D)) ∷ blocks_of (take s D) (reverse (take b ss)))
+
+  pub starts : Ordered (length ds) (reverse ss) → Outer 0 (length ss) (length ds)
+  starts o =
+      let t : take (length ss) ss ≡ ss = take_all (length ss) ss (omega arith) in
+      let u : take (length ds) D ≡ D = take_all (length ds) D (omega (arith, length-map ds as_declared)) in
+      record { inside = omega arith; before = omega arith; ordered = rw t o; rest = rw (t, u) (all_left same i all) }
 
   -- a block begins
-  pub begins : {n : ℕ} {found : Sought} {b k s : ℕ} → Outer same l blocks seen i n found b k → 0 < b → s ≡ get_or l (scope_words * (b - 1) + scope_start) 0
-      → Inner same l blocks seen i (b - 1) s n found k
-  begins {n = n} o h e =
-      let t = taken o.ordered h e in
-      record { nothing = o.nothing; before = o.before; least = t.less; rest = subst (λ (bs : List (List Declared)). Left same i (blocks_of l blocks seen) n bs) t.blocks o.rest }
+  pub begins : {n b k s : ℕ} → Outer n b k → 0 < b → s ≡ get_or ss (b - 1) 0 → Inner (b - 1) s n k
+  unfolding blocks_of
+  begins {n} {b} {k} {s} o h e =
+      let t : reverse (take b ss) ≡ s ∷ reverse (take (b - 1) ss) = innermost ss b 0 h o.inside ∙ ap (λ (x : ℕ). x ∷ reverse (take (b - 1) ss)) (sym e) in
+      let p : Ordered k (s ∷ reverse (take (b - 1) ss)) = rw t at o.ordered in
+      let r : Left same i all n (blocks_of (take k D) (s ∷ reverse (take (b - 1) ss))) = rw t at o.rest in
+      let u : take s (take k D) ≡ take s D = take-take s k D p.0 in
+      record { inside = omega (arith, o.inside); before = o.before; least = p.0; ordered = p.1; rest = rw u at r }
 
   -- it has no more
-  pub ends : {n m : ℕ} {found found₀ : Sought} {b k k₀ s : ℕ} → Outer same l blocks seen i m found₀ b k₀ → 0 < b → s ≡ get_or l (scope_words * (b - 1) + scope_start) 0
-      → Inner same l blocks seen i (b - 1) s n found k → k ≤ s → Outer same l blocks seen i n found (b - 1) k
-  ends {n} {b = b} {k = k} {s = s} o h e a le =
-      let t = taken o.ordered h e in
-      let q : s ≡ k = omega (arith, a.least, le) in
+  pub ends : {n b k s : ℕ} → Inner b s n k → k ≤ s → Outer n b s
+  ends {n} {b} {k} {s} a h =
+      let q : k ≡ s = omega (arith, a.least, h) in
       record {
-        nothing = a.nothing;
-        inside = omega (arith, o.inside);
-        before = a.before;
-        ordered = subst (λ (x : ℕ). Ordered l (b - 1) x) q t.ordered;
-        rest =
-            subst (λ (x : ℕ). Left same i (blocks_of l blocks seen) n (blocks_of l (b - 1) x)) q
-            (over same i (subst (λ (x : List Declared). Left same i (blocks_of l blocks seen) n (x ∷ blocks_of l (b - 1) s)) (no_more l s k le) a.rest));
+        inside = a.inside;
+        before = omega (arith, a.before, q);
+        ordered = a.ordered;
+        rest = over same i (subst (λ (x : List Declared). Left same i all n (x ∷ blocks_of (take s D) (reverse (take b ss)))) (no_more D s k h (omega (arith, a.before, length-map ds as_declared))) a.rest);
       }
 
-  module _ {b s n : ℕ} {found : Sought} {k : ℕ} (a : Inner same l blocks seen i b s n found k) (h : s < k) where
-    next : Left same i (blocks_of l blocks seen) n ((declaration l (k - 1) ∷ from l s (k - 1 - s)) ∷ blocks_of l b s)
-    next = subst (λ (x : List Declared). Left same i (blocks_of l blocks seen) n (x ∷ blocks_of l b s)) (newest l s k h) a.rest
+  module _ {b s n k : ℕ} (a : Inner b s n k) (h : s < k) (d : C.Declaration) where
+    next : Left same i all n ((as_declared (get_or ds (k - 1) d) ∷ reverse (drop s (take (k - 1) D))) ∷ blocks_of (take s D) (reverse (take b ss)))
+    next =
+        let le : k ≤ length D = omega (arith, a.before, length-map ds as_declared) in
+        let e : get_or D (k - 1) (as_declared d) ≡ as_declared (get_or ds (k - 1) d) = get_or-map as_declared ds (k - 1) d (as_declared d) (omega (arith, h, a.before)) in
+        subst (λ (x : List Declared). Left same i all n (x ∷ blocks_of (take s D) (reverse (take b ss)))) (newest D s k (as_declared d) h le ∙ ap (λ (x : Declared). x ∷ reverse (drop s (take (k - 1) D))) e) a.rest
 
     -- the next declaration has another name, or the name
-    pub misses : {name : ℕ} → name ≡ get_or l (scope_words * (k - 1)) 0 → same name i ≡ false → Inner same l blocks seen i b s (n + 1) (Nothing (n + 1)) (k - 1)
-    misses e q = record {
-      nothing = refl;
-      before = omega (arith, a.before);
-      least = omega arith;
-      rest = miss same i next (sym (ap (λ (x : ℕ). same x i) e) ∙ q);
-    }
+    pub misses : same (get_or ds (k - 1) d).name i ≡ false → Inner b s (n + 1) (k - 1)
+    misses q = record { inside = a.inside; before = omega (arith, a.before); least = omega arith; ordered = a.ordered; rest = miss same i next q }
 
-    pub hits : {name slot : ℕ} → name ≡ get_or l (scope_words * (k - 1)) 0 → same name i ≡ true → slot ≡ get_or l (scope_words * (k - 1) + scope_slot) 0
-        → Ended same i (blocks_of l blocks seen) (some slot) (n + 1)
-    hits e q w =
-        let r = hit same i next (sym (ap (λ (x : ℕ). same x i) e) ∙ q) in
-        record { finds = ap some w ∙ r.finds; counts = r.counts }
+    pub hits : same (get_or ds (k - 1) d).name i ≡ true → Ended same i all (Some (get_or ds (k - 1) d).slot) (n + 1)
+    hits q = hit same i next q
 
   -- no block is left
-  pub leaves : {n : ℕ} {found : Sought} {b k : ℕ} → Outer same l blocks seen i n found b k → b ≤ 0 → Ended same i (blocks_of l blocks seen) (slot_of found) (compared_of found)
-  leaves {n} {b = b} {k = k} o h =
-      let r = missed same i (subst (λ (bs : List (List Declared)). Left same i (blocks_of l blocks seen) n bs) (none_left l b k h) o.rest) in
-      record { finds = ap slot_of o.nothing ∙ r.finds; counts = ap compared_of o.nothing ∙ r.counts }
+  pub leaves : {n b k : ℕ} → Outer n b k → b ≤ 0 → Ended same i all None n
+  unfolding blocks_of
+  leaves {n} {b} {k} o h =
+      let e : b ≡ 0 = omega arith in
+      missed same i (subst (λ (x : ℕ). Left same i all n (blocks_of (take k D) (reverse (take x ss)))) e o.rest)

@@ -1,52 +1,51 @@
 // The lookup of a variable's name.
-ghost use Rattle.std.specs.Prelude.{◌≡◌, ◌^◌, ◌<◌};
-ghost use Rattle.text_rules.specs.Spelling.{same_name};
+ghost use Rattle.std.specs.Prelude.{◌≡◌, ◌^◌, ◌<◌, length, map, reverse};
+ghost use Rattle.text_rules.specs.Spelling.{same_in};
 ghost use Rattle.text_rules.specs.Names as N;
-ghost use Rattle.scopes.specs.Memory.{Held, blocks_of};
-ghost use Rattle.scopes.specs.Answers.{slot_of, compared_of, or_zero};
+ghost use Rattle.scopes.specs.Memory.{Ordered, as_declared, blocks_of};
+ghost use Rattle.scopes.specs.Answers.{slot_of, or_zero};
 
-use crate::scope::{SCOPE_SLOT, SCOPE_START, SCOPE_WORDS};
+use crate::scope::Declaration;
 use code::Address;
-use text_rules::spelling::{same_name, word};
+use syntax::source::Source;
+use text_rules::spelling::same_name;
 
 // What a lookup finds, and how many declarations it has compared.
 #[derive(Drop)]
-pub enum Sought {
-    Nothing(usize),
-    At(Address, usize),
+pub struct Sought {
+    pub found: Option<Address>,
+    pub compared: usize,
 }
 
-// The name of token i is sought from the innermost block outwards, and within a block from its newest declaration back. The first hit leaves both loops.
-pub fn seek(
-    text: &[u8],
-    places: &[u32],
-    values: &[u32],
-    scope: &[u32],
-    blocks: usize,
-    seen: usize,
+// The name of token i among the declarations of blocks that begin at `starts`. The first hit leaves both loops.
+pub(crate) fn lookup(
+    source: &Source,
+    declarations: &[Declaration],
+    starts: &[usize],
     i: usize,
 ) -> Sought
-    requires { Held scope.now blocks seen }
-    ensures { (slot_of result ≡ N.sought (same_name text.now places.now values.now) (blocks_of scope.now blocks seen) i)
-        × (compared_of result ≡ N.compared (same_name text.now places.now values.now) (N.seen (blocks_of scope.now blocks seen)) i)
-        × (or_zero (slot_of result) < 2 ^ 32) }
+    requires { Ordered (length declarations.now) (reverse starts.now) }
+    ensures found { slot_of result ≡ N.sought (same_in source.now) (blocks_of (map as_declared declarations.now) (reverse starts.now)) i }
+    ensures compared { result.compared ≡ N.compared (same_in source.now) (N.seen (blocks_of (map as_declared declarations.now) (reverse starts.now))) i }
+    ensures small { or_zero (slot_of result) < 2 ^ 32 }
 {
     let mut compared = 0;
-    let mut found = Sought::Nothing(0);
-    let mut block = blocks;
-    let mut k = seen;
-    'blocks: while 0 < block {
-        block -= 1;
-        let start = word(scope, SCOPE_WORDS * block + SCOPE_START);
-        while start < k {
-            k -= 1;
+    let mut end = declarations.len();
+    for block in (0..starts.len()).rev() {
+        let start = starts[block];
+        for k in (start..end).rev() {
             compared += 1;
-            if same_name(text, places, values, word(scope, SCOPE_WORDS * k), i) {
-                found = Sought::At(Address(word(scope, SCOPE_WORDS * k + SCOPE_SLOT)), compared);
-                break 'blocks;
+            if same_name(source, declarations[k].name, i) {
+                return Sought {
+                    found: Some(Address(declarations[k].slot as usize)),
+                    compared,
+                };
             }
-            found = Sought::Nothing(compared);
         }
+        end = start;
     }
-    found
+    Sought {
+        found: None,
+        compared,
+    }
 }

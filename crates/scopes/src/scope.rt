@@ -1,109 +1,128 @@
-// The scope at an event: the blocks that are open, with their declarations, in a lent slice of words.
-ghost use Rattle.std.specs.Prelude.{◌≡◌, ◌+◌, ◌*◌, ◌^◌, ◌≤◌, ◌<◌, length};
-ghost use Rattle.events.specs.Event.{function, opens, closes, declares};
+// The scope at an event: the blocks that are open, with their declarations.
+ghost use Rattle.std.specs.Prelude.{◌≡◌, ◌^◌, ◌<◌, suc, [], ◌∷◌, length, reverse};
 ghost use Rattle.events.specs.Read.{as_event};
-ghost use Rattle.scopes.specs.Memory.{scope_words, Room, Moved, token_of};
+ghost use Rattle.text_rules.specs.Spelling.{same_in};
+ghost use Rattle.text_rules.specs.Names as N;
+ghost use Rattle.text_rules.specs.Scopes.{Scope, scope, nowhere, added, outer, entered};
+ghost use Rattle.scopes.specs.Memory.{scope_of, Ordered, Room};
+ghost use Rattle.scopes.specs.Answers.{slot_of, or_zero};
 
+use crate::lookup::{Sought, lookup};
+use arrayvec::ArrayVec;
 use events::event::Event;
-use text_rules::spelling::word;
+use std::marker::Model;
+use syntax::source::Source;
 
-// The words of place k: the name and the slot of declaration k, and the first declaration of block k.
-pub const SCOPE_WORDS: usize = 3;
-
-pub const SCOPE_SLOT: usize = 1;
-
-pub const SCOPE_START: usize = 2;
-
-// How many blocks are open, how many declarations can be seen, and the number of the function's next declaration.
-#[derive(Clone, Copy)]
-pub struct Scope {
-    pub blocks: usize,
-    pub seen: usize,
-    pub next: usize,
+// A declaration: its name's token, and its number in its function, parameters first.
+#[derive(Clone, Copy, PartialEq, Eq, Default, Debug)]
+pub struct Declaration {
+    pub name: usize,
+    pub slot: u32,
 }
 
-// A function begins, with the block of its parameters.
-fn begin_function(scope: &mut [u32], s: Scope, name: usize) -> Scope
-    requires { scope_words ≤ length scope.old }
-    ensures { Moved scope.old s (function name) scope.new result }
-{
-    scope[SCOPE_START] = 0;
-    Scope {
-        blocks: 1,
-        seen: 0,
-        next: 0,
-    }
+// How many declarations and how many blocks there is room for: as many as events.
+const ROOM: usize = 4096;
+
+// The declarations that can be seen, the earliest first; where each open block begins among them, the outermost first; and the number of the function's next declaration. A clause sees the blocks with their declarations, and that number.
+#[derive(Drop)]
+pub struct Scopes {
+    declarations: ArrayVec<Declaration, ROOM>,
+    starts: ArrayVec<usize, ROOM>,
+    next: usize,
 }
 
-fn open_block(scope: &mut [u32], s: Scope) -> Scope
-    requires { (Room scope.old s) × (scope_words * s.blocks + scope_words ≤ length scope.old) }
-    ensures { (Moved scope.old s opens scope.new result) × (result.blocks ≡ s.blocks + 1) × (result.seen ≡ s.seen) × (result.next ≡ s.next) }
-{
-    let blocks = s.blocks;
-    let seen = s.seen;
-    scope[SCOPE_WORDS * blocks + SCOPE_START] = seen as u32;
-    Scope {
-        blocks: blocks + 1,
-        seen,
-        next: s.next,
-    }
+impl Model for Scopes {
+    ghost Value = { Scope };
+
+    ghost view = { λ s. scope_of s.declarations.items s.starts.items s.next };
+
+    ghost invariant = { λ s. Ordered (length s.declarations.items) (reverse s.starts.items) };
 }
 
-fn close_block(scope: &[u32], s: Scope) -> Scope
-    requires { Room scope.now s }
-    ensures { Moved scope.now s closes scope.now result }
-{
-    let blocks = s.blocks;
-    if blocks == 0 {
-        return s;
+impl Scopes {
+    // No block is open.
+    pub fn new() -> Scopes
+        ensures { result ≡ nowhere }
+    {
+        Scopes {
+            declarations: ArrayVec::new(),
+            starts: ArrayVec::new(),
+            next: 0,
+        }
     }
-    let outer = blocks - 1;
-    Scope {
-        blocks: outer,
-        seen: word(scope, SCOPE_WORDS * outer + SCOPE_START),
-        next: s.next,
-    }
-}
 
-// A declaration in the innermost block.
-fn push(scope: &mut [u32], s: Scope, name: usize) -> Scope
-    requires { (Room scope.old s) × (0 < s.blocks) × (name < 2 ^ 32) }
-    ensures { (Moved scope.old s (declares name) scope.new result) × (result.blocks ≡ s.blocks) }
-{
-    let seen = s.seen;
-    let next = s.next;
-    scope[SCOPE_WORDS * seen] = name as u32;
-    scope[SCOPE_WORDS * seen + SCOPE_SLOT] = next as u32;
-    Scope {
-        blocks: s.blocks,
-        seen: seen + 1,
-        next: next + 1,
+    // The number of the function's next declaration.
+    pub fn next(&self) -> usize
+        ensures { result ≡ self.now.next }
+    {
+        self.next
     }
-}
 
-// A declaration; where no block is open, it opens one.
-fn declare(scope: &mut [u32], s: Scope, name: usize) -> Scope
-    requires { (Room scope.old s) × (scope_words * s.blocks + scope_words ≤ length scope.old) × (name < 2 ^ 32) }
-    ensures { Moved scope.old s (declares name) scope.new result }
-{
-    if s.blocks == 0 {
-        let first = open_block(scope, s);
-        return push(scope, first, name);
+    // The name of token i is sought from the innermost block outwards, and within a block from its newest declaration back.
+    pub fn seek(&self, source: &Source, i: usize) -> Sought
+        ensures found { slot_of result ≡ N.sought (same_in source.now) self.now.blocks i }
+        ensures compared { result.compared ≡ N.compared (same_in source.now) (N.seen self.now.blocks) i }
+        ensures small { or_zero (slot_of result) < 2 ^ 32 }
+    {
+        lookup(
+            source,
+            self.declarations.as_slice(),
+            self.starts.as_slice(),
+            i,
+        )
     }
-    push(scope, s, name)
-}
 
-// The scope after an event.
-pub fn enter(scope: &mut [u32], s: Scope, event: Event) -> Scope
-    requires { (Room scope.old s) × (scope_words * s.blocks + scope_words ≤ length scope.old) × (token_of (as_event event) < 2 ^ 32) }
-    ensures { Moved scope.old s (as_event event) scope.new result }
-{
-    match event {
-        Event::Function(i) => begin_function(scope, s, i),
-        Event::Parameter(i) => declare(scope, s, i),
-        Event::Declares(i) => declare(scope, s, i),
-        Event::Opens => open_block(scope, s),
-        Event::Closes => close_block(scope, s),
-        _ => s,
+    // A function begins, with the block of its parameters.
+    fn begin_function(&mut self)
+        ensures { self.new ≡ scope ([] ∷ []) 0 }
+    {
+        self.declarations.clear();
+        self.starts.clear();
+        self.starts.push(0);
+        self.next = 0;
+    }
+
+    fn open_block(&mut self)
+        requires { length self.old.blocks < 4096 }
+        ensures { self.new ≡ scope ([] ∷ self.old.blocks) self.old.next }
+    {
+        self.starts.push(self.declarations.len());
+    }
+
+    fn close_block(&mut self)
+        ensures { self.new ≡ scope (outer self.old.blocks) self.old.next }
+    {
+        if let Some(start) = self.starts.pop() {
+            self.declarations.truncate(start);
+        }
+    }
+
+    // A declaration in the innermost block; where no block is open, it opens one.
+    fn declare(&mut self, name: usize)
+        requires { Room self.old }
+        ensures { self.new ≡ scope (added name self.old.next self.old.blocks) (suc self.old.next) }
+    {
+        if self.starts.is_empty() {
+            self.starts.push(self.declarations.len());
+        }
+        self.declarations.push(Declaration {
+            name,
+            slot: self.next as u32,
+        });
+        self.next += 1;
+    }
+
+    // Goes on past an event.
+    pub fn enter(&mut self, event: Event)
+        requires { Room self.old }
+        ensures { self.new ≡ entered self.old (as_event event) }
+    {
+        match event {
+            Event::Function(_) => self.begin_function(),
+            Event::Parameter(i) | Event::Declares(i) => self.declare(i),
+            Event::Opens => self.open_block(),
+            Event::Closes => self.close_block(),
+            _ => {}
+        }
     }
 }

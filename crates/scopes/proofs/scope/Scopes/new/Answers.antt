@@ -1,0 +1,6 @@
+use Rattle.scopes.specs.Memory.{blocks_of}
+use Rattle.scopes.proofs.scope.Scopes.new.Goals as goal
+
+pub returns : goal.returns
+unfolding blocks_of
+returns c = rw (c.new.ensures, c.new-2.ensures)
