@@ -14,7 +14,8 @@ use Rattle.semantics.specs.Search.{Value, known, work, all32, in_use}
 use Rattle.simulation.specs.Code.{Code}
 use Rattle.simulation.specs.Machine.{Doing, advance}
 use Rattle.simulation.specs.Path.{turn}
-use Rattle.ints.specs.Numbers.{comparison}
+use Rattle.ints.specs.Meaning.{of_comparison}
+use Rattle.ints.specs.declared.Comparison.{Comparison}
 use Rattle.machine.specs.Memory.{machine_at}
 use Rattle.machine.specs.Terms.{Goes, Tested, flagged}
 use Rattle.machine.specs.declared.Value.TheVariants.{Known}
@@ -75,20 +76,20 @@ module _ (c : Code) (m : List ℕ) (p : Point) (g : Going m p) where
       }
 
     -- a comparison of two numbers
-    module _ (o : ℕ) (x y : ℤ) (r : Run) (t : Tested did m p.run.nodes m o (Known x) (Known y) r) where
+    module _ (o : Comparison) (x y : ℤ) (r : Run) (t : Tested did m p.run.nodes m o (Known x) (Known y) r) where
       abbrev outcome : Bool
-      outcome = holds (comparison o) x y
+      outcome = holds (of_comparison o) x y
 
       abbrev after : Point
       after = spending p (flagged r outcome)
 
-      compared : Compared m m (spending p r) (comparison o) (Known x) (Known y) after
-      compared = compared-so m (spending p r) (comparison o) (Known x) (Known y) (spent-standing m p r (spending p r) t.nodes g.standing refl) t.ready outcome after
-          (sym (decided-known (comparison o) x y)) refl
+      compared : Compared m m (spending p r) (of_comparison o) (Known x) (Known y) after
+      compared = compared-so m (spending p r) (of_comparison o) (Known x) (Known y) (spent-standing m p r (spending p r) t.nodes g.standing refl) t.ready outcome after
+          (sym (decided-known (of_comparison o) x y)) refl
 
       tested : (job : Window) → Onward (turn in_use job c (machine_at m p.run) (state_at m p)) m p (eqb p.forced 0) after × Going m after
       tested job = test-turned m p job c g m m (On (eqb p.forced 0) after) o (Known x) (Known y) r refl t
-          (test_on m p m r (comparison o) (Known x) (Known y) (spending p r) after t.nodes l refl compared job)
+          (test_on m p m r (of_comparison o) (Known x) (Known y) (spending p r) after t.nodes l refl compared job)
 
       pub test-made : Made c m m p after
       test-made = record {

@@ -14,6 +14,9 @@ use Rattle.semantics.specs.Program.{slot}
 use Rattle.simulation.specs.Code.{Code, Act}
 use Rattle.simulation.specs.Words.{code_in}
 use Rattle.ints.specs.Numbers.{operation, comparison}
+use Rattle.ints.specs.Meaning.{of_operation, of_comparison}
+use Rattle.ints.specs.declared.Operation.{Operation}
+use Rattle.ints.specs.declared.Comparison.{Comparison}
 use Rattle.machine.specs.Layout.{variable_place, temp_place}
 use Rattle.machine.specs.Memory.{cell_read_as, cell_at}
 use Rattle.machine.specs.Terms.{Put, Taking, Paired, Tested, acts}
@@ -33,13 +36,13 @@ use Rattle.known_steps.proofs.Making.{silent-made, step-made, test-made}
 
 -- ---- operations and comparisons of words are those of the numbers they stand for
 
-pub operate-so : (o w x y : ℕ) (z a b : ℤ) → SFits w32 z → SFits w32 a → SFits w32 b → w ≡ of_z w32 (to_z w32 (of_z w32 z))
-    → z ≡ int.arith (operation o) (to_z w32 (of_z w32 a)) (to_z w32 (of_z w32 b)) → a ≡ to_z w32 x → b ≡ to_z w32 y → to_z w32 w ≡ int.arith (operation o) (to_z w32 x) (to_z w32 y)
-operate-so o w x y z a b f g h p q u v = ap (to_z w32) (p ∙ ap (of_z w32) (to_z-of_z f)) ∙ to_z-of_z f ∙ q ∙ ap₂ (int.arith (operation o)) (to_z-of_z g ∙ u) (to_z-of_z h ∙ v)
+pub operate-so : (o : Operation) (w x y : ℕ) (z a b : ℤ) → SFits w32 z → SFits w32 a → SFits w32 b → w ≡ of_z w32 (to_z w32 (of_z w32 z))
+    → z ≡ int.arith (of_operation o) (to_z w32 (of_z w32 a)) (to_z w32 (of_z w32 b)) → a ≡ to_z w32 x → b ≡ to_z w32 y → to_z w32 w ≡ int.arith (of_operation o) (to_z w32 x) (to_z w32 y)
+operate-so o w x y z a b f g h p q u v = ap (to_z w32) (p ∙ ap (of_z w32) (to_z-of_z f)) ∙ to_z-of_z f ∙ q ∙ ap₂ (int.arith (of_operation o)) (to_z-of_z g ∙ u) (to_z-of_z h ∙ v)
 
-pub holds-so : (c x y : ℕ) (r : Bool) (a b : ℤ) → SFits w32 a → SFits w32 b → r ≡ int.holds (comparison c) (to_z w32 (of_z w32 a)) (to_z w32 (of_z w32 b)) → a ≡ to_z w32 x → b ≡ to_z w32 y
-    → r ≡ int.holds (comparison c) (to_z w32 x) (to_z w32 y)
-holds-so c x y r a b g h q u v = q ∙ ap₂ (int.holds (comparison c)) (to_z-of_z g ∙ u) (to_z-of_z h ∙ v)
+pub holds-so : (c : Comparison) (x y : ℕ) (r : Bool) (a b : ℤ) → SFits w32 a → SFits w32 b → r ≡ int.holds (of_comparison c) (to_z w32 (of_z w32 a)) (to_z w32 (of_z w32 b)) → a ≡ to_z w32 x → b ≡ to_z w32 y
+    → r ≡ int.holds (of_comparison c) (to_z w32 x) (to_z w32 y)
+holds-so c x y r a b g h q u v = q ∙ ap₂ (int.holds (of_comparison c)) (to_z-of_z g ∙ u) (to_z-of_z h ∙ v)
 
 -- ---- the entry at the point, by its two words
 
@@ -55,20 +58,19 @@ module _ (ws : List ℕ) (size : ℕ) (m : List ℕ) (p : Point) (g : Going m p)
         → Put m m' (temp_place t) (cell_read_as 0 v) → Made c m m' p (spending p (next p.run.flag (t + 1)))
     op-made a b v f e m' len put = step-made c m p g l m' (next p.run.flag (t + 1)) len
         (goes-from
-        (ap₂ (λ (k w : ℕ). acts c m p.run (Act.operate (operation (k - 4)) w)) k-is w-is ∙ adv-op ws size m p.run inside (omega (arith, k-is)) (omega (arith, k-is)))
+        (ap₂ (λ (k w : ℕ). acts c m p.run (Act.operate (operation (k - 4)) w)) k-is w-is ∙ adv-op ws size m p.run inside (omega (arith, k-is)) (omega (arith, k-is)) _ refl)
         (operated c m m m' p.run (operation (kind - 4)) w (Known (to_z w32 x)) (Known (to_z w32 y)) (Known (to_z w32 v)) t p.run.nodes g.ready
         (room-less (p.run.top + 1) (omega arith) g.tops) (room-less (p.run.nodes + 1) (omega arith) g.nodes) len pair
         (worked-both m p.run.nodes (operation (kind - 4)) (Known (to_z w32 x)) (Known (to_z w32 y)) (to_z w32 x) (to_z w32 y) (to_z w32 v) (sfits_to_z {w = w32} {n = v} (record { fits = f })) refl refl e) put))
         refl
 
-    pub cmp-made : 7 ≤ kind → kind < 13 → (o : Bool) → o ≡ int.holds (comparison (kind - 7)) (to_z w32 x) (to_z w32 y) → Made c m m p (spending p (next o t))
-    cmp-made a b o e =
-        let k : ℕ = get_or ws (2 * p.run.pc) 0 in
-        let asked : Tested _ m p.run.nodes m (k - 7) (Known (to_z w32 x)) (Known (to_z w32 y)) (next p.run.flag t)
-        = adv-cmp ws size m p.run inside (omega (arith, k-is)) (omega (arith, k-is)) (Known (to_z w32 x)) (Known (to_z w32 y)) t g.ready
+    pub cmp-made : 7 ≤ kind → kind < 13 → (cmp : Comparison) → of_comparison cmp ≡ comparison (kind - 7) → (o : Bool) → o ≡ int.holds (of_comparison cmp) (to_z w32 x) (to_z w32 y)
+        → Made c m m p (spending p (next o t))
+    cmp-made a b cmp q o e =
+        let asked : Tested _ m p.run.nodes m cmp (Known (to_z w32 x)) (Known (to_z w32 y)) (next p.run.flag t)
+        = adv-cmp ws size m p.run inside (omega (arith, k-is)) (omega (arith, k-is)) cmp (q ∙ ap (λ (k : ℕ). comparison (k - 7)) k-is) (Known (to_z w32 x)) (Known (to_z w32 y)) t g.ready
         (subst (λ (w : ℕ). Paired c m p.run w (Known (to_z w32 x)) (Known (to_z w32 y)) t) w-is pair) in
-        subst (λ (o : Bool). Made c m m p (spending p (next o t))) (sym (e ∙ ap (λ (k : ℕ). int.holds (comparison (k - 7)) (to_z w32 x) (to_z w32 y)) k-is))
-        (test-made c m p g l (k - 7) (to_z w32 x) (to_z w32 y) (next p.run.flag t) asked)
+        subst (λ (o : Bool). Made c m m p (spending p (next o t))) (sym e) (test-made c m p g l cmp (to_z w32 x) (to_z w32 y) (next p.run.flag t) asked)
 
   pub store-made : kind ≡ 22 → (k x t : ℕ) → Taking c m p.run p.run.pc (value_as k x) t → (m' : List ℕ) → length m' ≡ length m → Put m m' (variable_place p.run.depth (w % 16)) (cell_read_as k x)
       → Made c m m' p (running p (next p.run.flag t))

@@ -6,7 +6,7 @@ ghost use Rattle.std.specs.Int.{w32};
 ghost use Rattle.std.proofs.Common.{to_z};
 ghost use Rattle.semantics.specs.Int.{arith, holds as holds_of};
 ghost use Rattle.simulation.specs.Words.{c_add, c_call, c_store, code_in};
-ghost use Rattle.ints.specs.Numbers.{operation, comparison};
+ghost use Rattle.ints.specs.Meaning.{of_operation, of_comparison};
 ghost use Rattle.machine.specs.Memory.{cell_read_as};
 ghost use Rattle.machine.specs.Terms.{Ready, Put, Popped, Taking, Paired};
 ghost use Rattle.machine.specs.declared.Value.TheVariants.{Known};
@@ -16,6 +16,7 @@ ghost use Rattle.known_steps.specs.Cells.{value_as};
 ghost use Rattle.known_steps.specs.Turns.{Turns, Made, OneOrTwo, Result, One, moves, Passes};
 
 use code::entry;
+use ints::{Comparison, Operation};
 use machine::{Run, layout};
 use paths::Point;
 
@@ -130,18 +131,18 @@ fn first_word(kind: u32) -> u32
     if kind == 0 { 0 } else { 1 }
 }
 
-// The operation with this number, on words.
-fn operate(o: u32, x: u32, y: u32) -> u32
-    ensures { to_z w32 result ≡ arith (operation o) (to_z w32 x) (to_z w32 y) }
+// An operation, on words.
+fn operate(o: Operation, x: u32, y: u32) -> u32
+    ensures { to_z w32 result ≡ arith (of_operation o) (to_z w32 x) (to_z w32 y) }
 {
-    ints::word(ints::operate(o, ints::signed(x), ints::signed(y)))
+    ints::word(o.apply(ints::signed(x), ints::signed(y)))
 }
 
-// Whether the comparison with this number holds of two words.
-fn holds(c: u32, x: u32, y: u32) -> bool
-    ensures { result ≡ holds_of (comparison c) (to_z w32 x) (to_z w32 y) }
+// Whether a comparison holds of two words.
+fn holds(c: Comparison, x: u32, y: u32) -> bool
+    ensures { result ≡ holds_of (of_comparison c) (to_z w32 x) (to_z w32 y) }
 {
-    ints::holds(c, ints::signed(x), ints::signed(y))
+    c.holds(ints::signed(x), ints::signed(y))
 }
 
 // The assignment behind an operation whose value is v, if there is one.
@@ -183,7 +184,8 @@ fn work(
     let run = p.run;
     let b = pair(code, size, mem, run, d)?;
     if kind < entry::COMPARE {
-        let v = operate(kind - entry::ADD, b.left, b.right);
+        let operation = Operation::from(kind - entry::ADD);
+        let v = operate(operation, b.left, b.right);
         put(mem, layout::TEMPORARIES + layout::STRIDE * b.top, 0, v);
         let next = p.spend(Run {
             pc: run.pc + 1,
@@ -192,9 +194,10 @@ fn work(
         });
         return Some(assign(code, size, mem, next, v));
     }
+    let comparison = Comparison::from(kind - entry::COMPARE);
     Some(p.spend(Run {
         pc: run.pc + 1,
-        flag: holds(kind - entry::COMPARE, b.left, b.right),
+        flag: holds(comparison, b.left, b.right),
         top: b.top,
         ..run
     }))

@@ -83,11 +83,7 @@ fn close(t: Tally, ending: Ending) -> Answered
 fn ended(cut: bool) -> Ending
     ensures { close_of result ≡ closing cut }
 {
-    if cut {
-        Ending::Cuts
-    } else {
-        Ending::Whole
-    }
+    if cut { Ending::Cuts } else { Ending::Whole }
 }
 
 // With no choice left the search has ended; else the newest is taken back, which is a move.
@@ -104,7 +100,13 @@ fn go_back(mem: &mut [u32], n: usize, t: Tally) -> Result<(usize, Tally), Answer
 }
 
 // At a return: the settings are tried, then the way to the next path.
-fn at_return(mem: &mut [u32], p: Point, v: Value, t: Tally, rows: &mut [i32]) -> Result<(usize, Tally), Answered>
+fn at_return(
+    mem: &mut [u32],
+    p: Point,
+    v: Value,
+    t: Tally,
+    rows: &mut [i32],
+) -> Result<(usize, Tally), Answered>
     requires { Standing mem.old p × Room mem.old p.choices × Fair (length rows.old) t }
     ensures { Finished mem.old mem.new rows.old rows.new (path.returned (meant mem.old p.run.nodes v)) p t result }
 {

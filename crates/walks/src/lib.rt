@@ -42,7 +42,11 @@ fn compares(code: &[u32], size: usize, pc: usize) -> bool
     requires { 2 * size ≤ length code.now }
     ensures { (result ≡ true → Compares code.now size pc) × (result ≡ false → Compares code.now size pc → ⊥) }
 {
-    pc < size && matches!(code[entry::WORDS * pc], entry::COMPARE..=entry::COMPARE_LAST)
+    pc < size
+        && matches!(
+            code[entry::WORDS * pc],
+            entry::COMPARE..=entry::COMPARE_LAST
+        )
 }
 
 // Of each three steps that are left, two marks are kept back for checkpoints that are due later.

@@ -1,69 +1,11 @@
-use lib.ListN.{length}
 use Rattle.simulation.specs.Path.{returned, failed, cut}
 use Rattle.simulation.specs.Words.{code_in}
 use Rattle.intervals.specs.Meaning.{of_window}
 use Rattle.machine.specs.Memory.{outcomes_in}
 use Rattle.machine.specs.Terms.{meant}
 use Rattle.walks.specs.declared.Walked.TheVariants as Walked
-use Rattle.search.proofs.Rounds.{walked_as, paying-fair, room-few, round-ended, round-spent}
+use Rattle.search.proofs.Rounds.{walked_as, round-ended}
 use Rattle.search.proofs.round.Goals as goal
-
-pub leaving-requires-in-Returned : goal.leaving-requires-in-Returned
-leaving-requires-in-Returned c =
-    let x = code_in c.args.code.now c.args.size in
-    let job = of_window c.args.job in
-    let w = walked_as x job c.args.stack.limit c.args.t.budget (outcomes_in c.args.mem.now 0 c.args.forced) c.run_path.new.mem c.run_path.result (Walked.Returned c.in-Returned.v c.in-Returned.p c.in-Returned.s c.in-Returned.left) c.in-Returned.is c.run_path.ensures in
-    (w.0.rest, c.requires.4.sum)
-
-pub at_return-then-requires : goal.at_return-then-requires
-at_return-then-requires c =
-    let x = code_in c.args.code.now c.args.size in
-    let job = of_window c.args.job in
-    let w = walked_as x job c.args.stack.limit c.args.t.budget (outcomes_in c.args.mem.now 0 c.args.forced) c.run_path.new.mem c.run_path.result (Walked.Returned c.in-Returned.v c.in-Returned.p c.in-Returned.s c.in-Returned.left) c.in-Returned.is c.run_path.ensures in (
-      w.0.standing,
-      room-few c.args.mem.now c.run_path.new.mem c.in-Returned.p.choices c.args.stack.limit w.0.few c.run_path.auto.mem c.requires.2.stacked.room,
-      paying-fair c.args.t c.leaving-in-Returned.result c.in-Returned.left (length c.args.rows.now) c.leaving-in-Returned.ensures w.0.rest c.requires.4,
-    )
-
-pub leaving-requires-in-Failed : goal.leaving-requires-in-Failed
-leaving-requires-in-Failed c =
-    let x = code_in c.args.code.now c.args.size in
-    let job = of_window c.args.job in
-    let w = walked_as x job c.args.stack.limit c.args.t.budget (outcomes_in c.args.mem.now 0 c.args.forced) c.run_path.new.mem c.run_path.result (Walked.Failed c.in-Failed.p c.in-Failed.s c.in-Failed.left) c.in-Failed.is c.run_path.ensures in
-    (w.rest, c.requires.4.sum)
-
-pub at_fail-then-requires : goal.at_fail-then-requires
-at_fail-then-requires c =
-    let x = code_in c.args.code.now c.args.size in
-    let job = of_window c.args.job in
-    let w = walked_as x job c.args.stack.limit c.args.t.budget (outcomes_in c.args.mem.now 0 c.args.forced) c.run_path.new.mem c.run_path.result (Walked.Failed c.in-Failed.p c.in-Failed.s c.in-Failed.left) c.in-Failed.is c.run_path.ensures in (
-      room-few c.args.mem.now c.run_path.new.mem c.in-Failed.p.choices c.args.stack.limit w.few c.run_path.auto.mem c.requires.2.stacked.room,
-      (paying-fair c.args.t c.leaving-in-Failed.result c.in-Failed.left (length c.args.rows.now) c.leaving-in-Failed.ensures w.rest c.requires.4).sum,
-    )
-
-pub leaving-requires-in-Cut : goal.leaving-requires-in-Cut
-leaving-requires-in-Cut c =
-    let x = code_in c.args.code.now c.args.size in
-    let job = of_window c.args.job in
-    let w = walked_as x job c.args.stack.limit c.args.t.budget (outcomes_in c.args.mem.now 0 c.args.forced) c.run_path.new.mem c.run_path.result (Walked.Cut c.in-Cut.p c.in-Cut.s c.in-Cut.left) c.in-Cut.is c.run_path.ensures in
-    (w.rest, c.requires.4.sum)
-
-pub at_cut-then-requires : goal.at_cut-then-requires
-at_cut-then-requires c =
-    let x = code_in c.args.code.now c.args.size in
-    let job = of_window c.args.job in
-    let w = walked_as x job c.args.stack.limit c.args.t.budget (outcomes_in c.args.mem.now 0 c.args.forced) c.run_path.new.mem c.run_path.result (Walked.Cut c.in-Cut.p c.in-Cut.s c.in-Cut.left) c.in-Cut.is c.run_path.ensures in (
-      w.standing,
-      room-few c.args.mem.now c.run_path.new.mem c.in-Cut.p.choices c.args.stack.limit w.few c.run_path.auto.mem c.requires.2.stacked.room,
-      (paying-fair c.args.t c.leaving-in-Cut.result c.in-Cut.left (length c.args.rows.now) c.leaving-in-Cut.ensures w.rest c.requires.4).sum,
-    )
-
-pub returns-in-Spent : goal.returns-in-Spent
-returns-in-Spent c =
-    let x = code_in c.args.code.now c.args.size in
-    let job = of_window c.args.job in
-    let w = walked_as x job c.args.stack.limit c.args.t.budget (outcomes_in c.args.mem.now 0 c.args.forced) c.run_path.new.mem c.run_path.result Walked.Spent c.in-Spent.is c.run_path.ensures in
-    (round-spent x job c.args.stack.limit c.args.mem.now c.run_path.new.mem c.args.rows.now c.args.forced c.args.t w c.leaving.result c.leaving.ensures _ c.close.ensures, tt)
 
 pub returns-in-Returned : goal.returns-in-Returned
 returns-in-Returned c =

@@ -5,7 +5,7 @@ use lib.ListN.{length}
 use Rattle.simulation.specs.Words.{code_in}
 use Rattle.intervals.specs.Meaning.{of_window}
 use Rattle.search.proofs.Rounds.{begins-first, round-as, resumes-as}
-use Rattle.search.proofs.Searching.{between_first, between-fair, between-less, between_next, between-over}
+use Rattle.search.proofs.Searching.{between_first, between-less, between_next, between-over}
 use Rattle.search.proofs.run.Goals as goal
 
 pub loop-k-init : goal.loop-k-init
@@ -13,15 +13,6 @@ loop-k-init c = (
   between_first (code_in c.args.code.now c.args.size) (of_window c.args.job) c.args.limit c.args.skip (length c.args.rows.now / 10) c.args.budget c.args.mem.now c.args.rows.now,
   begins-first (code_in c.args.code.now c.args.size) (of_window c.args.job) c.args.mem.now c.args.limit c.in_use.result c.requires.2 c.in_use.ensures,
   refl,
-)
-
-pub round-rounded-requires : goal.round-rounded-requires
-round-rounded-requires c = (
-  c.requires.0,
-  c.requires.1,
-  c.loop-k.invariant.1,
-  c.requires.3,
-  between-fair (code_in c.args.code.now c.args.size) (of_window c.args.job) c.args.limit c.args.skip (length c.args.rows.now / 10) c.args.budget c.args.mem.now c.args.rows.now c.loop-k.mem c.loop-k.rows c.loop-k.forced c.loop-k.t c.loop-k.invariant.0 c.ranges.budget.fits (omega arith),
 )
 
 pub loop-k-smaller : goal.loop-k-smaller

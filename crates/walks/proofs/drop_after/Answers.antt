@@ -1,29 +1,12 @@
 use native.Mathlib.Omega.{arith}
 use mathlib.Core.Path.{refl, sym, ap, ◌∙◌, subst}
 use Prim.Native.Nat.{ℕ, ◌-◌}
-use Rattle.machine.proofs.Tables.{room-less}
-use Rattle.walks.proofs.Dropping.{Left, left-all, left_less, dropped-here, dropped-all}
+use Rattle.walks.proofs.Dropping.{Left, left_less, dropped-here, dropped-all}
 use Rattle.walks.proofs.drop_after.Goals as goal
-
--- src/lib.rt:126:5
-pub loop-w-init : goal.loop-w-init
-loop-w-init c = left-all c.args.mem.now c.args.s
-
--- src/lib.rt:127:13
-pub point_at-p-requires : goal.point_at-p-requires
-point_at-p-requires c = room-less _ (omega (arith, c.loop-w-test.true, c.loop-w.invariant.fewer)) c.requires.0
 
 -- src/lib.rt:129:13
 pub returns-then-p-i : goal.returns-then-p-i
 returns-then-p-i c = dropped-here c.args.mem.now c.args.s c.loop-w.w c.point_at-p.result c.args.i _ c.loop-w-test.true c.point_at-p.ensures.0 c.if-p-i.true c.loop-w.invariant refl
-
--- src/lib.rt:134:28
-pub size_of-requires : goal.size_of-requires
-size_of-requires c = (c.point_at-p.ensures.1, c.requires.1)
-
--- src/lib.rt:126:5
-pub loop-w-smaller : goal.loop-w-smaller
-loop-w-smaller c = omega (arith, c.saturating_sub-w.ensures, c.size_of.ensures, c.loop-w-test.true)
 
 -- src/lib.rt:126:5
 pub loop-w-preserved : goal.loop-w-preserved

@@ -1,19 +1,7 @@
-use native.Mathlib.Omega.{arith}
 use Rattle.simulation.specs.Words.{code_in}
 use Rattle.intervals.specs.Meaning.{of_window}
-use Rattle.walks.proofs.Beginning.{space-so, checkpoints-left, uses-left, cells_left, room-left, some-forced, some_left, first-stands, first_walks, ends-here, space-here, again-stands, again_walks}
+use Rattle.walks.proofs.Beginning.{checkpoints-left, uses-left, cells_left, room-left, some-forced, some_left, first-stands, first_walks, ends-here, space-here, again-stands, again_walks}
 use Rattle.walks.proofs.run_path.Goals as goal
-
--- src/lib.rt:174:9
-pub drop_after-s-requires : goal.drop_after-s-requires
-drop_after-s-requires c =
-    let x = code_in c.args.code.now c.args.size in
-    let job = of_window c.args.job in
-    (space-so x job c.args.mem.now c.args.forced c.args.stack c.requires.2, c.requires.2.stacked.cells)
-
--- src/lib.rt:176:13
-pub first-p-requires : goal.first-p-requires
-first-p-requires c = omega (arith, c.requires.2.stacked.room.words)
 
 -- src/lib.rt:177:9
 pub walk-requires : goal.walk-requires

@@ -21,10 +21,6 @@ loop-o-init c =
     let x = code_in c.args.code.now c.args.size in
     (begins-so x (of_window c.args.job) c.args.stack.limit c.args.budget (machine_at c.args.mem.now c.args.begins.run) (state_at c.args.mem.now c.args.begins) c.args.mem.now c.args.begins c.args.stack c.requires.2 refl refl refl, refl)
 
--- src/lib.rt:144:13
-pub pass-passed-requires : goal.pass-passed-requires
-pass-passed-requires c = (omega (arith, c.requires.0), c.requires.1, c.loop-o.invariant.0.stands.going)
-
 -- src/lib.rt:147:9
 pub keep-s-requires : goal.keep-s-requires
 keep-s-requires c =
@@ -59,10 +55,6 @@ returns-then-left-eq0 c =
     let here = turn in_use job x (machine_at c.keep-s.new.mem c.pass-passed.result.point.run) (state_at c.keep-s.new.mem c.pass-passed.result.point) in
     let g = turned_as here c.turn.new.mem c.pass-passed.result.point c.turn.result (Turned.On c.in-On.o c.in-On.q) c.in-On.is c.turn.ensures.0 in
     reaches-spent x job c.args.stack.limit c.args.budget y z c.keep-s.new.mem c.turn.new.mem c.pass-passed.result.point c.keep-s.result c.pass-passed.result.left r₁ c.in-On.q c.in-On.o g.0 c.if-o.true c.if-left-eq0.true
-
--- src/lib.rt:154:21
-pub overflow_sub-left : goal.overflow_sub-left
-overflow_sub-left c = omega (arith, c.if-left-eq0.false)
 
 -- src/lib.rt:143:5
 pub loop-o-smaller-else-left-eq0 : goal.loop-o-smaller-else-left-eq0
