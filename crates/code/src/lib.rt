@@ -21,20 +21,20 @@ pub enum Entry {
     Number(i32),
     Name(Address),
     // The end of an argument, whose code is so many entries long.
-    Argument(usize),
+    Argument(u32),
     // An operation or a comparison of two operands, the right one of which has so many entries.
-    Operate(Operation, usize),
-    Compare(Comparison, usize),
+    Operate(Operation, u32),
+    Compare(Comparison, u32),
     // A call of a function, by its number, with so many arguments.
     Call { function: usize, count: usize },
     // The flag is set to this.
     Constant(bool),
     // Forward over so many entries, if the flag is as said.
-    Jump { flag: bool, over: usize },
+    Jump { flag: bool, over: u32 },
     // Forward over so many entries.
-    Skip(usize),
+    Skip(u32),
     // Back by so many entries, to a while's condition.
-    Again(usize),
+    Again(u32),
     // A statement begun.
     Begin,
     // A variable declared free.
