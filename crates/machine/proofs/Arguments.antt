@@ -4,18 +4,18 @@ use mathlib.Core.List.{List, [], ◌∷◌, ◌++◌, map}
 use mathlib.Core.Logic.{⊎_elim, ◌≢◌}
 use Prim.Native.Nat.{ℕ, zero, suc, ◌+◌, ◌-◌, ◌*◌, ◌≤◌, ◌<◌}
 use native.Mathlib.Omega.{arith}
-use lib.ListN.{length, get_or, set, drop, replicate, length-set, get_or-eq_default}
-use lib.Seq.{get_or-set_same, get_or-set_other, get_or-take, get_or-drop}
+use lib.ListN.{length, get_or, set, replicate, length-set, get_or-eq_default}
+use lib.Seq.{get_or-set_same, get_or-set_other}
 use lib.IntN.{pos}
 use Rattle.semantics.specs.Does.{frame}
 use Rattle.semantics.specs.Search as search
 use Rattle.semantics.specs.Search.{known}
-use Rattle.simulation.specs.Code.{Code, Entry, act, Act}
+use Rattle.simulation.specs.Code.{Code, act, Act}
 use Rattle.simulation.specs.Machine.{machine, Doing, extent, before, gather, entering}
 use Rattle.simulation.specs.Nodes as nodes
 use Rattle.simulation.specs.Nodes.{Cell, Within, meaning}
-use Rattle.simulation.specs.Words.{kinds, entries_in, entry_of, code_in}
-use Rattle.simulation.proofs.Words.{entry_in, length-entries}
+use Rattle.code.specs.Meaning.{as_entry}
+use Rattle.code.specs.declared.Entry as C
 use Rattle.machine.specs.Layout.{frame_cells, frame_words, frame_place, variable_place, cell_place, caller_place, caller_base}
 use Rattle.machine.specs.Memory.{Sym, cell_read_as, cell_at, nodes_in, cells, temps, frame_at, callers}
 use Rattle.machine.specs.Terms.{cell_of, Stacked, Ready, Other, Kept, Put, Reads, Taking, Blank, topped, Gathering, Goes, acts}
@@ -36,37 +36,12 @@ zero-cells f g m i (suc k) h =
 
 -- ---- how long an argument is
 
-module _ (ws : List ℕ) (size e : ℕ) where
-  extent-entry : e < size → extent (get_or (code_in ws size).entries e (act Act.fail)) ≡ extent (entry_of (get_or ws (2 * e) 0) (get_or ws (2 * e + 1) 0))
-  extent-entry h = ap extent (entry_in ws 0 size e h ∙ ap₂ (λ i j. entry_of (get_or ws i 0) (get_or ws j 0)) {x = 0 + 2 * e} {y = 2 * e} {u = suc (0 + 2 * e)} {v = 2 * e + 1} (omega arith) (omega arith))
+module _ (c : Code) (e : ℕ) where
+  pub extent-is : (x : C.Entry) (d : ℕ) → as_entry x ≡ get_or c.entries e (act Act.fail) → d ≡ extent (as_entry x) → d ≡ extent (get_or c.entries e (act Act.fail))
+  extent-is x d q p = p ∙ ap extent q
 
-  pub extent-is : e < size → get_or ws (2 * e) 0 ≡ 3 → get_or ws (2 * e + 1) 0 ≡ extent (get_or (code_in ws size).entries e (act Act.fail))
-  unfolding entry_of
-  extent-is h q = sym (extent-entry h ∙ ap (λ k. extent (entry_of k (get_or ws (2 * e + 1) 0))) q)
-
-  abbrev Nones : List Entry → Type 0
-  Nones [] = Unit {0}
-  Nones (x ∷ l) = (extent x ≡ 0) × Nones l
-
-  nones-at : (l : List Entry) (k : ℕ) → Nones l → extent (get_or l k (act Act.fail)) ≡ 0
-  nones-at [] k h = refl
-  nones-at (x ∷ l) zero h = h.0
-  nones-at (x ∷ l) (suc k) h = nones-at l k h.1
-
-  extent-kind : (k w : ℕ) → (k ≡ 3 → ⊥) → extent (entry_of k w) ≡ 0
-  unfolding entry_of
-  extent-kind zero w h = refl
-  extent-kind (suc zero) w h = refl
-  extent-kind (suc (suc zero)) w h = refl
-  extent-kind (suc (suc (suc zero))) w h = absurd (h refl)
-  extent-kind (suc (suc (suc (suc k)))) w h = nones-at (drop 4 (kinds w)) k
-      (refl, (refl, (refl, (refl, (refl, (refl, (refl, (refl, (refl, (refl, (refl, (refl, (refl, (refl, (refl, (refl, (refl, (refl, (refl, (refl, (refl, tt)))))))))))))))))))))
-
-  pub extent-other : e < size → (get_or ws (2 * e) 0 ≡ 3 → ⊥) → 0 ≡ extent (get_or (code_in ws size).entries e (act Act.fail))
-  extent-other h q = sym (extent-entry h ∙ extent-kind (get_or ws (2 * e) 0) (get_or ws (2 * e + 1) 0) q)
-
-  pub extent-out : size ≤ e → 0 ≡ extent (get_or (code_in ws size).entries e (act Act.fail))
-  extent-out h = sym (ap extent (get_or-eq_default (entries_in ws 0 size) (act Act.fail) {n = e} (omega (arith, length-entries ws 0 size))))
+  pub extent-out : length c.entries ≤ e → 0 ≡ extent (get_or c.entries e (act Act.fail))
+  extent-out h = sym (ap extent (get_or-eq_default c.entries (act Act.fail) {n = e} h))
 
 -- ---- arguments
 
@@ -124,10 +99,7 @@ module _ (m m₂ : List ℕ) (r : Run) (ready : Ready m r) (deep : r.depth < 32)
     callers-next : callers f m r.depth r.base ≡ callers f m₂ r.depth r.base
     callers-next = callers-stay m m₂ r (r.depth + 1) r.top r.nodes same_next ready (omega arith) (omega arith) f f (λ v h. refl) (omega arith) ready.low
 
-module _ (ws : List ℕ) (size : ℕ) (m : List ℕ) (r : Run) (n : ℕ) (deep : r.depth < 32) where
-  abbrev c : Code
-  c = code_in ws size
-
+module _ (c : Code) (m : List ℕ) (r : Run) (n : ℕ) (deep : r.depth < 32) where
   abbrev next-at : ℕ
   next-at = frame_place (r.depth + 1)
 
@@ -158,11 +130,11 @@ module _ (ws : List ℕ) (size : ℕ) (m : List ℕ) (r : Run) (n : ℕ) (deep :
 
   -- one argument more
   module _ (m₁ m₂ : List ℕ) (k j top : ℕ) (g : Gathering c m m₁ r n (suc k) j top) (v : Value) (top₂ : ℕ) (t : Taking c m₁ (topped r top) (before j) v top₂) where
-    gather-one : (f : Cell → Sym) → Reads f → (d : ℕ) → d ≡ extent (get_or (code_in ws size).entries (before j) (act Act.fail))
+    gather-one : (f : Cell → Sym) → Reads f → (d : ℕ) → d ≡ extent (get_or c.entries (before j) (act Act.fail))
         → gather known search.work c (frame_at f m₁ r.depth) (temps f m₁ r.base (top - r.base)) (suc k) j (map f g.values)
         ≡ gather known search.work c (frame_at f m₁ r.depth) (temps f m₁ r.base (top₂ - r.base)) k (before j - d) (f (cell_of v) ∷ map f g.values)
     unfolding gather
-    gather-one f h d e = ap (λ u. gather known search.work c (frame_at f m₁ r.depth) u.rest k (before j - extent (get_or (code_in ws size).entries (before j) (act Act.fail)))
+    gather-one f h d e = ap (λ u. gather known search.work c (frame_at f m₁ r.depth) u.rest k (before j - extent (get_or c.entries (before j) (act Act.fail)))
         (u.value ∷ map f g.values)) (t.is f h)
         ∙ ap (λ d. gather known search.work c (frame_at f m₁ r.depth) (temps f m₁ r.base (top₂ - r.base)) k (before j - d) (f (cell_of v) ∷ map f g.values)) (sym e)
 
@@ -170,7 +142,7 @@ module _ (ws : List ℕ) (size : ℕ) (m : List ℕ) (r : Run) (n : ℕ) (deep :
     ready₁ = topped-ready m₁ (topped r top) top₂ g.ready t.low t.high
 
     -- past the frame
-    gathering-past : (d : ℕ) → d ≡ extent (get_or (code_in ws size).entries (before j) (act Act.fail)) → 16 ≤ k → Gathering c m m₁ r n k (before j - d) top₂
+    gathering-past : (d : ℕ) → d ≡ extent (get_or c.entries (before j) (act Act.fail)) → 16 ≤ k → Gathering c m m₁ r n k (before j - d) top₂
     gathering-past d e h = record {
       values = cell_of v ∷ g.values;
       is = λ f u. g.is f u ∙ gather-one f u d e;
@@ -182,7 +154,7 @@ module _ (ws : List ℕ) (size : ℕ) (m : List ℕ) (r : Run) (n : ℕ) (deep :
     }
 
     -- into its cell
-    gathering-one : (d : ℕ) → d ≡ extent (get_or (code_in ws size).entries (before j) (act Act.fail)) → k < 16 → length m₂ ≡ length m₁ → Put m₁ m₂ (next-at + 2 * k) (cell_of v)
+    gathering-one : (d : ℕ) → d ≡ extent (get_or c.entries (before j) (act Act.fail)) → k < 16 → length m₂ ≡ length m₁ → Put m₁ m₂ (next-at + 2 * k) (cell_of v)
         → Gathering c m m₂ r n k (before j - d) top₂
     gathering-one d e h len p = record {
       values = cell_of v ∷ g.values;
@@ -206,7 +178,7 @@ module _ (ws : List ℕ) (size : ℕ) (m : List ℕ) (r : Run) (n : ℕ) (deep :
         apart i l z = ap₂ cell_read_as (p.other.outside (next-at + 2 * i) (λ x y. z (omega arith))) (p.other.outside (next-at + 2 * i + 1) (λ x y. z (omega arith)))
 
   -- a turn of the loop
-  module _ (m₁ : List ℕ) (e : ℕ) (v : Value) (top top₂ d j₂ : ℕ) (t : Taking c m₁ (topped r top) e v top₂) (de : d ≡ extent (get_or (code_in ws size).entries e (act Act.fail))) (je : j₂ ≡ e - d) where
+  module _ (m₁ : List ℕ) (e : ℕ) (v : Value) (top top₂ d j₂ : ℕ) (t : Taking c m₁ (topped r top) e v top₂) (de : d ≡ extent (get_or c.entries e (act Act.fail))) (je : j₂ ≡ e - d) where
     at_before : (j : ℕ) → e ≡ j - 1 → before j ≡ e
     at_before j q = before-is j ∙ sym q
 
@@ -217,7 +189,7 @@ module _ (ws : List ℕ) (size : ℕ) (m : List ℕ) (r : Run) (n : ℕ) (deep :
         let b = at_before j q in
         subst₂ (λ (a u : ℕ). Gathering c m m₂ r n a u top₂) {x = k} {y = suc k - 1} (omega arith) (ap (λ (x : ℕ). x - d) b ∙ sym je)
         (gathering-one m₁ m₂ k j top g v top₂ (subst (λ (x : ℕ). Taking c m₁ (topped r top) x v top₂) (sym b) t) d
-        (de ∙ ap (λ (x : ℕ). extent (get_or (code_in ws size).entries x (act Act.fail))) (sym b)) (omega arith) len
+        (de ∙ ap (λ (x : ℕ). extent (get_or c.entries x (act Act.fail))) (sym b)) (omega arith) len
         (subst (λ (x : ℕ). Put m₁ m₂ (next-at + 2 * x) (cell_of v)) {x = suc k - 1} {y = k} (omega arith) p))
 
     pub gathering-skip : (k j : ℕ) → 0 < k → e ≡ j - 1 → Gathering c m m₁ r n k j top → 16 ≤ k - 1 → Gathering c m m₁ r n (k - 1) j₂ top₂
@@ -226,20 +198,12 @@ module _ (ws : List ℕ) (size : ℕ) (m : List ℕ) (r : Run) (n : ℕ) (deep :
         let b = at_before j q in
         subst₂ (λ (a u : ℕ). Gathering c m m₁ r n a u top₂) {x = k} {y = suc k - 1} (omega arith) (ap (λ (x : ℕ). x - d) b ∙ sym je)
         (gathering-past m₁ m₁ k j top g v top₂ (subst (λ (x : ℕ). Taking c m₁ (topped r top) x v top₂) (sym b) t) d
-        (de ∙ ap (λ (x : ℕ). extent (get_or (code_in ws size).entries x (act Act.fail))) (sym b)) (omega arith))
+        (de ∙ ap (λ (x : ℕ). extent (get_or c.entries x (act Act.fail))) (sym b)) (omega arith))
 
 -- ---- a call
 
-any-default : {A : Type 0} (l : List A) (i : ℕ) (d e : A) → i < length l → get_or l i d ≡ get_or l i e
-any-default [] i d e h = absurd (omega arith)
-any-default (x ∷ l) zero d e h = refl
-any-default (x ∷ l) (suc i) d e h = any-default l i d e (omega arith)
-
-start_is : (ws : List ℕ) (size g : ℕ) → 2 * size + 16 ≤ length ws → g < 16 → get_or (code_in ws size).starts g 2 ≡ get_or ws (2 * size + g) 0
-start_is ws size g h l = get_or-take 16 (drop (2 * size) ws) g 2 l ∙ get_or-drop (2 * size) ws g 2 ∙ any-default ws (2 * size + g) 2 0 (omega arith)
-
-module _ (ws : List ℕ) (size : ℕ) (m m₂ : List ℕ) (r : Run) (g n top : ℕ) (long : 2 * size + 16 ≤ length ws) (ready : Ready m r) (deep : r.depth < 32) (gl : g < 16) (len : length m₂ ≡ length m)
-    (s : Gathering (code_in ws size) m m₂ r n 0 0 top) where
+module _ (c : Code) (m m₂ : List ℕ) (r : Run) (g n top : ℕ) (ready : Ready m r) (deep : r.depth < 32) (len : length m₂ ≡ length m)
+    (s : Gathering c m m₂ r n 0 0 top) where
   abbrev m₃ : List ℕ
   m₃ = set (set m₂ (caller_place r.depth) (r.pc + 1)) (caller_base r.depth) r.base
 
@@ -307,24 +271,24 @@ module _ (ws : List ℕ) (size : ℕ) (m m₂ : List ℕ) (r : Run) (g n top : �
   unfolding temps
   temps-new = ap (temps f₀ m₃ top) {x = 0} {y = top - top} (omega arith)
 
-  entering-is : (d : ℕ) → 32 - r.depth ≡ suc d → acts (code_in ws size) m r (Act.call g n)
-      ≡ Doing.step (machine (get_or (code_in ws size).starts g 2) r.flag [] (frame (known (pos 0)) 16 (map f₀ s.values))
+  entering-is : (d : ℕ) → 32 - r.depth ≡ suc d → acts c m r (Act.call g n)
+      ≡ Doing.step (machine (get_or c.starts g 2) r.flag [] (frame (known (pos 0)) 16 (map f₀ s.values))
       (record { pc = suc r.pc; temps = temps f₀ m₂ r.base (top - r.base); frame = frame_at f₀ m r.depth } ∷ callers f₀ m r.depth r.base) d)
   unfolding gather
   entering-is d e =
-      ap (λ k. entering known search.work (code_in ws size) k g (gather known search.work (code_in ws size) (frame_at f₀ m r.depth) (temps f₀ m r.base (r.top - r.base)) n r.pc []) r.pc
+      ap (λ k. entering known search.work c k g (gather known search.work c (frame_at f₀ m r.depth) (temps f₀ m r.base (r.top - r.base)) n r.pc []) r.pc
       r.flag (frame_at f₀ m r.depth) (callers f₀ m r.depth r.base)) e
-      ∙ ap (λ a. entering known search.work (code_in ws size) (suc d) g a r.pc r.flag (frame_at f₀ m r.depth) (callers f₀ m r.depth r.base)) (s.is f₀ (reads (nodes_in m r.nodes)))
+      ∙ ap (λ a. entering known search.work c (suc d) g a r.pc r.flag (frame_at f₀ m r.depth) (callers f₀ m r.depth r.base)) (s.is f₀ (reads (nodes_in m r.nodes)))
 
   stacked₃ : Stacked m₃ (r.depth + 1) top
   stacked₃ = subst (λ (k : ℕ). Stacked m₃ k top) {x = suc r.depth} {y = r.depth + 1} (omega arith)
       (rw saved-base (s.ready.low, stacked-same same₃ r.depth r.base (omega arith) s.ready.stack))
 
-  pub entered : Goes Doing.step 1 (acts (code_in ws size) m r (Act.call g n)) m r.nodes m₃
-      (record { pc = get_or ws (2 * size + g) 0; flag = r.flag; base = top; top = top; depth = r.depth + 1; nodes = r.nodes })
+  pub entered : Goes Doing.step 1 (acts c m r (Act.call g n)) m r.nodes m₃
+      (record { pc = get_or c.starts g 2; flag = r.flag; base = top; top = top; depth = r.depth + 1; nodes = r.nodes })
   entered = record {
-    is = entering-is (31 - r.depth) (omega arith) ∙ (λ i. Doing.step (machine (start_is ws size g long gl i) r.flag (temps-new i) (frame-new i) (callers-new i) (left_is i)))
-        ∙ ap (λ l. Doing.step (machine (get_or ws (2 * size + g) 0) r.flag (temps (meaning l) m₃ top (top - top)) (frame_at (meaning l) m₃ (r.depth + 1))
+    is = entering-is (31 - r.depth) (omega arith) ∙ (λ i. Doing.step (machine (get_or c.starts g 2) r.flag (temps-new i) (frame-new i) (callers-new i) (left_is i)))
+        ∙ ap (λ l. Doing.step (machine (get_or c.starts g 2) r.flag (temps (meaning l) m₃ top (top - top)) (frame_at (meaning l) m₃ (r.depth + 1))
         (callers (meaning l) m₃ (r.depth + 1) top) (32 - (r.depth + 1)))) (sym (nodes-kept kept₃ r.nodes (omega arith)));
     ready = record {
       deep = omega arith;

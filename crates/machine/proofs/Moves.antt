@@ -16,7 +16,6 @@ use Rattle.simulation.specs.Machine.{machine, Doing}
 use Rattle.simulation.specs.Nodes as nodes
 use Rattle.simulation.specs.Nodes.{Cell, Node, unknown, operation, Within, meaning, working}
 use Rattle.simulation.proofs.Nodes.{working-ok, working-grows, adding-ok}
-use Rattle.simulation.specs.Words.{code_in}
 use Rattle.machine.specs.Layout.{frame_cells, frame_place, variable_place, cell_place, caller_place, caller_base, temp_place, node_place, node_left, node_right, node_end}
 use Rattle.machine.specs.Memory.{Sym, cell_read_as, cell_at, node_at, nodes_in, temps, frame_at, callers, machine_at}
 use Rattle.machine.specs.Terms.{cell_of, Room, Ready, Other, Kept, Put, Noded, Worked, Formed, Reads, Taking, Paired, Goes, acts, storing, Asked}
@@ -206,9 +205,9 @@ module _ (m m₁ m₂ : List ℕ) (r : Run) (t n a : ℕ) (v : Cell) (ready : Re
 other_none : (m : List ℕ) (i j : ℕ) → Other m m i j
 other_none m i j = record { outside = λ k l. refl }
 
-module _ (ws : List ℕ) (size : ℕ) (m m₂ : List ℕ) (r : Run) (a : ℕ) (v : Value) (t : ℕ) (ready : Ready m r) (l : a < 16) (len : length m₂ ≡ length m)
-    (b : Taking (code_in ws size) m r r.pc v t) (p : Put m m₂ (variable_place r.depth a) (cell_of v)) where
-  pub stored : Goes Doing.silent 0 (acts (code_in ws size) m r (Act.store (slot a))) m r.nodes m₂
+module _ (c : Code) (m m₂ : List ℕ) (r : Run) (a : ℕ) (v : Value) (t : ℕ) (ready : Ready m r) (l : a < 16) (len : length m₂ ≡ length m)
+    (b : Taking c m r r.pc v t) (p : Put m m₂ (variable_place r.depth a) (cell_of v)) where
+  pub stored : Goes Doing.silent 0 (acts c m r (Act.store (slot a))) m r.nodes m₂
       (record { pc = r.pc + 1; flag = r.flag; base = r.base; top = t; depth = r.depth; nodes = r.nodes })
   stored = varied-goes m m m₂ r t r.nodes a (cell_of v) ready b.low b.high (omega arith) ready.few len l (other_none m _ _) p b.within Doing.silent _ refl
       (ap (λ u. Doing.silent (machine (suc r.pc) r.flag u.rest (store (frame_at (meaning (nodes_in m r.nodes)) m r.depth) (slot a) u.value)
@@ -249,11 +248,11 @@ asked m m₁ m₂ r a k ready l room len q p = record {
 
 -- ---- a return
 
-module _ (ws : List ℕ) (size : ℕ) (m m₂ : List ℕ) (pc : ℕ) (flag : Bool) (base top d nds : ℕ) (v : Value) (t : ℕ) where
+module _ (c : Code) (m m₂ : List ℕ) (pc : ℕ) (flag : Bool) (base top d nds : ℕ) (v : Value) (t : ℕ) where
   abbrev inner : Run
   inner = record { pc = pc; flag = flag; base = base; top = top; depth = suc d; nodes = nds }
 
-  module _ (ready : Ready m inner) (room : Room m (base + 1)) (len : length m₂ ≡ length m) (b : Taking (code_in ws size) m inner pc v t) (p : Put m m₂ (temp_place base) (cell_of v)) where
+  module _ (ready : Ready m inner) (room : Room m (base + 1)) (len : length m₂ ≡ length m) (b : Taking c m inner pc v t) (p : Put m m₂ (temp_place base) (cell_of v)) where
     abbrev base₂ : ℕ
     base₂ = get_or m (caller_base d) 0
 
@@ -298,7 +297,7 @@ module _ (ws : List ℕ) (size : ℕ) (m m₂ : List ℕ) (pc : ℕ) (flag : Boo
     callers-left : callers g₀ m d base₂ ≡ callers g₂ m₂ d base₂
     callers-left = callers-same same_left g₀ g₂ agree_left d base₂ (omega arith) (omega arith) base-le ready.stack.1 (λ j l. ready.framed j (omega arith)) held-left
 
-    left : Goes Doing.silent 0 (acts (code_in ws size) m inner Act.return) m nds m₂ (record { pc = get_or m (caller_place d) 0; flag = flag; base = base₂; top = base + 1; depth = d; nodes = nds })
+    left : Goes Doing.silent 0 (acts c m inner Act.return) m nds m₂ (record { pc = get_or m (caller_place d) 0; flag = flag; base = base₂; top = base + 1; depth = d; nodes = nds })
     unfolding callers
     left = record {
       is = ap (λ u. Doing.silent (machine (get_or m (caller_place d) 0) flag (u.value ∷ temps g₀ m base₂ (base - base₂)) (frame_at g₀ m d) (callers g₀ m d base₂) (suc (32 - suc d))))
@@ -324,19 +323,19 @@ module _ (ws : List ℕ) (size : ℕ) (m m₂ : List ℕ) (pc : ℕ) (flag : Boo
         left_is : suc (32 - suc d) ≡ 32 - d
         left_is = omega (arith, ready.deep)
 
-left-deep : (ws : List ℕ) (size : ℕ) (m m₂ : List ℕ) (pc : ℕ) (flag : Bool) (base top depth nds : ℕ) (v : Value) (t : ℕ) → 1 ≤ depth
+left-deep : (c : Code) (m m₂ : List ℕ) (pc : ℕ) (flag : Bool) (base top depth nds : ℕ) (v : Value) (t : ℕ) → 1 ≤ depth
     → Ready m (record { pc = pc; flag = flag; base = base; top = top; depth = depth; nodes = nds }) → Room m (base + 1) → length m₂ ≡ length m
-    → Taking (code_in ws size) m (record { pc = pc; flag = flag; base = base; top = top; depth = depth; nodes = nds }) pc v t → Put m m₂ (temp_place base) (cell_of v)
-    → Goes Doing.silent 0 (acts (code_in ws size) m (record { pc = pc; flag = flag; base = base; top = top; depth = depth; nodes = nds }) Act.return) m nds m₂
+    → Taking c m (record { pc = pc; flag = flag; base = base; top = top; depth = depth; nodes = nds }) pc v t → Put m m₂ (temp_place base) (cell_of v)
+    → Goes Doing.silent 0 (acts c m (record { pc = pc; flag = flag; base = base; top = top; depth = depth; nodes = nds }) Act.return) m nds m₂
     (record { pc = get_or m (caller_place (depth - 1)) 0; flag = flag; base = get_or m (caller_base (depth - 1)) 0; top = base + 1; depth = depth - 1; nodes = nds })
-left-deep ws size m m₂ pc flag base top zero nds v t h ready room len b p = absurd (omega arith)
-left-deep ws size m m₂ pc flag base top (suc d) nds v t h ready room len b p =
-    subst (λ (k : ℕ). Goes Doing.silent 0 (acts (code_in ws size) m (record { pc = pc; flag = flag; base = base; top = top; depth = suc d; nodes = nds }) Act.return) m nds m₂
+left-deep c m m₂ pc flag base top zero nds v t h ready room len b p = absurd (omega arith)
+left-deep c m m₂ pc flag base top (suc d) nds v t h ready room len b p =
+    subst (λ (k : ℕ). Goes Doing.silent 0 (acts c m (record { pc = pc; flag = flag; base = base; top = top; depth = suc d; nodes = nds }) Act.return) m nds m₂
     (record { pc = get_or m (caller_place k) 0; flag = flag; base = get_or m (caller_base k) 0; top = base + 1; depth = k; nodes = nds })) {x = d} {y = suc d - 1} (omega arith)
-    (left ws size m m₂ pc flag base top d nds v t ready room len b p)
+    (left c m m₂ pc flag base top d nds v t ready room len b p)
 
-pub left-from : (ws : List ℕ) (size : ℕ) (m m₂ : List ℕ) (r : Run) (v : Value) (t : ℕ) → 1 ≤ r.depth → Ready m r → Room m (r.base + 1) → length m₂ ≡ length m
-    → Taking (code_in ws size) m r r.pc v t → Put m m₂ (temp_place r.base) (cell_of v)
-    → Goes Doing.silent 0 (acts (code_in ws size) m r Act.return) m r.nodes m₂
+pub left-from : (c : Code) (m m₂ : List ℕ) (r : Run) (v : Value) (t : ℕ) → 1 ≤ r.depth → Ready m r → Room m (r.base + 1) → length m₂ ≡ length m
+    → Taking c m r r.pc v t → Put m m₂ (temp_place r.base) (cell_of v)
+    → Goes Doing.silent 0 (acts c m r Act.return) m r.nodes m₂
     (record { pc = get_or m (caller_place (r.depth - 1)) 0; flag = r.flag; base = get_or m (caller_base (r.depth - 1)) 0; top = r.base + 1; depth = r.depth - 1; nodes = r.nodes })
-left-from ws size m m₂ r v t h ready room len b p = left-deep ws size m m₂ r.pc r.flag r.base r.top r.depth r.nodes v t h ready room len b p
+left-from c m m₂ r v t h ready room len b p = left-deep c m m₂ r.pc r.flag r.base r.top r.depth r.nodes v t h ready room len b p

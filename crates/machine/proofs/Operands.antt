@@ -6,25 +6,27 @@ use Prim.Native.Nat.{ℕ, zero, suc, ◌+◌, ◌-◌, ◌*◌, ◌%◌, ◌≤�
 use native.Mathlib.Nat.{le_trans}
 use native.Mathlib.Numerals.{add-one}
 use native.Mathlib.Omega.{arith}
-use lib.ListN.{get_or, drop, get_or-eq_default}
+use lib.ListN.{length, get_or, get_or-eq_default}
 use lib.IntN.{ℤ, pos}
 use mir.Syntax.{w32}
-use mir.Val.{to_z, SFits}
+use mir.Val.{SFits}
 use Rattle.semantics.specs.Int as int
 use Rattle.semantics.specs.Int.{Op}
 use Rattle.semantics.specs.Search as search
 use Rattle.semantics.specs.Search.{known}
-use Rattle.simulation.specs.Code.{Code, Entry, act, Act}
+use Rattle.simulation.specs.Code.{Code, act, Act}
 use Rattle.simulation.specs.Machine.{popped, reading, taken}
 use Rattle.simulation.specs.Nodes as nodes
 use Rattle.simulation.specs.Nodes.{Node, operation, Within, adding, working}
-use Rattle.simulation.specs.Words.{kinds, entries_in, entry_of, code_in}
-use Rattle.simulation.proofs.Words.{entry_in, length-entries}
+use Rattle.code.specs.Meaning.{as_entry}
+use Rattle.code.specs.declared.Entry as C
+use Rattle.code.specs.declared.Entry.TheVariants as code
 use Rattle.ints.specs.Numbers as numbers
 use Rattle.machine.specs.Kinds.{node_op, left_open, right_open}
 use Rattle.machine.specs.Layout.{frame_cells, frame_place, variable_place, cell_place, temp_place, node_place, node_end}
 use Rattle.machine.specs.Memory.{Sym, cell_read_as, cell_at, node_as, node_at, nodes_in, cells, temps, frame_at}
-use Rattle.machine.specs.Terms.{cell_of, Ready, Holds, Other, Kept, Noded, Worked, Popped, Taking, Paired, topped}
+use Rattle.code.specs.declared.Address.{Address}
+use Rattle.machine.specs.Terms.{nowhere, cell_of, Ready, Holds, Other, Kept, Noded, Worked, Popped, Taking, Paired, topped}
 use Rattle.machine.specs.declared.Value.{Value}
 use Rattle.machine.specs.declared.Value.TheVariants.{Known, Open}
 use Rattle.machine.specs.declared.Run.{Run}
@@ -85,7 +87,7 @@ worked-both m n o v w x y z f a b e = record {
 pub popped-none : (m : List ℕ) (r : Run) → r.top ≡ r.base → Popped m r (Known (pos 0)) r.top
 unfolding temps
 popped-none m r e = record {
-  is = λ f g. ap (λ n. popped known search.work (code_in [] 0) (temps f m r.base n)) n₀ ∙ ap₂ (λ x n. record { value = x; rest = temps f m r.base n }) (sym (g (pos 0))) (sym n₀);
+  is = λ f g. ap (λ n. popped known search.work nowhere (temps f m r.base n)) n₀ ∙ ap₂ (λ x n. record { value = x; rest = temps f m r.base n }) (sym (g (pos 0))) (sym n₀);
   low = omega arith;
   high = omega arith;
   sized = record { sfits = omega arith };
@@ -98,7 +100,7 @@ popped-none m r e = record {
 pub popped-one : (m : List ℕ) (r : Run) (v : Value) → Ready m r → (r.top ≡ r.base → ⊥) → Holds m (temp_place (r.top - 1)) v → Popped m r v (r.top - 1)
 unfolding temps
 popped-one m r v h e q = record {
-  is = λ f g. ap (λ n. popped known search.work (code_in [] 0) (temps f m r.base n)) {x = r.top - r.base} {y = suc (r.top - 1 - r.base)} (omega (arith, h.low))
+  is = λ f g. ap (λ n. popped known search.work nowhere (temps f m r.base n)) {x = r.top - r.base} {y = suc (r.top - 1 - r.base)} (omega (arith, h.low))
       ∙ ap (λ x. record { value = f x; rest = temps f m r.base (r.top - 1 - r.base) })
       (ap (λ i. cell_at m (temp_place i)) {x = r.base + (r.top - 1 - r.base)} {y = r.top - 1} (omega (arith, h.low)) ∙ sym q.is);
   low = omega (arith, h.low);
@@ -113,77 +115,51 @@ cells_at f m i zero w d h = absurd (omega arith)
 cells_at f m i (suc n) zero d h = ap (λ i. f (cell_at m i)) (omega arith)
 cells_at f m i (suc n) (suc w) d h = cells_at f m (i + 2) n w d (omega arith) ∙ ap (λ i. f (cell_at m i)) (omega arith)
 
-module _ (ws : List ℕ) (size : ℕ) where
-  abbrev c : Code
-  c = code_in ws size
-
-  taken_out : (f ts : List Sym) (j : ℕ) → (j ≡ 0) ⊎ (size < j) → taken known search.work c f ts j ≡ popped known search.work (code_in [] 0) ts
+module _ (c : Code) where
+  taken_out : (f ts : List Sym) (j : ℕ) → (j ≡ 0) ⊎ (length c.entries < j) → taken known search.work c f ts j ≡ popped known search.work nowhere ts
   taken_out f ts zero h = refl
   taken_out f ts (suc r) (inl e) = absurd (omega arith)
-  taken_out f ts (suc r) (inr l) = ap (reading known search.work c f ts) (get_or-eq_default (entries_in ws 0 size) (act Act.fail) {n = r} (omega (arith, length-entries ws 0 size)))
+  taken_out f ts (suc r) (inr l) = ap (reading known search.work c f ts) (get_or-eq_default c.entries (act Act.fail) {n = r} (omega arith))
 
-  taken-entry : (f ts : List Sym) (j : ℕ) → (j ≡ 0 → ⊥) → (size < j → ⊥) → taken known search.work c f ts j
-      ≡ reading known search.work c f ts (entry_of (get_or ws (2 * (j - 1)) 0) (get_or ws (2 * (j - 1) + 1) 0))
-  taken-entry f ts zero h k = absurd (h refl)
-  taken-entry f ts (suc r) h k =
-      ap (reading known search.work c f ts) (entry_in ws 0 size r (omega arith) ∙ ap₂ (λ i j. entry_of (get_or ws i 0) (get_or ws j 0)) {x = 0 + 2 * r} {y = 2 * (suc r - 1)} {u = suc
-      (0 + 2 * r)} {v = 2 * (suc r - 1) + 1} (omega arith) (omega arith))
-
-  -- the kinds that are no operands of their own
-  abbrev Pops : List Sym → List Sym → List Entry → Type 0
-  Pops f ts [] = Unit {0}
-  Pops f ts (x ∷ l) = (reading known search.work c f ts x ≡ popped known search.work (code_in [] 0) ts) × Pops f ts l
-
-  pops-at : (f ts : List Sym) (l : List Entry) (k : ℕ) → Pops f ts l → reading known search.work c f ts (get_or l k (act Act.fail)) ≡ popped known search.work (code_in [] 0) ts
-  pops-at f ts [] k h = refl
-  pops-at f ts (x ∷ l) zero h = h.0
-  pops-at f ts (x ∷ l) (suc k) h = pops-at f ts l k h.1
-
-  reading-other : (f ts : List Sym) (k w : ℕ) → (k ≡ 1 → ⊥) → (k ≡ 2 → ⊥) → reading known search.work c f ts (entry_of k w) ≡ popped known search.work (code_in [] 0) ts
-  unfolding entry_of
-  reading-other f ts zero w a b = refl
-  reading-other f ts (suc zero) w a b = absurd (a refl)
-  reading-other f ts (suc (suc zero)) w a b = absurd (b refl)
-  reading-other f ts (suc (suc (suc k))) w a b = pops-at f ts (drop 3 (kinds w)) k
-      (refl, (refl, (refl, (refl, (refl, (refl, (refl, (refl, (refl, (refl, (refl, (refl, (refl, (refl, (refl, (refl, (refl, (refl, (refl, (refl, (refl, (refl, tt))))))))))))))))))))))
+  taken-entry : (f ts : List Sym) (j : ℕ) → (j ≡ 0 → ⊥) → taken known search.work c f ts j ≡ reading known search.work c f ts (get_or c.entries (j - 1) (act Act.fail))
+  taken-entry f ts zero h = absurd (h refl)
+  taken-entry f ts (suc r) h = ap (λ i. reading known search.work c f ts (get_or c.entries i (act Act.fail))) {x = r} {y = suc r - 1} (omega arith)
 
   module _ (m : List ℕ) (r : Run) (j : ℕ) where
     -- a temporary
-    taking-pop : (v : Value) (top : ℕ) → Popped m r v top → ((f ts : List Sym) → taken known search.work c f ts j ≡ popped known search.work (code_in [] 0) ts) → Taking c m r j v top
+    taking-pop : (v : Value) (top : ℕ) → Popped m r v top → ((f ts : List Sym) → taken known search.work c f ts j ≡ popped known search.work nowhere ts) → Taking c m r j v top
     taking-pop v top p e = record { is = λ f g. e (frame_at f m r.depth) (temps f m r.base (r.top - r.base)) ∙ p.is f g; low = p.low; high = p.high; sized = p.sized; within = p.within }
 
-    pub taking-out : (v : Value) (top : ℕ) → (j ≡ 0) ⊎ (size < j) → Popped m r v top → Taking c m r j v top
+    pub taking-out : (v : Value) (top : ℕ) → (j ≡ 0) ⊎ (length c.entries < j) → Popped m r v top → Taking c m r j v top
     taking-out v top h p = taking-pop v top p (λ f ts. taken_out f ts j h)
 
-    module _ (k w : ℕ) (h : j ≡ 0 → ⊥) (l : size < j → ⊥) (e : get_or ws (2 * (j - 1)) 0 ≡ k) (q : get_or ws (2 * (j - 1) + 1) 0 ≡ w) where
-      entry : (f ts : List Sym) → taken known search.work c f ts j ≡ reading known search.work c f ts (entry_of k w)
-      entry f ts = taken-entry f ts j h l ∙ ap₂ (λ k w. reading known search.work c f ts (entry_of k w)) e q
+    module _ (x : C.Entry) (h : j ≡ 0 → ⊥) (q : as_entry x ≡ get_or c.entries (j - 1) (act Act.fail)) where
+      entry : (f ts : List Sym) → taken known search.work c f ts j ≡ reading known search.work c f ts (as_entry x)
+      entry f ts = taken-entry f ts j h ∙ ap (reading known search.work c f ts) (sym q)
 
-      pub taking-other : (v : Value) (top : ℕ) → (k ≡ 1 → ⊥) → (k ≡ 2 → ⊥) → Popped m r v top → Taking c m r j v top
-      taking-other v top a b p = taking-pop v top p (λ f ts. entry f ts ∙ reading-other f ts k w a b)
+      pub taking-other : (v : Value) (top : ℕ) → ((f ts : List Sym) → reading known search.work c f ts (as_entry x) ≡ popped known search.work nowhere ts) → Popped m r v top → Taking c m r j v top
+      taking-other v top a p = taking-pop v top p (λ f ts. entry f ts ∙ a f ts)
 
-      pub taking-number : (z : ℤ) → SFits w32 z → z ≡ to_z w32 w → k ≡ 1 → r.base ≤ r.top → Taking c m r j (Known z) r.top
-      unfolding entry_of
-      taking-number z s a b g = record {
-        is = λ f u. entry _ _ ∙ ap (λ k. reading known search.work c (frame_at f m r.depth) (temps f m r.base (r.top - r.base)) (entry_of k w)) b
-            ∙ ap (λ x. record { value = x; rest = temps f m r.base (r.top - r.base) }) (ap known (sym a) ∙ sym (u z));
+      pub taking-number : (z : ℤ) → SFits w32 z → x ≡ code.Number z → r.base ≤ r.top → Taking c m r j (Known z) r.top
+      taking-number z s b g = record {
+        is = λ f u. entry _ _ ∙ ap (λ x. reading known search.work c (frame_at f m r.depth) (temps f m r.base (r.top - r.base)) (as_entry x)) b
+            ∙ ap (λ x. record { value = x; rest = temps f m r.base (r.top - r.base) }) (sym (u z));
         low = g;
         high = omega arith;
         sized = s;
         within = tt;
       }
 
-      pub taking-name : (v : Value) → Ready m r → Holds m (variable_place r.depth (w % frame_cells)) v → k ≡ 2 → Taking c m r j v r.top
-      unfolding entry_of
-      taking-name v y a b = record {
-        is = λ f u. entry _ _ ∙ ap (λ k. reading known search.work c (frame_at f m r.depth) (temps f m r.base (r.top - r.base)) (entry_of k w)) b
+      pub taking-name : (v : Value) (a : Address) → Ready m r → Holds m (variable_place r.depth (a.0 % frame_cells)) v → x ≡ code.Name a → Taking c m r j v r.top
+      taking-name v b y a e = record {
+        is = λ f u. entry _ _ ∙ ap (λ x. reading known search.work c (frame_at f m r.depth) (temps f m r.base (r.top - r.base)) (as_entry x)) e
             ∙ ap (λ x. record { value = x; rest = temps f m r.base (r.top - r.base) })
-            (cells_at f m (frame_place r.depth) frame_cells (w % frame_cells) (known (pos 0)) (omega arith) ∙ ap f (sym a.is));
+            (cells_at f m (frame_place r.depth) frame_cells (b.0 % frame_cells) (known (pos 0)) (omega arith) ∙ ap f (sym a.is));
         low = y.low;
         high = omega arith;
         sized = a.sized;
-        within = subst (Within r.nodes) (ap (cell_at m) {x = cell_place (frame_cells * r.depth + w % frame_cells)} {y = variable_place r.depth (w % frame_cells)} (omega arith) ∙ sym a.is)
-            (y.framed (frame_cells * r.depth + w % frame_cells) (omega arith));
+        within = subst (Within r.nodes) (ap (cell_at m) {x = cell_place (frame_cells * r.depth + b.0 % frame_cells)} {y = variable_place r.depth (b.0 % frame_cells)} (omega arith) ∙ sym a.is)
+            (y.framed (frame_cells * r.depth + b.0 % frame_cells) (omega arith));
       }
 
   pub paired : (m : List ℕ) (r : Run) (d : ℕ) (x y : Value) (tx ty : ℕ) → Taking c m r r.pc y ty → Taking c m (topped r ty) (r.pc - d) x tx → Paired c m r d x y tx

@@ -13,7 +13,6 @@ use Rattle.simulation.specs.Code.{Code, Act}
 use Rattle.simulation.specs.Machine.{Machine, machine, Doing, popped, taken, two, gather, acting, start}
 use Rattle.simulation.specs.Nodes as nodes
 use Rattle.simulation.specs.Nodes.{Node, unknown, operation, meaning, Within, working}
-use Rattle.simulation.specs.Words.{code_in}
 use Rattle.ints.specs.declared.Comparison.{Comparison}
 use Rattle.ints.specs.Meaning.{of_comparison}
 use Rattle.intervals.specs.Meaning.{of_window, Filled}
@@ -112,9 +111,13 @@ Formed j (operation o a b) = Within j a × Within j b
 abbrev pub Reads : (nodes.Cell → Sym) → Type 0
 Reads f = (z : ℤ) → f (nodes.Known z) ≡ known z
 
+-- no code: a temporary that is taken does not depend on it
+abbrev pub nowhere : Code
+nowhere = record { entries = []; starts = [] }
+
 -- the newest temporary was taken
 pub record Popped (m : List ℕ) (r : Run) (v : Value) (top : ℕ) : Type 0 where
-  pub is : (f : nodes.Cell → Sym) → Reads f → popped known search.work (code_in [] 0) (temps f m r.base (r.top - r.base))
+  pub is : (f : nodes.Cell → Sym) → Reads f → popped known search.work nowhere (temps f m r.base (r.top - r.base))
       ≡ record { value = f (cell_of v); rest = temps f m r.base (top - r.base) }
   pub low : r.base ≤ top
   pub high : top ≤ r.top

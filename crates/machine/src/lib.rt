@@ -5,15 +5,14 @@ ghost use Rattle.std.specs.Prelude.{◌≡◌, ℕ, suc, ◌+◌, ◌-◌, ◌*�
 ghost use Rattle.semantics.specs.Program.{slot};
 ghost use Rattle.semantics.specs.Search.{known, work as workS};
 ghost use Rattle.simulation.specs.Machine.{Doing, leaf_number, own_pair_of, extent as extentS, landing as landingS, advance as advanceS};
-ghost use Rattle.simulation.specs.Code.{Code, operate as operateS, store as storeS, return as returnS, fail as failS, call as callS, act};
-ghost use Rattle.simulation.specs.Words.{code_in};
+ghost use Rattle.simulation.specs.Code.{Code as Told, operate as operateS, store as storeS, return as returnS, fail as failS, call as callS, act};
 ghost use Rattle.ints.specs.Meaning.{of_operation};
 ghost use Rattle.intervals.specs.Meaning.{of_window, Filled};
 ghost use Rattle.machine.specs.Layout.{frame_cells, frame_words, variable_place, tables_place};
 ghost use Rattle.machine.specs.Memory.{node_as, machine_at};
 ghost use Rattle.machine.specs.Terms.{cell_of, Sized, Room, Ready, Holds, Put, Noded, Worked, Popped, Taking, Paired, Blank, Gathering, Goes, acts, storing, Asked, moved as movedS, flagged as flaggedS, Done, Started};
 
-use code::{Address, entry};
+use code::{Address, Code, Entry, FUNCTIONS};
 use intervals::Window;
 use ints::{Comparison, Operation};
 
@@ -212,21 +211,20 @@ fn variable(mem: &[u32], run: Run, a: Address) -> Value
 }
 
 // The operand that ends just before entry j.
-fn take(code: &[u32], size: usize, mem: &[u32], run: Run, j: usize) -> Took
-    requires { (2 * size ≤ length code.now) × Ready mem.now run }
-    ensures { Taking (code_in code.now size) mem.now run j result.value result.top }
+fn take(code: &Code, mem: &[u32], run: Run, j: usize) -> Took
+    requires { Ready mem.now run }
+    ensures { Taking code.now mem.now run j result.value result.top }
 {
-    if j == 0 || size < j {
+    if j == 0 || code.len() < j {
         return pop(mem, run);
     }
-    let w = code[2 * (j - 1) + 1];
-    match code[2 * (j - 1)] {
-        entry::NUMBER => Took {
-            value: Value::Known(ints::signed(w)),
+    match code.entry(j - 1) {
+        Entry::Number(z) => Took {
+            value: Value::Known(z),
             top: run.top,
         },
-        entry::NAME => Took {
-            value: variable(mem, run, Address(w as usize % layout::CELLS)),
+        Entry::Name(a) => Took {
+            value: variable(mem, run, Address(a.0 % layout::CELLS)),
             top: run.top,
         },
         _ => pop(mem, run),
@@ -234,13 +232,13 @@ fn take(code: &[u32], size: usize, mem: &[u32], run: Run, j: usize) -> Took
 }
 
 // The two operands of the next entry, the right one of which has d entries.
-fn pair(code: &[u32], size: usize, mem: &[u32], run: Run, d: usize) -> Both
-    requires { (2 * size ≤ length code.now) × Ready mem.now run }
-    ensures { Paired (code_in code.now size) mem.now run d result.left result.right result.top }
+fn pair(code: &Code, mem: &[u32], run: Run, d: usize) -> Both
+    requires { Ready mem.now run }
+    ensures { Paired code.now mem.now run d result.left result.right result.top }
 {
-    let b = take(code, size, mem, run, run.pc);
+    let b = take(code, mem, run, run.pc);
     let rest = Run { top: b.top, ..run };
-    let a = take(code, size, mem, rest, run.pc.saturating_sub(d));
+    let a = take(code, mem, rest, run.pc.saturating_sub(d));
     Both {
         left: a.value,
         right: b.value,
@@ -251,7 +249,7 @@ fn pair(code: &[u32], size: usize, mem: &[u32], run: Run, d: usize) -> Both
 // An operation on two operands.
 fn operate(mem: &mut [u32], run: Run, op: Operation, p: Both) -> Run
     requires { Ready mem.old run × (run.pc < 65536) × Room mem.old (run.top + 1) × Room mem.old (run.nodes + 1) × Sized p.left × Sized p.right × (p.top ≤ run.top) }
-    ensures { (c : Code) (d : ℕ) → Paired c mem.old run d p.left p.right p.top → Goes Doing.step 1 (acts c mem.old run (operateS (of_operation op) d)) mem.old run.nodes mem.new result }
+    ensures { (c : Told) (d : ℕ) → Paired c mem.old run d p.left p.right p.top → Goes Doing.step 1 (acts c mem.old run (operateS (of_operation op) d)) mem.old run.nodes mem.new result }
 {
     let made = work(mem, run.nodes, op, p.left, p.right);
     put(
@@ -268,11 +266,11 @@ fn operate(mem: &mut [u32], run: Run, op: Operation, p: Both) -> Run
 }
 
 // An assignment.
-fn store(code: &[u32], size: usize, mem: &mut [u32], run: Run, a: Address) -> Run
-    requires { (2 * size ≤ length code.now) × Ready mem.old run × (a.0 < frame_cells) × (run.pc < size) }
-    ensures { Goes Doing.silent 0 (acts (code_in code.now size) mem.old run (storeS (slot a.0))) mem.old run.nodes mem.new result }
+fn store(code: &Code, mem: &mut [u32], run: Run, a: Address) -> Run
+    requires { Ready mem.old run × (a.0 < frame_cells) × (run.pc < 65536) }
+    ensures { Goes Doing.silent 0 (acts code.now mem.old run (storeS (slot a.0))) mem.old run.nodes mem.new result }
 {
-    let t = take(code, size, mem, run, run.pc);
+    let t = take(code, mem, run, run.pc);
     put(mem, layout::FRAME * run.depth + layout::CELL * a.0, t.value);
     Run {
         pc: run.pc + 1,
@@ -300,24 +298,24 @@ fn ask(mem: &mut [u32], run: Run, a: Address, k: u32) -> Run
 }
 
 // The number that stands at an entry; 0 where none does.
-fn number_at(code: &[u32], size: usize, e: usize) -> i32
-    requires { 2 * size ≤ length code.now }
-    ensures { result ≡ leaf_number (get_or (code_in code.now size).entries e (act failS)) }
+fn number_at(code: &Code, e: usize) -> i32
+    ensures { result ≡ leaf_number (get_or code.now.entries e (act failS)) }
 {
-    if e < size && code[2 * e] == entry::NUMBER {
-        ints::signed(code[2 * e + 1])
-    } else {
-        0
+    if code.len() <= e {
+        return 0;
+    }
+    match code.entry(e) {
+        Entry::Number(z) => z,
+        _ => 0,
     }
 }
 
 // The pair of the declaration at an entry that has its own; one the wrong way round has its low end alone.
-fn own_pair(code: &[u32], size: usize, e: usize) -> Window
-    requires { 2 * size ≤ length code.now }
-    ensures { (of_window result ≡ own_pair_of (code_in code.now size) e) × Filled (of_window result) }
+fn own_pair(code: &Code, e: usize) -> Window
+    ensures { (of_window result ≡ own_pair_of code.now e) × Filled (of_window result) }
 {
-    let low = number_at(code, size, e.saturating_sub(2));
-    let high = number_at(code, size, e.saturating_sub(1));
+    let low = number_at(code, e.saturating_sub(2));
+    let high = number_at(code, e.saturating_sub(1));
     Window {
         low,
         high: low.max(high),
@@ -325,11 +323,11 @@ fn own_pair(code: &[u32], size: usize, e: usize) -> Window
 }
 
 // A return to a caller.
-fn leave(code: &[u32], size: usize, mem: &mut [u32], run: Run) -> Run
-    requires { (2 * size ≤ length code.now) × Ready mem.old run × (1 ≤ run.depth) × Room mem.old (run.base + 1) }
-    ensures { Goes Doing.silent 0 (acts (code_in code.now size) mem.old run returnS) mem.old run.nodes mem.new result }
+fn leave(code: &Code, mem: &mut [u32], run: Run) -> Run
+    requires { Ready mem.old run × (1 ≤ run.depth) × Room mem.old (run.base + 1) }
+    ensures { Goes Doing.silent 0 (acts code.now mem.old run returnS) mem.old run.nodes mem.new result }
 {
-    let t = take(code, size, mem, run, run.pc);
+    let t = take(code, mem, run, run.pc);
     let d = run.depth - 1;
     let pc = mem[layout::CALLERS + layout::CALLER * d] as usize;
     let base = mem[layout::CALLER_BASES + layout::CALLER * d] as usize;
@@ -358,21 +356,22 @@ fn blank(mem: &mut [u32], at: usize)
 }
 
 // How many entries the argument has that ends at an entry.
-fn extent(code: &[u32], size: usize, e: usize) -> usize
-    requires { 2 * size ≤ length code.now }
-    ensures { result ≡ extentS (get_or (code_in code.now size).entries e (act failS)) }
+fn extent(code: &Code, e: usize) -> usize
+    ensures { result ≡ extentS (get_or code.now.entries e (act failS)) }
 {
-    if e < size && code[2 * e] == entry::ARGUMENT {
-        code[2 * e + 1] as usize
-    } else {
-        0
+    if code.len() <= e {
+        return 0;
+    }
+    match code.entry(e) {
+        Entry::Argument(d) => d as usize,
+        _ => 0,
     }
 }
 
 // Takes n arguments into the next frame, and says where the temporaries then end.
-fn gather(code: &[u32], size: usize, mem: &mut [u32], run: Run, n: usize) -> usize
-    requires { (2 * size ≤ length code.now) × Ready mem.old run × (run.depth < 32) }
-    ensures { Gathering (code_in code.now size) mem.old mem.new run n 0 0 result }
+fn gather(code: &Code, mem: &mut [u32], run: Run, n: usize) -> usize
+    requires { Ready mem.old run × (run.depth < 32) }
+    ensures { Gathering code.now mem.old mem.new run n 0 0 result }
 {
     let at = layout::FRAME * (run.depth + 1);
     blank(mem, at);
@@ -380,8 +379,8 @@ fn gather(code: &[u32], size: usize, mem: &mut [u32], run: Run, n: usize) -> usi
     let mut top = run.top;
     for k in (0..n).rev() {
         let e = j.saturating_sub(1);
-        let t = take(code, size, mem, Run { top, ..run }, e);
-        let d = extent(code, size, e);
+        let t = take(code, mem, Run { top, ..run }, e);
+        let d = extent(code, e);
         j = e.saturating_sub(d);
         top = t.top;
         if k < layout::CELLS {
@@ -392,15 +391,15 @@ fn gather(code: &[u32], size: usize, mem: &mut [u32], run: Run, n: usize) -> usi
 }
 
 // A call of function g with n arguments.
-fn enter(code: &[u32], size: usize, mem: &mut [u32], run: Run, g: usize, n: usize) -> Run
-    requires { (2 * size + 16 ≤ length code.now) × Ready mem.old run × (run.depth < 32) × (run.pc < size) × (size < 65536) × (g < 16) }
-    ensures { Goes Doing.step 1 (acts (code_in code.now size) mem.old run (callS g n)) mem.old run.nodes mem.new result }
+fn enter(code: &Code, mem: &mut [u32], run: Run, g: usize, n: usize) -> Run
+    requires { Ready mem.old run × (run.depth < 32) × (run.pc < 65536) × (g < 16) }
+    ensures { Goes Doing.step 1 (acts code.now mem.old run (callS g n)) mem.old run.nodes mem.new result }
 {
-    let top = gather(code, size, mem, run, n);
+    let top = gather(code, mem, run, n);
     mem[layout::CALLERS + layout::CALLER * run.depth] = (run.pc + 1) as u32;
     mem[layout::CALLER_BASES + layout::CALLER * run.depth] = run.base as u32;
     Run {
-        pc: code[2 * size + g] as usize,
+        pc: code.start(g),
         base: top,
         top,
         depth: run.depth + 1,
@@ -425,66 +424,53 @@ pub fn start(mem: &mut [u32]) -> Run
 }
 
 // Works one entry. The next unknown is k; its window starts as its declaration's own pair, or else as the job's.
-pub fn advance(code: &[u32], size: usize, mem: &mut [u32], job: Window, run: Run, k: u32) -> Did
-    requires { (2 * size + 16 ≤ length code.now) × (size < 65536) × Ready mem.old run × Room mem.old (run.top + 1) × Room mem.old (run.nodes + 1) × Filled (of_window job) }
-    ensures { Done (advanceS known workS (code_in code.now size) (machine_at mem.old run)) (of_window job) mem.old run.nodes mem.new k result }
+pub fn advance(code: &Code, mem: &mut [u32], job: Window, run: Run, k: u32) -> Did
+    requires { Ready mem.old run × Room mem.old (run.top + 1) × Room mem.old (run.nodes + 1) × Filled (of_window job) }
+    ensures { Done (advanceS known workS code.now (machine_at mem.old run)) (of_window job) mem.old run.nodes mem.new k result }
 {
-    if size <= run.pc {
+    if code.len() <= run.pc {
         return Did::Failed;
     }
-    let kind = code[2 * run.pc];
-    let w = code[2 * run.pc + 1] as usize;
-    match kind {
-        entry::NUMBER..=entry::ARGUMENT => Did::Silent(run.moved(run.pc + 1)),
-        entry::ADD..=entry::COMPARE_LAST => {
-            let p = pair(code, size, mem, run, w);
-            if kind < entry::COMPARE {
-                return Did::Step(operate(mem, run, Operation::from(kind - entry::ADD), p));
-            }
+    match code.entry(run.pc) {
+        Entry::Number(_) | Entry::Name(_) | Entry::Argument(_) => {
+            Did::Silent(run.moved(run.pc + 1))
+        }
+        Entry::Operate(op, d) => {
+            let p = pair(code, mem, run, d as usize);
+            Did::Step(operate(mem, run, op, p))
+        }
+        Entry::Compare(c, d) => {
+            let p = pair(code, mem, run, d as usize);
             let rest = Run {
                 pc: run.pc + 1,
                 top: p.top,
                 ..run
             };
-            Did::Test(
-                Comparison::from(kind - entry::COMPARE),
-                p.left,
-                p.right,
-                rest,
-            )
+            Did::Test(c, p.left, p.right, rest)
         }
-        entry::CALL => {
+        Entry::Call { function, count } => {
             if run.depth == layout::DEPTH {
                 return Did::Cut;
             }
-            Did::Step(enter(
-                code,
-                size,
-                mem,
-                run,
-                w % entry::FUNCTIONS,
-                w / entry::FUNCTIONS,
-            ))
+            Did::Step(enter(code, mem, run, function % FUNCTIONS, count))
         }
-        entry::NEVER => Did::Silent(run.flagged(false)),
-        entry::ALWAYS => Did::Silent(run.flagged(true)),
-        entry::JUMP => Did::Silent(run.moved(run.landing(false, w))),
-        entry::JUMP_TRUE => Did::Silent(run.moved(run.landing(true, w))),
-        entry::SKIP => Did::Silent(run.moved(run.pc + 1 + w)),
-        entry::AGAIN => Did::Step(run.moved(run.pc.saturating_sub(w))),
-        entry::BEGIN => Did::Step(run.moved(run.pc + 1)),
-        entry::ASK => Did::Free(ask(mem, run, Address(w % layout::CELLS), k), job),
-        entry::STORE => Did::Silent(store(code, size, mem, run, Address(w % layout::CELLS))),
-        entry::RETURN => {
+        Entry::Constant(flag) => Did::Silent(run.flagged(flag)),
+        Entry::Jump { flag, over } => Did::Silent(run.moved(run.landing(flag, over as usize))),
+        Entry::Skip(over) => Did::Silent(run.moved(run.pc + 1 + over as usize)),
+        Entry::Again(back) => Did::Step(run.moved(run.pc.saturating_sub(back as usize))),
+        Entry::Begin => Did::Step(run.moved(run.pc + 1)),
+        Entry::Ask(a) => Did::Free(ask(mem, run, Address(a.0 % layout::CELLS), k), job),
+        Entry::Own(a) => {
+            let own = own_pair(code, run.pc);
+            Did::Free(ask(mem, run, Address(a.0 % layout::CELLS), k), own)
+        }
+        Entry::Store(a) => Did::Silent(store(code, mem, run, Address(a.0 % layout::CELLS))),
+        Entry::Return => {
             if run.depth == 0 {
-                return Did::Returned(take(code, size, mem, run, run.pc).value);
+                return Did::Returned(take(code, mem, run, run.pc).value);
             }
-            Did::Silent(leave(code, size, mem, run))
+            Did::Silent(leave(code, mem, run))
         }
-        entry::OWN => {
-            let own = own_pair(code, size, run.pc);
-            Did::Free(ask(mem, run, Address(w % layout::CELLS), k), own)
-        }
-        _ => Did::Failed,
+        Entry::Fail => Did::Failed,
     }
 }

@@ -16,6 +16,6 @@ returns c =
     let h : SFits w32 c.max.result = record { sfits = c.max.type_inv } in
     let e = simp (to_z-of_z f, to_z-of_z g, max-is) at c.max.ensures.value in
     rw (to_z-of_z f, to_z-of_z h) (
-      ap (to c.number_at-low.result) e ∙ ends c.args.code.now c.args.size c.args.e c.saturating_sub.result c.saturating_sub-2.result c.number_at-low.result c.number_at-high.result c.saturating_sub.ensures c.saturating_sub-2.ensures c.number_at-low.ensures c.number_at-high.ensures,
+      ap (to c.number_at-low.result) e ∙ ends c.args.code.now c.args.e c.saturating_sub.result c.saturating_sub-2.result c.number_at-low.result c.number_at-high.result c.saturating_sub.ensures c.saturating_sub-2.ensures c.number_at-low.ensures c.number_at-high.ensures,
       true_of (le_z c.number_at-low.result c.max.result) (rw (to_z-of_z f) at c.max.ensures.self_bound).le,
     )

@@ -4,4 +4,4 @@ use Rattle.machine.proofs.store.Goals as goal
 
 pub returns : goal.returns
 returns c =
-    stored c.args.code.now c.args.size c.args.mem.now c.put.new.mem c.args.run c.args.a.0 c.take-t.result.value c.take-t.result.top c.requires.1 c.requires.2 (omega (arith, c.put.auto.mem)) c.take-t.ensures c.put.ensures
+    stored c.args.code.now c.args.mem.now c.put.new.mem c.args.run c.args.a.0 c.take-t.result.value c.take-t.result.top c.requires.0 c.requires.1 (omega (arith, c.put.auto.mem)) c.take-t.ensures c.put.ensures
