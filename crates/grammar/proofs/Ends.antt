@@ -13,7 +13,7 @@ use Rattle.syntax.specs.Ast.{bit}
 use Rattle.syntax.specs.Tree.{Cat}
 use Rattle.syntax.specs.Table.{Row}
 use Rattle.grammar.specs.Parse.{Res, bad, expect, read_end}
-use Rattle.grammar.specs.Readers.{is_minus, Inside, Ready}
+use Rattle.grammar.specs.Readers.{is_minus, Inside}
 use Rattle.grammar.proofs.Steps.{Sofar, same-as}
 
 -- ---- where the number of an end stands
@@ -31,9 +31,6 @@ minus-inside {ks} {at} r e = go (dec_lt (at + 1) (length ks))
     go : Dec (at + 1 < length ks) → at + 1 < length ks
     go (yes p) = p
     go (no p) = absurd (eqb-false k_minus 0 refl (sym e ∙ r.ends at (omega (arith, p, r.inside))))
-
-pub inside_of : {ks l : List ℕ} {at n : ℕ} → Ready ks l at n → Inside ks at
-inside_of r = record { inside = r.inside; few = r.few; ends = r.ends }
 
 -- ---- the reader of an end
 

@@ -4,7 +4,6 @@ use mathlib.Core.Path.{◌≡◌, refl, ap, ◌∙◌}
 use mathlib.Core.Bool.{Bool, true, false}
 use mathlib.Core.List.{List}
 use Rattle.std.specs.Prelude.{Option, Some, None}
-use native.Mathlib.Omega.{arith}
 use lib.ListN.{get_or}
 use lib.Dec.{eqb}
 use borrow.Author.Tests.{eqb-true}
@@ -98,12 +97,3 @@ module _ (ks : List ℕ) (at : ℕ) where
       go false false false false true s6 p1 p2 p3 p4 p5 p6 h = cc
       go false false false false false true p1 p2 p3 p4 p5 p6 h = cc
       go false false false false false false p1 p2 p3 p4 p5 p6 h = rw (p1, p2, p3, p4, p5, p6, read_cmp)
-
--- a comparison's number is small
-pub small : (o : Cmp) {v : ℕ} → v ≡ cmp_number o → v < 6
-small less e = omega (arith, e)
-small less_eq e = omega (arith, e)
-small greater e = omega (arith, e)
-small greater_eq e = omega (arith, e)
-small equal e = omega (arith, e)
-small unequal e = omega (arith, e)

@@ -1,5 +1,5 @@
 -- What the functions for printing say, in the words of Print: an ending's number, the rows that words stand for.
-use Rattle.std.specs.Prelude.{ℕ, zero, suc, min, List, [], ◌∷◌, take, drop, get_or, ℤ, pos}
+use Rattle.std.specs.Prelude.{ℕ, zero, suc, ◌/◌, min, length, List, [], ◌∷◌, take, drop, get_or, ℤ, pos}
 use Rattle.semantics.specs.Run.{Row, clamp}
 use Rattle.semantics.specs.Search.{Close, whole, cuts, full, spent}
 
@@ -21,3 +21,7 @@ row_from ws = record { result = get_or ws 0 (pos 0); values = take (count_of (ge
 unfoldable pub rows_from : ℕ → List ℤ → List Row
 rows_from zero ws = []
 rows_from (suc n) ws = row_from ws ∷ rows_from n (drop 10 ws)
+
+-- the rows in a slice's whole tens of words
+abbrev pub rows_of : List ℤ → List Row
+rows_of ws = rows_from (length ws / 10) ws

@@ -8,7 +8,7 @@ ghost use Rattle.lines.specs.JobLine.{plain, minus, number_of, place as place_of
 ghost use Rattle.lines.specs.Parts.{magnitude_of};
 ghost use Rattle.printing.specs.Decimal.{integer};
 ghost use Rattle.printing.specs.Written.{Put};
-ghost use Rattle.lines.specs.Written.{count_of, row_from, rows_from};
+ghost use Rattle.lines.specs.Written.{count_of, row_from, rows_of};
 ghost use Rattle.search.specs.Loop.{close_of};
 ghost use Rattle.lines.specs.Print.{spaced, row_line, row_lines, ending, last_line, refusal, acceptance};
 
@@ -204,14 +204,13 @@ fn put_row(out: &mut [u8], at: usize, row: &[i32]) -> usize
     put_bytes(out, s, b"\n")
 }
 
-// The n rows from row `from` on.
-pub fn put_rows(out: &mut [u8], at: usize, rows: &[i32], from: usize, n: usize) -> usize
-    requires { 10 * (from + n) ≤ length rows.now }
-    ensures { Put out.old at (row_lines (rows_from n (drop (10 * from) rows.now))) out.new result × (result ≤ at + 110 * n) }
+// The rows in a slice's whole tens of words.
+pub fn put_rows(out: &mut [u8], at: usize, rows: &[i32]) -> usize
+    ensures { Put out.old at (row_lines (rows_of rows.now)) out.new result × (result ≤ at + 11 * length rows.now) }
 {
     let mut p = at;
-    for k in 0..n {
-        p = put_row(out, p, &rows[10 * (from + k)..]);
+    for k in 0..rows.len() / 10 {
+        p = put_row(out, p, &rows[10 * k..]);
     }
     p
 }

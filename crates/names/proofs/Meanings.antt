@@ -1,17 +1,13 @@
 -- Meanings, written one after the other, are what each token means at the end.
-use Prim.Native.Nat.{ℕ, ◌≤◌, ◌<◌}
+use Prim.Native.Nat.{ℕ, ◌<◌}
 use mathlib.Core.Path.{◌≡◌, refl, sym, ap, ◌∙◌}
-use mathlib.Core.Bool.{Bool, true, false, not, cond}
+use mathlib.Core.Bool.{Bool, true, false, cond}
 use mathlib.Core.List.{List, [], ◌∷◌, ◌++◌}
-use native.Mathlib.Omega.{arith}
 use lib.ListN.{length, get_or, set, length-set}
 use lib.Seq.{get_or-set_same, get_or-set_other}
 use lib.Dec.{eqb}
 use borrow.Author.Tests.{eqb-true, eqb-false}
-use Rattle.events.specs.Event.{function, parameter, thing, opens, closes, declares, uses, calls, ends}
-use Rattle.events.specs.Stored.{e_function, e_parameter, e_thing, e_opens, e_declares, e_uses, e_calls, e_ends, event_of}
 use Rattle.text_rules.specs.Names.{Meaning, meant}
-use Rattle.scopes.specs.Memory.{token_of}
 use Rattle.names.specs.Steps.{noted}
 
 pub noted-append : (l : List ℕ) (a b : List Meaning) → noted l (a ++ b) ≡ noted (noted l a) b
@@ -48,24 +44,3 @@ noted-meant l (m ∷ ms) i h =
     noted-meant (set l m.token m.means) ms i (rw (length-set l m.token m.means) h)
     ∙ meant-at (λ j. get_or (set l m.token m.means) j 0) (λ j. cond (eqb m.token j) m.means (get_or l j 0)) ms i
     (set-read l m.token m.means i h)
-
--- ---- the token of a stored event is its second word
-
-by_tests :
-    (b₁ b₂ b₃ b₄ b₅ b₆ b₇ b₈ c : Bool) (x y : ℕ)
-    → token_of (cond b₁ (function x) (cond b₂ (parameter x) (cond b₃ (thing y x) (cond b₄ opens (cond b₅ (declares x) (cond b₆ (uses x) (cond b₇ (calls x y) (cond b₈ (ends x c) closes)))))))) ≤ x
-unfolding token_of
-by_tests true b₂ b₃ b₄ b₅ b₆ b₇ b₈ c x y = omega arith
-by_tests false true b₃ b₄ b₅ b₆ b₇ b₈ c x y = omega arith
-by_tests false false true b₄ b₅ b₆ b₇ b₈ c x y = omega arith
-by_tests false false false true b₅ b₆ b₇ b₈ c x y = omega arith
-by_tests false false false false true b₆ b₇ b₈ c x y = omega arith
-by_tests false false false false false true b₇ b₈ c x y = omega arith
-by_tests false false false false false false true b₈ c x y = omega arith
-by_tests false false false false false false false true c x y = omega arith
-by_tests false false false false false false false false c x y = omega arith
-
-pub token-stored : (k x y : ℕ) → token_of (event_of k x y) ≤ x
-unfolding event_of
-token-stored k x y =
-    by_tests (eqb k e_function) (eqb k e_parameter) (eqb k e_thing) (eqb k e_opens) (eqb k e_declares) (eqb k e_uses) (eqb k e_calls) (eqb k e_ends) (not (eqb y 0)) x y

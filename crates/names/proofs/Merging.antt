@@ -3,7 +3,7 @@ use Prim.Native.Nat.{ℕ}
 use mathlib.Core.Path.{◌≡◌, refl, sym, ap, subst, ◌∙◌}
 use mathlib.Core.Bool.{Bool}
 use mathlib.Core.List.{List, [], ◌∷◌, ◌++◌}
-use mathlib.Core.Option.{Option, none}
+use Rattle.std.specs.Prelude.{Option, None}
 use lib.ListN.{length, get_or}
 use Rattle.events.specs.Event.{Event}
 use Rattle.text_rules.specs.Scan.{scan, on, lesser, least}
@@ -39,25 +39,25 @@ module _ {S : Type 0} (step : S → Event → S) (f : S → Event → List ℕ) 
   -- a third list is judged after both
   pub least-of-three :
       (s : S) (es : List Event) (c : List ℕ)
-      → least_with c (least_with (scan step (λ t e. f t e ++ g e) s es) none) ≡ least (scan step f s es ++ (on g es ++ c))
+      → least_with c (least_with (scan step (λ t e. f t e ++ g e) s es) None) ≡ least (scan step f s es ++ (on g es ++ c))
   least-of-three s es c =
-      ap (least_with c) (merge s es none)
+      ap (least_with c) (merge s es None)
       ∙ sym
       (sym (with_none (scan step f s es ++ (on g es ++ c)))
-      ∙ with_append (scan step f s es) (on g es ++ c) none
-      ∙ with_append (on g es) c (least_with (scan step f s es) none))
+      ∙ with_append (scan step f s es) (on g es ++ c) None
+      ∙ with_append (on g es) c (least_with (scan step f s es) None))
 
 -- rule 6 as a whole: variables and calls, then the repeated names of functions
 pub judged :
     (same : ℕ → ℕ → Bool) (hs : List Head) (es : List Event) (slots : List ℕ) {best best' : Option ℕ} {slots' : List ℕ}
     → hs ≡ heads es
-    → Seen (scan entered (wrong same hs) nowhere es) (scan entered (named_at same hs) nowhere es) none slots best slots'
+    → Seen (scan entered (wrong same hs) nowhere es) (scan entered (named_at same hs) nowhere es) None slots best slots'
     → best' ≡ least_with (repeated same [] hs) best
     → Named same es slots best' slots'
-judged same hs es slots {best} {best'} {slots'} e s r = subst (λ (fs : List Head). Seen (scan entered (wrong same fs) nowhere es) (scan entered (named_at same fs) nowhere es) none slots best slots' → best' ≡ least_with (repeated same [] fs) best → Named same es slots best' slots') (sym e) whole s r
+judged same hs es slots {best} {best'} {slots'} e s r = subst (λ (fs : List Head). Seen (scan entered (wrong same fs) nowhere es) (scan entered (named_at same fs) nowhere es) None slots best slots' → best' ≡ least_with (repeated same [] fs) best → Named same es slots best' slots') (sym e) whole s r
   where
     whole :
-        Seen (scan entered (wrong same (heads es)) nowhere es) (scan entered (named_at same (heads es)) nowhere es) none slots best slots'
+        Seen (scan entered (wrong same (heads es)) nowhere es) (scan entered (named_at same (heads es)) nowhere es) None slots best slots'
         → best' ≡ least_with (repeated same [] (heads es)) best
         → Named same es slots best' slots'
     whole s r = record {

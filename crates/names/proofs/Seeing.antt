@@ -2,7 +2,7 @@
 use Prim.Native.Nat.{ℕ}
 use mathlib.Core.Path.{◌≡◌, sym, subst}
 use mathlib.Core.List.{List, [], ◌∷◌, ◌++◌, append-nil}
-use mathlib.Core.Option.{Option, none, some}
+use Rattle.std.specs.Prelude.{Option, None, Some}
 use lib.ListN.{set}
 use Rattle.text_rules.specs.Scan.{lesser}
 use Rattle.text_rules.specs.Answers.{least_with}
@@ -11,22 +11,22 @@ use Rattle.names.specs.Steps.{noted, Seen}
 
 module _ {o p : Option ℕ} (i : ℕ) {slots : List ℕ} where
   -- a declaration of a name that can't be seen, and of one that can
-  pub new : {n : ℕ} {slots' : List ℕ} → none ≡ o → slots' ≡ set slots i n → Seen (if_found o i) (meaning i n ∷ []) p slots p slots'
+  pub new : {n : ℕ} {slots' : List ℕ} → None ≡ o → slots' ≡ set slots i n → Seen (if_found o i) (meaning i n ∷ []) p slots p slots'
   unfolding least_with noted
   new e w = record { least = rw (sym e); written = w }
 
   pub again :
-      {m n : ℕ} {q : Option ℕ} {slots' : List ℕ} → some m ≡ o → slots' ≡ set slots i n → q ≡ lesser i p
+      {m n : ℕ} {q : Option ℕ} {slots' : List ℕ} → Some m ≡ o → slots' ≡ set slots i n → q ≡ lesser i p
       → Seen (if_found o i) (meaning i n ∷ []) p slots q slots'
   unfolding least_with noted
   again e w l = record { least = rw (sym e) l; written = w }
 
   -- a name that means nothing, and one that means n
-  pub unknown : {q : Option ℕ} → none ≡ o → q ≡ lesser i p → Seen (unless_found o i) (as_found o i) p slots q slots
+  pub unknown : {q : Option ℕ} → None ≡ o → q ≡ lesser i p → Seen (unless_found o i) (as_found o i) p slots q slots
   unfolding least_with noted
   unknown e l = record { least = rw (sym e) l; written = rw (sym e) }
 
-  pub known : {n : ℕ} {slots' : List ℕ} → some n ≡ o → slots' ≡ set slots i n → Seen (unless_found o i) (as_found o i) p slots p slots'
+  pub known : {n : ℕ} {slots' : List ℕ} → Some n ≡ o → slots' ≡ set slots i n → Seen (unless_found o i) (as_found o i) p slots p slots'
   unfolding least_with noted
   known e w = record { least = rw (sym e); written = rw (sym e) w }
 
@@ -37,13 +37,3 @@ with_nothing {a} {ms} {p} {q} s = record { least = subst (λ (x : List ℕ). q �
 pub nothing : {a : List ℕ} {ms : List Meaning} {p : Option ℕ} {slots : List ℕ} → a ≡ [] → ms ≡ [] → Seen a ms p slots p slots
 unfolding least_with noted
 nothing e f = record { least = rw e; written = rw f }
-
--- the name of a function that no earlier one has, and of one that an earlier one has
-module _ {o : Option ℕ} (i : ℕ) (p : Option ℕ) where
-  pub first_one : none ≡ o → p ≡ least_with (if_found o i) p
-  unfolding least_with
-  first_one e = rw (sym e)
-
-  pub one_more : {m : ℕ} {q : Option ℕ} → some m ≡ o → q ≡ lesser i p → q ≡ least_with (if_found o i) p
-  unfolding least_with
-  one_more e l = rw (sym e) l

@@ -1,6 +1,5 @@
 -- One event, as the code takes it.
-use Rattle.std.specs.Prelude.{ℕ, ◌<◌, ◌≡◌, Bool, List, [], ◌∷◌, ◌++◌, length, get_or, set}
-use Rattle.std.proofs.Math.Option.{Option, none}
+use Rattle.std.specs.Prelude.{ℕ, ◌<◌, ◌≡◌, Bool, Option, None, List, [], ◌∷◌, ◌++◌, length, get_or, set}
 use Rattle.events.specs.Event.{Event}
 use Rattle.text_rules.specs.Scan as S
 use Rattle.text_rules.specs.Answers.{least_with}
@@ -37,7 +36,7 @@ abbrev pub SeenEvent : (ℕ → ℕ → Bool) → List Head → Scope → Event 
 SeenEvent same hs s e p l p' l' = Seen (wrong same hs s e) (named_at same hs s e) p l p' l'
 
 abbrev pub SeenEvents : (ℕ → ℕ → Bool) → List Head → List Event → List ℕ → Option ℕ → List ℕ → Type 0
-SeenEvents same hs es l p' l' = Seen (S.scan entered (wrong same hs) nowhere es) (S.scan entered (named_at same hs) nowhere es) none l p' l'
+SeenEvents same hs es l p' l' = Seen (S.scan entered (wrong same hs) nowhere es) (S.scan entered (named_at same hs) nowhere es) None l p' l'
 
 -- rule 6 is judged over the events es, and what each name means is written at its token
 pub record Named (same : ℕ → ℕ → Bool) (es : List Event) (slots : List ℕ) (best : Option ℕ) (slots' : List ℕ) : Type 0 where

@@ -1,24 +1,22 @@
 // Rule 6 over the events of a text, and what each name means.
 #![tactic(auto)]
 
-ghost use Rattle.std.specs.Prelude.{◌≡◌, [], ◌*◌, ◌^◌, ◌≤◌, ◌<◌, length, set};
-ghost use Rattle.text_rules.specs.Spelling.{same_name};
-ghost use Rattle.events.specs.Stored.{event_words, stored};
+ghost use Rattle.std.specs.Prelude.{◌≡◌, [], ◌^◌, ◌≤◌, ◌<◌, length, map, set};
+ghost use Rattle.std.specs.List.{list_any};
+ghost use Rattle.text_rules.specs.Spelling.{same_in};
 ghost use Rattle.text_rules.specs.Rules as R;
-ghost use Rattle.text_rules.specs.Rules.{function_of};
-ghost use Rattle.text_rules.specs.Names.{if_found, repeated};
+ghost use Rattle.text_rules.specs.Names.{repeated};
 ghost use Rattle.events.specs.Read.{as_event};
-ghost use Rattle.text_rules.specs.Answers.{head_words, place, least_with, stored_heads};
-ghost use Rattle.scopes.specs.Memory.{scope_words, Held, blocks_of, scope_of};
+ghost use Rattle.text_rules.specs.Answers.{as_head, least_with};
 ghost use Rattle.names.specs.Steps.{SeenDeclaration, SeenVariable, SeenCall, SeenEvent, SeenEvents, Named};
 
 use code::Address;
-use events::event::{Event, event_at};
-use scopes::lookup::{Sought, seek};
-use scopes::scope::{Scope, enter};
-use text_rules::broken::{Broken, lesser};
-use text_rules::heads::{Found, HEAD_WORDS, function_of};
-use text_rules::spelling::word;
+use events::event::{Event, Events};
+use scopes::scope::Scopes;
+use syntax::source::Source;
+use text_rules::broken::lesser;
+use text_rules::heads::{Head, Heads, function_of};
+use text_rules::spelling::same_name;
 
 // What token i means, as a number; a token past the end is passed over.
 fn write(slots: &mut [u32], i: usize, means: usize)
@@ -40,218 +38,124 @@ fn write_address(slots: &mut [u32], i: usize, address: Address)
 
 // Token i declares a variable.
 fn see_declaration(
-    text: &[u8],
-    places: &[u32],
-    values: &[u32],
-    scope: &[u32],
-    blocks: usize,
-    seen: usize,
-    address: Address,
+    source: &Source,
+    scopes: &Scopes,
     slots: &mut [u32],
     i: usize,
-    best: Broken,
-) -> Broken
-    requires { (Held scope.now blocks seen) × (address.0 < 2 ^ 32) }
-    ensures { SeenDeclaration (same_name text.now places.now values.now)
-        (blocks_of scope.now blocks seen) address.0 i (place best) slots.old (place result) slots.new }
+    best: Option<usize>,
+) -> Option<usize>
+    requires { scopes.now.next < 2 ^ 32 }
+    ensures { SeenDeclaration (same_in source.now) scopes.now.blocks scopes.now.next i best slots.old result slots.new }
 {
-    write_address(slots, i, address);
-    match seek(text, places, values, scope, blocks, seen, i) {
-        Sought::Nothing(_) => best,
-        Sought::At(_, _) => lesser(i, best),
+    write_address(slots, i, Address(scopes.next()));
+    match scopes.seek(source, i).found {
+        Some(_) => lesser(i, best),
+        None => best,
     }
 }
 
 // Token i is a variable that is read or assigned.
 fn see_variable(
-    text: &[u8],
-    places: &[u32],
-    values: &[u32],
-    scope: &[u32],
-    blocks: usize,
-    seen: usize,
+    source: &Source,
+    scopes: &Scopes,
     slots: &mut [u32],
     i: usize,
-    best: Broken,
-) -> Broken
-    requires { Held scope.now blocks seen }
-    ensures { SeenVariable (same_name text.now places.now values.now)
-        (blocks_of scope.now blocks seen) i (place best) slots.old (place result) slots.new }
+    best: Option<usize>,
+) -> Option<usize>
+    ensures { SeenVariable (same_in source.now) scopes.now.blocks i best slots.old result slots.new }
 {
-    match seek(text, places, values, scope, blocks, seen, i) {
-        Sought::Nothing(_) => lesser(i, best),
-        Sought::At(address, _) => {
+    match scopes.seek(source, i).found {
+        Some(address) => {
             write_address(slots, i, address);
             best
         }
+        None => lesser(i, best),
     }
 }
 
 // Token i is a call's name.
 fn see_call(
-    text: &[u8],
-    places: &[u32],
-    values: &[u32],
-    heads: &[u32],
-    h: usize,
+    source: &Source,
+    heads: &Heads,
     slots: &mut [u32],
     i: usize,
-    best: Broken,
-) -> Broken
-    requires { (head_words * h ≤ length heads.now) × (h < 2 ^ 32) }
-    ensures { SeenCall (same_name text.now places.now values.now)
-        (stored_heads heads.now h) i (place best) slots.old (place result) slots.new }
+    best: Option<usize>,
+) -> Option<usize>
+    requires { length heads.now ≤ 4096 }
+    ensures { SeenCall (same_in source.now) heads.now i best slots.old result slots.new }
 {
-    match function_of(text, places, values, heads, h, i) {
-        Found::Nothing => lesser(i, best),
-        Found::Number(number) => {
+    match function_of(source, heads, i) {
+        Some(number) => {
             write(slots, i, number);
             best
         }
+        None => lesser(i, best),
     }
 }
 
 // One event: what breaks the rule there, and what its name means.
 fn see(
-    text: &[u8],
-    places: &[u32],
-    values: &[u32],
-    heads: &[u32],
-    h: usize,
-    scope: &[u32],
-    s: Scope,
+    source: &Source,
+    heads: &Heads,
+    scopes: &Scopes,
     slots: &mut [u32],
     event: Event,
-    best: Broken,
-) -> Broken
-    requires { (head_words * h ≤ length heads.now) × (h < 2 ^ 32) × (Held scope.now s.blocks s.seen) × (s.next < 2 ^ 32) }
-    ensures { SeenEvent (same_name text.now places.now values.now)
-        (stored_heads heads.now h) (scope_of scope.now s) (as_event event) (place best) slots.old (place result) slots.new }
+    best: Option<usize>,
+) -> Option<usize>
+    requires heads { length heads.now ≤ 4096 }
+    requires next { scopes.now.next < 2 ^ 32 }
+    ensures { SeenEvent (same_in source.now) heads.now scopes.now (as_event event) best slots.old result slots.new }
 {
-    let blocks = s.blocks;
-    let seen = s.seen;
     match event {
-        Event::Parameter(i) => see_declaration(
-            text,
-            places,
-            values,
-            scope,
-            blocks,
-            seen,
-            Address(s.next),
-            slots,
-            i,
-            best,
-        ),
-        Event::Declares(i) => see_declaration(
-            text,
-            places,
-            values,
-            scope,
-            blocks,
-            seen,
-            Address(s.next),
-            slots,
-            i,
-            best,
-        ),
-        Event::Uses(i) => see_variable(text, places, values, scope, blocks, seen, slots, i, best),
-        Event::Calls { token, count: _ } => see_call(
-            text, places, values, heads, h, slots, token, best,
-        ),
+        Event::Parameter(i) | Event::Declares(i) => {
+            see_declaration(source, scopes, slots, i, best)
+        }
+        Event::Uses(i) => see_variable(source, scopes, slots, i, best),
+        Event::Calls { token, count: _ } => see_call(source, heads, slots, token, best),
         _ => best,
     }
 }
 
 // All events, in order.
-fn see_all(
-    text: &[u8],
-    places: &[u32],
-    values: &[u32],
-    events: &[u32],
-    n: usize,
-    heads: &[u32],
-    h: usize,
-    scope: &mut [u32],
-    slots: &mut [u32],
-) -> Broken
-    requires { (event_words * n ≤ length events.now) × (n < 2 ^ 32) × (head_words * h ≤ length heads.now) × (h < 2 ^ 32) × (scope_words * n ≤ length scope.old) }
-    ensures { SeenEvents (same_name text.now places.now values.now)
-        (stored_heads heads.now h) (stored events.now n) slots.old (place result) slots.new }
+fn see_all(source: &Source, events: &[Event], heads: &Heads, slots: &mut [u32]) -> Option<usize>
+    requires events { length events.now ≤ 4096 }
+    requires heads { length heads.now ≤ 4096 }
+    ensures { SeenEvents (same_in source.now) heads.now (map as_event events.now) slots.old result slots.new }
 {
-    let mut best = Broken::Nowhere;
-    let mut s = Scope {
-        blocks: 0,
-        seen: 0,
-        next: 0,
-    };
-    let mut k = 0;
-    while k < n {
-        let event = event_at(events, k);
-        best = see(text, places, values, heads, h, scope, s, slots, event, best);
-        s = enter(scope, s, event);
-        k += 1;
+    let mut best = None;
+    let mut scopes = Scopes::new();
+    for &event in events {
+        best = see(source, heads, &scopes, slots, event, best);
+        scopes.enter(event);
     }
     best
 }
 
-// Function k, whose name is token i: an earlier one may have the name.
-fn repeat(
-    text: &[u8],
-    places: &[u32],
-    values: &[u32],
-    heads: &[u32],
-    k: usize,
-    i: usize,
-    best: Broken,
-) -> Broken
-    requires { head_words * k ≤ length heads.now }
-    ensures { place result ≡ least_with (if_found (function_of (same_name text.now places.now values.now) (stored_heads heads.now k) i) i) (place best) }
+// Whether one of some functions has the name of token i.
+fn is_named(source: &Source, heads: &[Head], i: usize) -> bool
+    ensures { result ≡ list_any (λ h. same_in source.now h.name i) heads.now }
 {
-    match function_of(text, places, values, heads, k, i) {
-        Found::Nothing => best,
-        Found::Number(_) => lesser(i, best),
-    }
+    heads.iter().any(|head| same_name(source, head.name, i))
 }
 
 // The functions that have an earlier one's name.
-fn repeats(
-    text: &[u8],
-    places: &[u32],
-    values: &[u32],
-    heads: &[u32],
-    h: usize,
-    before: Broken,
-) -> Broken
-    requires { head_words * h ≤ length heads.now }
-    ensures { place result ≡ least_with (repeated (same_name text.now places.now values.now) [] (stored_heads heads.now h)) (place before) }
+fn repeats(source: &Source, heads: &[Head], before: Option<usize>) -> Option<usize>
+    ensures { result ≡ least_with (repeated (same_in source.now) [] (map as_head heads.now)) before }
 {
     let mut best = before;
-    let mut k = 0;
-    while k < h {
-        let name = word(heads, HEAD_WORDS * k);
-        best = repeat(text, places, values, heads, k, name, best);
-        k += 1;
+    for (k, head) in heads.iter().enumerate() {
+        if is_named(source, &heads[..k], head.name) {
+            best = lesser(head.name, best);
+        }
     }
     best
 }
 
-// The least token that breaks rule 6 in n events with the h functions `heads`; what each name means is written at its token.
-pub fn resolve(
-    text: &[u8],
-    places: &[u32],
-    values: &[u32],
-    events: &[u32],
-    n: usize,
-    heads: &[u32],
-    h: usize,
-    scope: &mut [u32],
-    slots: &mut [u32],
-) -> Broken
-    requires { (event_words * n ≤ length events.now) × (n < 2 ^ 32) × (head_words * h ≤ length heads.now)
-        × (stored_heads heads.now h ≡ R.heads (stored events.now n)) × (scope_words * n ≤ length scope.old) }
-    ensures { Named (same_name text.now places.now values.now) (stored events.now n) slots.old (place result) slots.new }
+// The least token that breaks rule 6 in some events with the functions `heads`; what each name means is written at its token.
+pub fn resolve(source: &Source, events: &Events, heads: &Heads, slots: &mut [u32]) -> Option<usize>
+    requires { heads.now ≡ R.heads events.now }
+    ensures { Named (same_in source.now) events.now slots.old result slots.new }
 {
-    let best = see_all(text, places, values, events, n, heads, h, scope, slots);
-    repeats(text, places, values, heads, h, best)
+    let best = see_all(source, events.as_slice(), heads, slots);
+    repeats(source, heads.as_slice(), best)
 }

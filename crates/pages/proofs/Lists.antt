@@ -70,12 +70,8 @@ rows_snoc (suc k) ws =
     ∙ ap (λ (l : List ℤ). row_from ws ∷ (rows_from k (drop 10 ws) ++ (row_from l ∷ []))) (drop-drop (10 * k) 10 ws ∙ ap (λ (i : ℕ). drop i ws) e)
 
 -- one row more
-pub rows_more : (f : Row → List ℕ) (ws : List ℤ) (from k : ℕ) → joined f (rows_from k (drop (10 * from) ws)) ++ f (row_from (drop (10 * (from + k)) ws)) ≡ joined f (rows_from (k + 1) (drop (10 * from) ws))
-rows_more f ws from k =
-    let e : 10 * from + 10 * k ≡ 10 * (from + k) = omega arith in
-    ap (λ (l : List ℤ). joined f (rows_from k (drop (10 * from) ws)) ++ f (row_from l)) (sym (drop-drop (10 * k) (10 * from) ws ∙ ap (λ (i : ℕ). drop i ws) e))
-    ∙ sym (joined_snoc f (rows_from k (drop (10 * from) ws)) (row_from (drop (10 * k) (drop (10 * from) ws))))
-    ∙ ap (joined f) (sym (rows_snoc k (drop (10 * from) ws)) ∙ ap (λ (i : ℕ). rows_from i (drop (10 * from) ws)) (sym (add-one k)))
+pub rows_more : (f : Row → List ℕ) (ws : List ℤ) (k : ℕ) → joined f (rows_from k ws) ++ f (row_from (drop (10 * k) ws)) ≡ joined f (rows_from (k + 1) ws)
+rows_more f ws k = sym (joined_snoc f (rows_from k ws) (row_from (drop (10 * k) ws))) ∙ ap (joined f) (sym (rows_snoc k ws) ∙ ap (λ (i : ℕ). rows_from i ws) (sym (add-one k)))
 
 -- a part of the rows
 pub rows_take : (m n : ℕ) (ws : List ℤ) → m ≤ n → take m (rows_from n ws) ≡ rows_from m ws

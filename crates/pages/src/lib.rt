@@ -1,11 +1,11 @@
 // The pages of a sheet for the wall, written into a lent slice.
 #![tactic(auto)]
 
-ghost use Rattle.std.specs.Prelude.{◌++◌, ◌≡◌, ◌+◌, ◌*◌, ◌≤◌, length, drop};
+ghost use Rattle.std.specs.Prelude.{◌++◌, ◌≡◌, ◌/◌, ◌≤◌, length};
 ghost use Rattle.printing.specs.Decimal.{natural, integer};
 ghost use Rattle.printing.specs.Written.{blanks, Put};
 ghost use Rattle.lines.specs.Print.{line_end};
-ghost use Rattle.lines.specs.Written.{row_from, rows_from};
+ghost use Rattle.lines.specs.Written.{row_from, rows_of};
 ghost use Rattle.search.specs.Loop.{close_of};
 ghost use Rattle.pages.specs.Pages.{right, filled, column, row_across, last_five, heading, page as page_of, wall_sheet, page_bytes, sheet_bytes};
 ghost use Rattle.pages.specs.Parts.{foot_of, joined, rows_bytes, blank_lines};
@@ -71,14 +71,13 @@ fn put_row(out: &mut [u8], at: usize, row: &[i32]) -> usize
     put_byte(out, s, b'\n')
 }
 
-// The lines of the n rows from row `from` on.
-fn put_rows(out: &mut [u8], at: usize, rows: &[i32], from: usize, n: usize) -> usize
-    requires { 10 * (from + n) ≤ length rows.now }
-    ensures { Put out.old at (rows_bytes (rows_from n (drop (10 * from) rows.now))) out.new result }
+// The lines of rows.
+fn put_rows(out: &mut [u8], at: usize, rows: &[i32]) -> usize
+    ensures { Put out.old at (rows_bytes (rows_of rows.now)) out.new result }
 {
     let mut p = at;
-    for k in 0..n {
-        p = put_row(out, p, &rows[10 * (from + k)..]);
+    for k in 0..rows.len() / 10 {
+        p = put_row(out, p, &rows[10 * k..]);
     }
     p
 }
@@ -136,37 +135,36 @@ fn put_foot(out: &mut [u8], at: usize, ending: Option<Ending>) -> usize
     put_byte(out, q, b'\n')
 }
 
-// The page with this number, with n rows from row `from` on, and an ending or none.
+// The page with this number, with the rows in a slice's whole tens of words, and an ending or none.
 pub fn put_page(
     out: &mut [u8],
     at: usize,
     number: u32,
     rows: &[i32],
-    from: usize,
-    n: usize,
     ending: Option<Ending>,
 ) -> usize
-    requires { (n ≤ 58) × (10 * (from + n) ≤ length rows.now) }
-    ensures { Put out.old at (page_bytes (page_of number (rows_from n (drop (10 * from) rows.now)) (foot_of ending))) out.new result }
+    requires { length rows.now / 10 ≤ 58 }
+    ensures { Put out.old at (page_bytes (page_of number (rows_of rows.now) (foot_of ending))) out.new result }
 {
     let p = put_head(out, at, number);
-    let q = put_rows(out, p, rows, from, n);
-    let s = put_blank_lines(out, q, ROWS - n);
+    let q = put_rows(out, p, rows);
+    let s = put_blank_lines(out, q, ROWS - rows.len() / 10);
     put_foot(out, s, ending)
 }
 
-// The sheet of the first n rows, with an ending.
-pub fn put_pages(out: &mut [u8], rows: &[i32], n: usize, close: Ending) -> usize
-    requires { (n ≤ 1000) × (10 * n ≤ length rows.now) }
-    ensures { Put out.old 0 (sheet_bytes (wall_sheet (rows_from n rows.now) (close_of close))) out.new result }
+// The sheet of the rows in a slice's whole tens of words, with an ending.
+pub fn put_pages(out: &mut [u8], rows: &[i32], close: Ending) -> usize
+    requires { length rows.now / 10 ≤ 1000 }
+    ensures { Put out.old 0 (sheet_bytes (wall_sheet (rows_of rows.now) (close_of close))) out.new result }
 {
     let mut p = 0;
     let mut number: u32 = 1;
-    let mut from = 0;
-    while ROWS < n - from {
-        p = put_page(out, p, number, rows, from, ROWS, None);
+    let mut rest = rows;
+    while ROWS < rest.len() / 10 {
+        let (page, more) = rest.split_at(10 * ROWS);
+        p = put_page(out, p, number, page, None);
         number += 1;
-        from += ROWS;
+        rest = more;
     }
-    put_page(out, p, number, rows, from, n - from, Some(close))
+    put_page(out, p, number, rest, Some(close))
 }

@@ -2,7 +2,7 @@ use mathlib.Core.Path.{refl}
 use Rattle.std.proofs.Common.{rules}
 use native.Mathlib.Omega.{arith}
 use Rattle.grammar.proofs.Marks.{signed, unsigned}
-use Rattle.grammar.proofs.Steps.{kept, room_for, written, unwritten, ready-next, ready-in, ready-added, ready-after, ready_up, told, begin, same-as, yes-so, not_so, pass, eat, ate, wrote, call, fail, stop, missed, found, hand, before, none-at, not_last, clash, is_kind, not_kind}
+use Rattle.grammar.proofs.Steps.{kept, room_for, written, unwritten, ready-in, begin, same-as, yes-so, not_so, pass, eat, ate, wrote, call, fail, stop, missed, found, hand, before, none-at, not_last, clash, is_kind, not_kind}
 use Rattle.grammar.specs.Parse.{read_operand, read_bracket, read_call, read_args, more_args, read_term, more_term, read_sum, more_sum}
 use Rattle.syntax.specs.Abstract.{ast}
 use Rattle.syntax.specs.Table.{at_no_args, at-more-args, at_bracket, at-times, at_name, at_call, at-number, at-negative}
@@ -18,12 +18,6 @@ pub arguments-returns-in_err-next : goal.arguments-returns-in_err-next
 unfolding read_operand ast
 arguments-returns-in_err-next t c = record { same = cc; tells = before c.add-none.ensures (fail _ c.in_err-next.ensures.tells (not_so _ _ (not_kind kind.Close c.kind.ensures (search rules)) (begin 5 (read_args c.args.source.now.kinds) (ready-in c.requires c.add-none.ensures))) (omega arith) c.from_residual.ensures) }
 
-pub arguments-add-first-requires : goal.arguments-add-first-requires
-arguments-add-first-requires t c = let f = told c.in_ok-next.ensures.tells in let q = ready-after (ready-in c.requires c.add-none.ensures) c.in_ok-next.ensures.tells in omega (arith, room_for q, q.inside, q.few, q.below)
-
-pub arguments-more_arguments-requires : goal.arguments-more_arguments-requires
-arguments-more_arguments-requires t c = let f = told c.in_ok-next.ensures.tells in let q = ready-after (ready-in c.requires c.add-none.ensures) c.in_ok-next.ensures.tells in (omega (arith, f.inside, f.more, f.fit, c.decreases), (ready-added q c.add-first.ensures (omega (arith, c.requires.below, f.fit)), (omega arith)))
-
 pub arguments-returns : goal.arguments-returns
 unfolding read_operand ast
 arguments-returns t c = record { same = cc; tells = before c.add-none.ensures (let C = call _ c.in_ok-next.ensures.tells (not_so _ _ (not_kind kind.Close c.kind.ensures (search rules)) (begin 5 (read_args c.args.source.now.kinds) (ready-in c.requires c.add-none.ensures))) (omega arith) in hand (c.more_arguments.ensures.after (first_arg C.tree) (record { kind = _; at = at-more-args (written c.add-first.ensures (room_for C.sofar.ready)) (omega (arith, C.more)) (omega (arith, C.rooted)) (kept (unwritten c.add-first.ensures) (omega (arith, C.more)) (kept C.same (omega arith) (none-at (written c.add-none.ensures (omega (arith, room_for c.requires)))))).at (kept (unwritten c.add-first.ensures) C.rooted C.holds).at })) (wrote c.add-first.ensures C.sofar (omega arith)) (omega arith) (omega arith)) }
@@ -36,9 +30,6 @@ pub bracketed-returns-in_err-expect : goal.bracketed-returns-in_err-expect
 unfolding read_operand ast
 bracketed-returns-in_err-expect t c = record { same = cc; tells = let C = call _ c.in_ok-next.ensures.tells (pass c.requires.1 (begin 1 (read_bracket c.args.source.now.kinds) c.requires.0)) (omega arith) in missed _ c.in_err-expect.ensures c.from_residual-in_err-expect.ensures C.sofar }
 
-pub bracketed-add-requires : goal.bracketed-add-requires
-bracketed-add-requires t c = let q = ready-after (ready-next c.requires.0 c.requires.1) c.in_ok-next.ensures.tells in omega (arith, room_for q, q.inside, q.few, q.below)
-
 pub bracketed-returns : goal.bracketed-returns
 unfolding read_operand ast
 bracketed-returns t c = record { same = cc; tells = let C = call _ c.in_ok-next.ensures.tells (pass c.requires.1 (begin 1 (read_bracket c.args.source.now.kinds) c.requires.0)) (omega arith) in found (wrote c.add.ensures (ate _ c.in_ok-expect.ensures refl C.sofar) (omega arith)) (record { kind = _; at = at_bracket (written c.add.ensures (room_for C.sofar.ready)) (omega (arith, C.rooted)) (kept (unwritten c.add.ensures) C.rooted C.holds).at }) (omega arith) (omega arith) refl }
@@ -46,9 +37,6 @@ bracketed-returns t c = record { same = cc; tells = let C = call _ c.in_ok-next.
 pub expression-returns-in_err-next : goal.expression-returns-in_err-next
 unfolding read_operand ast
 expression-returns-in_err-next t c = record { same = cc; tells = fail _ c.in_err-next.ensures.tells (begin 4 (read_sum c.args.source.now.kinds) c.requires) (omega arith) c.from_residual.ensures }
-
-pub expression-more_expression-requires : goal.expression-more_expression-requires
-expression-more_expression-requires t c = let f = told c.in_ok-next.ensures.tells in (omega (arith, f.inside, f.more, f.fit, c.decreases), (ready-after c.requires c.in_ok-next.ensures.tells, f.rooted))
 
 pub expression-returns : goal.expression-returns
 unfolding read_operand ast
@@ -58,18 +46,9 @@ pub more_arguments-returns-in-Close : goal.more_arguments-returns-in-Close
 unfolding read_operand ast
 more_arguments-returns-in-Close t c = record { same = cc; after = λ u h. found (eat _ _ (is_kind kind.Close c.kind.ensures c.in-Close.is) refl (not_so _ _ (clash (is_kind kind.Close c.kind.ensures c.in-Close.is) refl) (begin 1 (λ d. more_args c.args.source.now.kinds d u) c.requires.0))) h c.requires.1 (omega arith) refl }
 
-pub more_arguments-expression-requires : goal.more_arguments-expression-requires
-more_arguments-expression-requires t c = let h = not_last c.requires.0 (is_kind kind.Comma c.kind.ensures c.in-Comma.is) refl in (omega (arith, h, c.requires.0.inside, c.decreases), ready-next c.requires.0 h)
-
 pub more_arguments-returns-in_err-next-in-Comma : goal.more_arguments-returns-in_err-next-in-Comma
 unfolding read_operand ast
 more_arguments-returns-in_err-next-in-Comma t c = record { same = cc; after = λ u h. fail _ c.in_err-next-in-Comma.ensures.tells (eat _ _ (is_kind kind.Comma c.kind.ensures c.in-Comma.is) refl (begin 1 (λ d. more_args c.args.source.now.kinds d u) c.requires.0)) (omega arith) c.from_residual.ensures }
-
-pub more_arguments-add-more-requires : goal.more_arguments-add-more-requires
-more_arguments-add-more-requires t c = let h = not_last c.requires.0 (is_kind kind.Comma c.kind.ensures c.in-Comma.is) refl in let f = told c.in_ok-next-in-Comma.ensures.tells in let q = ready-after (ready-next c.requires.0 h) c.in_ok-next-in-Comma.ensures.tells in omega (arith, room_for q, q.inside, q.few, q.below)
-
-pub more_arguments-more_arguments-requires : goal.more_arguments-more_arguments-requires
-more_arguments-more_arguments-requires t c = let h = not_last c.requires.0 (is_kind kind.Comma c.kind.ensures c.in-Comma.is) refl in let f = told c.in_ok-next-in-Comma.ensures.tells in let q = ready-after (ready-next c.requires.0 h) c.in_ok-next-in-Comma.ensures.tells in (omega (arith, f.inside, f.more, f.fit, c.decreases), (ready-added q c.add-more.ensures (omega (arith, c.requires.0.below, f.fit)), (omega arith)))
 
 pub more_arguments-returns-in_ok-next-in-Comma : goal.more_arguments-returns-in_ok-next-in-Comma
 unfolding read_operand ast
@@ -83,18 +62,9 @@ pub more_expression-returns-in_default : goal.more_expression-returns-in_default
 unfolding read_operand ast
 more_expression-returns-in_default t c = record { same = cc; after = λ u h. found (same-as (λ d. unsigned c.args.source.now.kinds _ _ c.kind.ensures c.in_default.ensures d u) (begin 1 (λ d. more_sum c.args.source.now.kinds d u) c.requires.0)) h c.requires.1 (omega arith) refl }
 
-pub more_expression-term-requires : goal.more_expression-term-requires
-more_expression-term-requires t c = let w = signed c.args.source.now.kinds _ _ c.kind.ensures c.in-Some.ensures in let h = not_last c.requires.0 w.stands w.some in (omega (arith, h, c.requires.0.inside, c.decreases), ready-next c.requires.0 h)
-
 pub more_expression-returns-in_err-next : goal.more_expression-returns-in_err-next
 unfolding read_operand ast
 more_expression-returns-in_err-next t c = record { same = cc; after = λ u h. let w = signed c.args.source.now.kinds _ _ c.kind.ensures c.in-Some.ensures in fail _ c.in_err-next.ensures.tells (pass (not_last c.requires.0 w.stands w.some) (same-as (λ d. w.goes d u) (begin 1 (λ d. more_sum c.args.source.now.kinds d u) c.requires.0))) (omega arith) c.from_residual.ensures }
-
-pub more_expression-add-more-requires : goal.more_expression-add-more-requires
-more_expression-add-more-requires t c = let w = signed c.args.source.now.kinds _ _ c.kind.ensures c.in-Some.ensures in let h = not_last c.requires.0 w.stands w.some in let f = told c.in_ok-next.ensures.tells in let q = ready-after (ready-next c.requires.0 h) c.in_ok-next.ensures.tells in omega (arith, room_for q, q.inside, q.few, q.below)
-
-pub more_expression-more_expression-requires : goal.more_expression-more_expression-requires
-more_expression-more_expression-requires t c = let w = signed c.args.source.now.kinds _ _ c.kind.ensures c.in-Some.ensures in let h = not_last c.requires.0 w.stands w.some in let f = told c.in_ok-next.ensures.tells in let q = ready-after (ready-next c.requires.0 h) c.in_ok-next.ensures.tells in (omega (arith, f.inside, f.more, f.fit, c.decreases), (ready-added q c.add-more.ensures (omega (arith, c.requires.0.below, f.fit)), (omega arith)))
 
 pub more_expression-returns : goal.more_expression-returns
 unfolding read_operand ast
@@ -104,18 +74,9 @@ pub more_term-returns-in_default : goal.more_term-returns-in_default
 unfolding read_operand ast
 more_term-returns-in_default t c = record { same = cc; after = λ u h. found (not_so _ _ (not_kind kind.Times c.kind.ensures c.in_default.not-Times) (begin 1 (λ d. more_term c.args.source.now.kinds d u) c.requires.0)) h c.requires.1 (omega arith) refl }
 
-pub more_term-operand-requires : goal.more_term-operand-requires
-more_term-operand-requires t c = let h = not_last c.requires.0 (is_kind kind.Times c.kind.ensures c.in-Times.is) refl in (omega (arith, h, c.requires.0.inside, c.decreases), ready-next c.requires.0 h)
-
 pub more_term-returns-in_err-next : goal.more_term-returns-in_err-next
 unfolding read_operand ast
 more_term-returns-in_err-next t c = record { same = cc; after = λ u h. fail _ c.in_err-next.ensures.tells (eat _ _ (is_kind kind.Times c.kind.ensures c.in-Times.is) refl (begin 1 (λ d. more_term c.args.source.now.kinds d u) c.requires.0)) (omega arith) c.from_residual.ensures }
-
-pub more_term-add-more-requires : goal.more_term-add-more-requires
-more_term-add-more-requires t c = let h = not_last c.requires.0 (is_kind kind.Times c.kind.ensures c.in-Times.is) refl in let f = told c.in_ok-next.ensures.tells in let q = ready-after (ready-next c.requires.0 h) c.in_ok-next.ensures.tells in omega (arith, room_for q, q.inside, q.few, q.below)
-
-pub more_term-more_term-requires : goal.more_term-more_term-requires
-more_term-more_term-requires t c = let h = not_last c.requires.0 (is_kind kind.Times c.kind.ensures c.in-Times.is) refl in let f = told c.in_ok-next.ensures.tells in let q = ready-after (ready-next c.requires.0 h) c.in_ok-next.ensures.tells in (omega (arith, f.inside, f.more, f.fit, c.decreases), (ready-added q c.add-more.ensures (omega (arith, c.requires.0.below, f.fit)), (omega arith)))
 
 pub more_term-returns : goal.more_term-returns
 unfolding read_operand ast
@@ -125,15 +86,9 @@ pub named-returns-in_default : goal.named-returns-in_default
 unfolding read_operand ast
 named-returns-in_default t c = record { same = cc; tells = found (wrote c.add.ensures (not_so _ _ (not_kind kind.Open c.kind.ensures c.in_default.not-Open) (pass c.requires.1 (begin 1 (read_call c.args.source.now.kinds) c.requires.0))) (omega arith)) (record { kind = _; at = at_name (written c.add.ensures (room_for c.requires.0)) }) (omega arith) (omega arith) refl }
 
-pub named-arguments-requires : goal.named-arguments-requires
-named-arguments-requires t c = let r = ready-next c.requires.0 c.requires.1 in let h = not_last r (is_kind kind.Open c.kind.ensures c.in-Open.is) refl in (omega (arith, h, c.decreases), ready_up (ready-next r h) (omega (arith, c.requires.0.below)))
-
 pub named-returns-in_err-next : goal.named-returns-in_err-next
 unfolding read_operand ast
 named-returns-in_err-next t c = record { same = cc; tells = fail _ c.in_err-next.ensures.tells (eat _ _ (is_kind kind.Open c.kind.ensures c.in-Open.is) refl (pass c.requires.1 (begin 1 (read_call c.args.source.now.kinds) c.requires.0))) (omega arith) c.from_residual.ensures }
-
-pub named-add-requires-2 : goal.named-add-requires-2
-named-add-requires-2 t c = let r = ready-next c.requires.0 c.requires.1 in let h = not_last r (is_kind kind.Open c.kind.ensures c.in-Open.is) refl in let q = ready-after (ready-next r h) c.in_ok-next.ensures.tells in omega (arith, room_for q, q.inside, q.few, q.below)
 
 pub named-returns : goal.named-returns
 unfolding read_operand ast
@@ -151,15 +106,9 @@ pub operand-returns-in_ok-expect-in-Minus : goal.operand-returns-in_ok-expect-in
 unfolding read_operand ast
 operand-returns-in_ok-expect-in-Minus t c = record { same = cc; tells = found (wrote c.add-in-Minus.ensures (ate _ c.in_ok-expect-in-Minus.ensures refl (eat _ _ (is_kind kind.Minus c.kind.ensures c.in-Minus.is) refl (not_so _ _ (clash (is_kind kind.Minus c.kind.ensures c.in-Minus.is) refl) (begin 2 (read_operand c.args.source.now.kinds) c.requires)))) (omega arith)) (record { kind = _; at = at-negative (written c.add-in-Minus.ensures (room_for c.requires)) }) (omega arith) (omega arith) refl }
 
-pub operand-named-requires : goal.operand-named-requires
-operand-named-requires t c = let h = not_last c.requires (is_kind kind.Name c.kind.ensures c.in-Name.is) refl in (omega (arith, c.requires.inside, c.decreases), (c.requires, h))
-
 pub operand-returns-in-Name : goal.operand-returns-in-Name
 unfolding read_operand ast
 operand-returns-in-Name t c = record { same = cc; tells = hand c.named.ensures.tells (yes-so _ _ (is_kind kind.Name c.kind.ensures c.in-Name.is) (not_so _ _ (clash (is_kind kind.Name c.kind.ensures c.in-Name.is) refl) (not_so _ _ (clash (is_kind kind.Name c.kind.ensures c.in-Name.is) refl) (begin 2 (read_operand c.args.source.now.kinds) c.requires)))) (omega arith) (omega arith) }
-
-pub operand-bracketed-requires : goal.operand-bracketed-requires
-operand-bracketed-requires t c = let h = not_last c.requires (is_kind kind.Open c.kind.ensures c.in-Open.is) refl in (omega (arith, c.requires.inside, c.decreases), (c.requires, h))
 
 pub operand-returns-in-Open : goal.operand-returns-in-Open
 unfolding read_operand ast
@@ -172,9 +121,6 @@ operand-returns-in_default t c = record { same = cc; tells = stop (not_so _ _ (n
 pub term-returns-in_err-next : goal.term-returns-in_err-next
 unfolding read_operand ast
 term-returns-in_err-next t c = record { same = cc; tells = fail _ c.in_err-next.ensures.tells (begin 3 (read_term c.args.source.now.kinds) c.requires) (omega arith) c.from_residual.ensures }
-
-pub term-more_term-requires : goal.term-more_term-requires
-term-more_term-requires t c = let f = told c.in_ok-next.ensures.tells in (omega (arith, f.inside, f.more, f.fit, c.decreases), (ready-after c.requires c.in_ok-next.ensures.tells, f.rooted))
 
 pub term-returns : goal.term-returns
 unfolding read_operand ast

@@ -1,7 +1,7 @@
 use mathlib.Core.Path.{refl}
 use Rattle.std.proofs.Common.{rules}
 use native.Mathlib.Omega.{arith}
-use Rattle.grammar.proofs.Steps.{kept, room_for, written, unwritten, ready-next, ready-added, ready-after, ready_up, told, begin, yes-so, not_so, pass, eat, ate, wrote, call, fail, missed, found, hand, before, not_last, clash, there, is_kind, not_kind}
+use Rattle.grammar.proofs.Steps.{kept, room_for, written, unwritten, ready-next, ready-after, told, begin, yes-so, not_so, pass, eat, ate, wrote, call, fail, missed, found, hand, before, not_last, clash, there, is_kind, not_kind}
 use Rattle.grammar.specs.Parse.{read_stmt, read_block, read_if, read_while, more_body}
 use Rattle.syntax.specs.Abstract.{ast}
 use Rattle.syntax.specs.Table.{at_block, at-more-stmts, at-braced, at-no-stmts, at-if-else, at-eval, at_return, at-empty, at-while}
@@ -9,15 +9,9 @@ use Rattle.syntax.specs.Tree.{more_stmts, no_stmts, eval, return}
 use Rattle.syntax.specs.declared.token.TokenKind.TheVariants as kind
 use Rattle.grammar.proofs.+block_body_braces_if_else_statement_while_do.Goals as goal
 
-pub block-braces-requires : goal.block-braces-requires
-block-braces-requires t c = (omega (arith, c.requires.1, c.decreases), ready_up (ready-next c.requires.0 c.requires.1) (omega (arith, c.requires.0.below)))
-
 pub block-returns-in_err-next : goal.block-returns-in_err-next
 unfolding read_stmt ast
 block-returns-in_err-next t c = record { same = cc; tells = fail _ c.in_err-next.ensures.all (pass c.requires.1 (begin 1 (read_block c.args.source.now.kinds) c.requires.0)) (omega arith) c.from_residual.ensures }
-
-pub block-add-requires : goal.block-add-requires
-block-add-requires t c = let q = ready-after (ready-next c.requires.0 c.requires.1) c.in_ok-next.ensures.all in omega (arith, room_for q, q.inside, q.few, q.below)
 
 pub block-returns : goal.block-returns
 unfolding read_stmt ast
@@ -31,12 +25,6 @@ pub body-returns-in_err-next : goal.body-returns-in_err-next
 unfolding read_stmt ast
 body-returns-in_err-next t c = record { same = cc; after = λ u h. fail _ c.in_err-next.ensures.tells (not_so _ _ (not_kind kind.Rbrace c.kind.ensures (search rules)) (begin 8 (λ d. more_body c.args.source.now.kinds d u) c.requires.0)) (omega arith) c.from_residual.ensures }
 
-pub body-add-more-requires : goal.body-add-more-requires
-body-add-more-requires t c = let q = ready-after c.requires.0 c.in_ok-next.ensures.tells in omega (arith, room_for q, q.inside, q.few, q.below)
-
-pub body-body-requires : goal.body-body-requires
-body-body-requires t c = let q = ready-after c.requires.0 c.in_ok-next.ensures.tells in let f = told c.in_ok-next.ensures.tells in (omega (arith, f.inside, f.more, f.fit, c.decreases), (ready-added q c.add-more.ensures (omega (arith, c.requires.0.below, f.fit)), (omega arith)))
-
 pub body-returns : goal.body-returns
 unfolding read_stmt ast
 body-returns t c = record { same = cc; after = λ u h. let C = call _ c.in_ok-next.ensures.tells (not_so _ _ (not_kind kind.Rbrace c.kind.ensures (search rules)) (begin 8 (λ d. more_body c.args.source.now.kinds d u) c.requires.0)) (omega arith) in hand (c.body.ensures.after (more_stmts u C.tree) (record { kind = _; at = at-more-stmts (written c.add-more.ensures (room_for C.sofar.ready)) (omega (arith, c.requires.1, C.more)) (omega (arith, C.rooted)) (kept (unwritten c.add-more.ensures) (omega (arith, c.requires.1, C.more)) (kept C.same c.requires.1 h)).at (kept (unwritten c.add-more.ensures) C.rooted C.holds).at })) (wrote c.add-more.ensures C.sofar (omega arith)) (omega arith) (omega arith) }
@@ -49,9 +37,6 @@ pub if_else-returns-in_err-next : goal.if_else-returns-in_err-next
 unfolding read_stmt ast
 if_else-returns-in_err-next t c = record { same = cc; tells = fail _ c.in_err-next.ensures.tells (pass c.requires.1 (begin 1 (read_if c.args.source.now.kinds) c.requires.0)) (omega arith) c.from_residual.ensures }
 
-pub if_else-statement-requires : goal.if_else-statement-requires
-if_else-statement-requires t c = let f = told c.in_ok-next.ensures.tells in let q = ready-after (ready-next c.requires.0 c.requires.1) c.in_ok-next.ensures.tells in (omega (arith, f.inside, f.more, f.fit, c.decreases), q)
-
 pub if_else-returns-in_err-next-2 : goal.if_else-returns-in_err-next-2
 unfolding read_stmt ast
 if_else-returns-in_err-next-2 t c = record { same = cc; tells = let C = call _ c.in_ok-next.ensures.tells (pass c.requires.1 (begin 1 (read_if c.args.source.now.kinds) c.requires.0)) (omega arith) in fail _ c.in_err-next-2.ensures.tells C.sofar (omega arith) c.from_residual-in_err-next-2.ensures }
@@ -59,9 +44,6 @@ if_else-returns-in_err-next-2 t c = record { same = cc; tells = let C = call _ c
 pub if_else-returns-in_err-expect : goal.if_else-returns-in_err-expect
 unfolding read_stmt ast
 if_else-returns-in_err-expect t c = record { same = cc; tells = let C = call _ c.in_ok-next.ensures.tells (pass c.requires.1 (begin 1 (read_if c.args.source.now.kinds) c.requires.0)) (omega arith) in let D = call _ c.in_ok-next-2.ensures.tells C.sofar (omega arith) in missed _ c.in_err-expect.ensures c.from_residual-in_err-expect.ensures D.sofar }
-
-pub if_else-statement-requires-2 : goal.if_else-statement-requires-2
-if_else-statement-requires-2 t c = let f = told c.in_ok-next.ensures.tells in let q = ready-after (ready-next c.requires.0 c.requires.1) c.in_ok-next.ensures.tells in let g = told c.in_ok-next-2.ensures.tells in let p = ready-after q c.in_ok-next-2.ensures.tells in let h = not_last p (there c.in_ok-expect.ensures) refl in (omega (arith, f.inside, f.more, f.fit, g.inside, g.more, g.fit, h, c.decreases), ready-next p h)
 
 pub if_else-returns-in_err-next-3 : goal.if_else-returns-in_err-next-3
 unfolding read_stmt ast
@@ -78,15 +60,9 @@ pub while_do-returns-in_err-next : goal.while_do-returns-in_err-next
 unfolding read_stmt ast
 while_do-returns-in_err-next t c = record { same = cc; tells = fail _ c.in_err-next.ensures.tells (pass c.requires.1 (begin 1 (read_while c.args.source.now.kinds) c.requires.0)) (omega arith) c.from_residual.ensures }
 
-pub while_do-statement-requires : goal.while_do-statement-requires
-while_do-statement-requires t c = let f = told c.in_ok-next.ensures.tells in let q = ready-after (ready-next c.requires.0 c.requires.1) c.in_ok-next.ensures.tells in (omega (arith, f.inside, f.more, f.fit, c.decreases), q)
-
 pub while_do-returns-in_err-next-2 : goal.while_do-returns-in_err-next-2
 unfolding read_stmt ast
 while_do-returns-in_err-next-2 t c = record { same = cc; tells = let C = call _ c.in_ok-next.ensures.tells (pass c.requires.1 (begin 1 (read_while c.args.source.now.kinds) c.requires.0)) (omega arith) in fail _ c.in_err-next-2.ensures.tells C.sofar (omega arith) c.from_residual-in_err-next-2.ensures }
-
-pub while_do-add-requires : goal.while_do-add-requires
-while_do-add-requires t c = let f = told c.in_ok-next.ensures.tells in let q = ready-after (ready-next c.requires.0 c.requires.1) c.in_ok-next.ensures.tells in let p = ready-after q c.in_ok-next-2.ensures.tells in omega (arith, room_for p, p.inside, p.few, p.below)
 
 pub while_do-returns : goal.while_do-returns
 unfolding read_stmt ast
@@ -96,50 +72,29 @@ pub statement-returns-in-Semi : goal.statement-returns-in-Semi
 unfolding read_stmt ast
 statement-returns-in-Semi t c = record { same = cc; tells = found (wrote c.add.ensures (eat _ _ (is_kind kind.Semi c.kind.ensures c.in-Semi.is) refl (begin 7 (read_stmt c.args.source.now.kinds) c.requires)) (omega arith)) (record { kind = _; at = at-empty (written c.add.ensures (room_for c.requires)) }) (omega arith) (omega arith) refl }
 
-pub statement-declaration-requires : goal.statement-declaration-requires
-statement-declaration-requires t c = (c.requires, not_last c.requires (is_kind kind.Int c.kind.ensures c.in-Int.is) refl)
-
 pub statement-returns-in-Int : goal.statement-returns-in-Int
 unfolding read_stmt ast
 statement-returns-in-Int t c = record { same = cc; tells = hand c.declaration.ensures.tells (yes-so _ _ (is_kind kind.Int c.kind.ensures c.in-Int.is) (not_so _ _ (clash (is_kind kind.Int c.kind.ensures c.in-Int.is) refl) (begin 7 (read_stmt c.args.source.now.kinds) c.requires))) (omega arith) (omega arith) }
-
-pub statement-assignment-requires : goal.statement-assignment-requires
-statement-assignment-requires t c = (c.requires, not_last c.requires (is_kind kind.Name c.kind.ensures c.in-Name.is) refl)
 
 pub statement-returns-in-Name : goal.statement-returns-in-Name
 unfolding read_stmt ast
 statement-returns-in-Name t c = record { same = cc; tells = hand c.assignment.ensures.tells (yes-so _ _ (is_kind kind.Name c.kind.ensures c.in-Name.is) (not_so _ _ (clash (is_kind kind.Name c.kind.ensures c.in-Name.is) refl) (not_so _ _ (clash (is_kind kind.Name c.kind.ensures c.in-Name.is) refl) (begin 7 (read_stmt c.args.source.now.kinds) c.requires)))) (omega arith) (omega arith) }
 
-pub statement-failing-requires : goal.statement-failing-requires
-statement-failing-requires t c = (c.requires, not_last c.requires (is_kind kind.Fail c.kind.ensures c.in-Fail.is) refl)
-
 pub statement-returns-in-Fail : goal.statement-returns-in-Fail
 unfolding read_stmt ast
 statement-returns-in-Fail t c = record { same = cc; tells = hand c.failing.ensures.tells (yes-so _ _ (is_kind kind.Fail c.kind.ensures c.in-Fail.is) (not_so _ _ (clash (is_kind kind.Fail c.kind.ensures c.in-Fail.is) refl) (not_so _ _ (clash (is_kind kind.Fail c.kind.ensures c.in-Fail.is) refl) (not_so _ _ (clash (is_kind kind.Fail c.kind.ensures c.in-Fail.is) refl) (not_so _ _ (clash (is_kind kind.Fail c.kind.ensures c.in-Fail.is) refl) (not_so _ _ (clash (is_kind kind.Fail c.kind.ensures c.in-Fail.is) refl) (not_so _ _ (clash (is_kind kind.Fail c.kind.ensures c.in-Fail.is) refl) (not_so _ _ (clash (is_kind kind.Fail c.kind.ensures c.in-Fail.is) refl) (begin 7 (read_stmt c.args.source.now.kinds) c.requires))))))))) (omega arith) (omega arith) }
-
-pub statement-block-requires : goal.statement-block-requires
-statement-block-requires t c = (omega (arith, c.requires.inside, c.decreases), (c.requires, not_last c.requires (is_kind kind.Lbrace c.kind.ensures c.in-Lbrace.is) refl))
 
 pub statement-returns-in-Lbrace : goal.statement-returns-in-Lbrace
 unfolding read_stmt ast
 statement-returns-in-Lbrace t c = record { same = cc; tells = hand c.block.ensures.tells (yes-so _ _ (is_kind kind.Lbrace c.kind.ensures c.in-Lbrace.is) (not_so _ _ (clash (is_kind kind.Lbrace c.kind.ensures c.in-Lbrace.is) refl) (not_so _ _ (clash (is_kind kind.Lbrace c.kind.ensures c.in-Lbrace.is) refl) (not_so _ _ (clash (is_kind kind.Lbrace c.kind.ensures c.in-Lbrace.is) refl) (begin 7 (read_stmt c.args.source.now.kinds) c.requires))))) (omega arith) (omega arith) }
 
-pub statement-if_else-requires : goal.statement-if_else-requires
-statement-if_else-requires t c = (omega (arith, c.requires.inside, c.decreases), (c.requires, not_last c.requires (is_kind kind.If c.kind.ensures c.in-If.is) refl))
-
 pub statement-returns-in-If : goal.statement-returns-in-If
 unfolding read_stmt ast
 statement-returns-in-If t c = record { same = cc; tells = hand c.if_else.ensures.tells (yes-so _ _ (is_kind kind.If c.kind.ensures c.in-If.is) (not_so _ _ (clash (is_kind kind.If c.kind.ensures c.in-If.is) refl) (not_so _ _ (clash (is_kind kind.If c.kind.ensures c.in-If.is) refl) (not_so _ _ (clash (is_kind kind.If c.kind.ensures c.in-If.is) refl) (not_so _ _ (clash (is_kind kind.If c.kind.ensures c.in-If.is) refl) (begin 7 (read_stmt c.args.source.now.kinds) c.requires)))))) (omega arith) (omega arith) }
 
-pub statement-while_do-requires : goal.statement-while_do-requires
-statement-while_do-requires t c = (omega (arith, c.requires.inside, c.decreases), (c.requires, not_last c.requires (is_kind kind.While c.kind.ensures c.in-While.is) refl))
-
 pub statement-returns-in-While : goal.statement-returns-in-While
 unfolding read_stmt ast
 statement-returns-in-While t c = record { same = cc; tells = hand c.while_do.ensures.tells (yes-so _ _ (is_kind kind.While c.kind.ensures c.in-While.is) (not_so _ _ (clash (is_kind kind.While c.kind.ensures c.in-While.is) refl) (not_so _ _ (clash (is_kind kind.While c.kind.ensures c.in-While.is) refl) (not_so _ _ (clash (is_kind kind.While c.kind.ensures c.in-While.is) refl) (not_so _ _ (clash (is_kind kind.While c.kind.ensures c.in-While.is) refl) (not_so _ _ (clash (is_kind kind.While c.kind.ensures c.in-While.is) refl) (begin 7 (read_stmt c.args.source.now.kinds) c.requires))))))) (omega arith) (omega arith) }
-
-pub statement-ended-requires : goal.statement-ended-requires
-statement-ended-requires t c = let h = not_last c.requires (is_kind kind.Return c.kind.ensures c.in-Return.is) refl in (ready-next c.requires h, omega (arith, c.requires.inside, c.requires.few))
 
 pub statement-returns-in-Return : goal.statement-returns-in-Return
 unfolding read_stmt ast

@@ -1,6 +1,6 @@
 use mathlib.Core.Path.{refl}
 use native.Mathlib.Omega.{arith}
-use Rattle.grammar.proofs.Steps.{kept, room_for, written, unwritten, ready-added, ready-after, told, begin, yes-so, not_so, wrote, call, fail, found, hand, not_last, is_kind, not_kind}
+use Rattle.grammar.proofs.Steps.{kept, room_for, written, unwritten, begin, yes-so, not_so, wrote, call, fail, found, hand, is_kind, not_kind}
 use Rattle.grammar.specs.Parse.{more_prog}
 use Rattle.syntax.specs.Abstract.{ast}
 use Rattle.syntax.specs.Table.{at-more-funs}
@@ -12,18 +12,9 @@ pub returns-in_default : goal.returns-in_default
 unfolding more_prog ast
 returns-in_default t c = record { same = cc; after = λ u h. found (not_so _ _ (not_kind kind.Int c.kind.ensures c.in_default.not-Int) (begin 2 (λ d. more_prog c.args.source.now.kinds d u) c.requires.0)) h c.requires.1 (omega arith) refl }
 
-pub function-requires : goal.function-requires
-function-requires t c = (c.requires.0, not_last c.requires.0 (is_kind kind.Int c.kind.ensures c.in-Int.is) refl)
-
 pub returns-in_err-next : goal.returns-in_err-next
 unfolding more_prog ast
 returns-in_err-next t c = record { same = cc; after = λ u h. fail _ c.in_err-next.ensures.tells (yes-so _ _ (is_kind kind.Int c.kind.ensures c.in-Int.is) (begin 2 (λ d. more_prog c.args.source.now.kinds d u) c.requires.0)) (omega arith) c.from_residual.ensures }
-
-pub add-more-requires : goal.add-more-requires
-add-more-requires t c = let q = ready-after c.requires.0 c.in_ok-next.ensures.tells in omega (arith, room_for q, q.inside, q.few, q.below)
-
-pub functions-requires : goal.functions-requires
-functions-requires t c = let q = ready-after c.requires.0 c.in_ok-next.ensures.tells in let f = told c.in_ok-next.ensures.tells in (omega (arith, f.inside, f.more, f.fit, c.decreases), (ready-added q c.add-more.ensures (omega (arith, c.requires.0.below, f.fit)), (omega arith)))
 
 pub returns : goal.returns
 unfolding more_prog ast

@@ -1,6 +1,6 @@
 use mathlib.Core.Path.{refl}
 use native.Mathlib.Omega.{arith}
-use Rattle.grammar.proofs.Steps.{kept, room_for, written, unwritten, ready-next, ready-added, ready-after, told, begin, not_so, eat, wrote, call, fail, found, hand, not_last, is_kind, not_kind}
+use Rattle.grammar.proofs.Steps.{kept, room_for, written, unwritten, begin, not_so, eat, wrote, call, fail, found, hand, is_kind, not_kind}
 use Rattle.grammar.specs.Parse.{more_conj}
 use Rattle.syntax.specs.Abstract.{ast}
 use Rattle.syntax.specs.Table.{at_both}
@@ -12,18 +12,9 @@ pub returns-in_default : goal.returns-in_default
 unfolding more_conj ast
 returns-in_default t c = record { same = cc; after = λ u h. found (not_so _ _ (not_kind kind.And c.kind.ensures c.in_default.not-And) (begin 1 (λ d. more_conj c.args.source.now.kinds d u) c.requires.0)) h c.requires.1 (omega arith) refl }
 
-pub atom-requires : goal.atom-requires
-atom-requires t c = let h = not_last c.requires.0 (is_kind kind.And c.kind.ensures c.in-And.is) refl in ready-next c.requires.0 h
-
 pub returns-in_err-next : goal.returns-in_err-next
 unfolding more_conj ast
 returns-in_err-next t c = record { same = cc; after = λ u h. fail _ c.in_err-next.ensures.tells (eat _ _ (is_kind kind.And c.kind.ensures c.in-And.is) refl (begin 1 (λ d. more_conj c.args.source.now.kinds d u) c.requires.0)) (omega arith) c.from_residual.ensures }
-
-pub add-more-requires : goal.add-more-requires
-add-more-requires t c = let h = not_last c.requires.0 (is_kind kind.And c.kind.ensures c.in-And.is) refl in let q = ready-after (ready-next c.requires.0 h) c.in_ok-next.ensures.tells in omega (arith, room_for q, q.inside, q.few, q.below)
-
-pub more_conjunction-requires : goal.more_conjunction-requires
-more_conjunction-requires t c = let h = not_last c.requires.0 (is_kind kind.And c.kind.ensures c.in-And.is) refl in let q = ready-after (ready-next c.requires.0 h) c.in_ok-next.ensures.tells in let f = told c.in_ok-next.ensures.tells in (omega (arith, f.inside, f.more, f.fit, c.decreases), (ready-added q c.add-more.ensures (omega (arith, c.requires.0.below, f.fit)), (omega arith)))
 
 pub returns : goal.returns
 unfolding more_conj ast

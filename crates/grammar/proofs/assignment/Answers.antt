@@ -1,16 +1,13 @@
 use mathlib.Core.Path.{refl}
 use Rattle.std.proofs.Common.{rules}
 use native.Mathlib.Omega.{arith}
-use Rattle.grammar.proofs.Steps.{ready-next, begin, not_so, pass, eat, hand, not_last, is_kind, not_kind}
+use Rattle.grammar.proofs.Steps.{begin, not_so, pass, eat, hand, is_kind, not_kind}
 use Rattle.grammar.specs.Parse.{read_named}
 use Rattle.syntax.specs.Abstract.{ast}
 use Rattle.syntax.specs.Table.{at-eval, at-assign}
 use Rattle.syntax.specs.Tree.{eval, assign}
 use Rattle.syntax.specs.declared.token.TokenKind.TheVariants as kind
 use Rattle.grammar.proofs.assignment.Goals as goal
-
-pub ended-requires : goal.ended-requires
-ended-requires c = let r = ready-next c.requires.0 c.requires.1 in let h = not_last r (is_kind kind.Assign c.kind.ensures (search rules)) refl in (ready-next r h, omega (arith, c.requires.0.inside, c.requires.0.few))
 
 pub returns-then-eq : goal.returns-then-eq
 unfolding read_named ast

@@ -1,7 +1,7 @@
 use mathlib.Core.Path.{refl}
 use native.Mathlib.Omega.{arith}
 use Rattle.grammar.proofs.Marks.{compared, uncompared}
-use Rattle.grammar.proofs.Steps.{kept, room_for, written, unwritten, ready-next, ready-after, begin, swap, not_so, pass, eat, wrote, call, fail, stop, found, not_last, clash, is_kind, not_kind, row-third}
+use Rattle.grammar.proofs.Steps.{kept, room_for, written, unwritten, begin, swap, not_so, pass, eat, wrote, call, fail, stop, found, not_last, clash, is_kind, not_kind, row-third}
 use Rattle.grammar.specs.Parse.{read_atom}
 use Rattle.syntax.specs.Abstract.{ast}
 use Rattle.syntax.specs.Table.{at-always, at-never, at-compare}
@@ -24,15 +24,9 @@ pub returns-in_default-comparison : goal.returns-in_default-comparison
 unfolding read_atom ast
 returns-in_default-comparison c = record { same = cc; tells = let C = call _ c.in_ok-next-in_default.ensures.tells (not_so _ _ (not_kind kind.False c.kind.ensures c.in_default.not-False) (not_so _ _ (not_kind kind.True c.kind.ensures c.in_default.not-True) (begin 5 (read_atom c.args.source.now.kinds) c.requires))) (omega arith) in stop (swap _ (uncompared c.args.source.now.kinds _ _ c.kind-in_default.ensures c.in_default-comparison.ensures) C.sofar) }
 
-pub expression-requires-in_default : goal.expression-requires-in_default
-expression-requires-in_default c = let q = ready-after c.requires c.in_ok-next-in_default.ensures.tells in let w = compared c.args.source.now.kinds _ _ c.kind-in_default.ensures c.in-Some.ensures in let h = not_last q w.stands w.some in ready-next q h
-
 pub returns-in_err-next-in_default-2 : goal.returns-in_err-next-in_default-2
 unfolding read_atom ast
 returns-in_err-next-in_default-2 c = record { same = cc; tells = let C = call _ c.in_ok-next-in_default.ensures.tells (not_so _ _ (not_kind kind.False c.kind.ensures c.in_default.not-False) (not_so _ _ (not_kind kind.True c.kind.ensures c.in_default.not-True) (begin 5 (read_atom c.args.source.now.kinds) c.requires))) (omega arith) in let w = compared c.args.source.now.kinds _ _ c.kind-in_default.ensures c.in-Some.ensures in fail _ c.in_err-next-in_default-2.ensures.tells (pass (not_last C.sofar.ready w.stands w.some) (swap _ w.reads C.sofar)) (omega arith) c.from_residual-in_err-next-in_default-2.ensures }
-
-pub add-requires-in_default : goal.add-requires-in_default
-add-requires-in_default c = let q = ready-after c.requires c.in_ok-next-in_default.ensures.tells in let w = compared c.args.source.now.kinds _ _ c.kind-in_default.ensures c.in-Some.ensures in let h = not_last q w.stands w.some in let p = ready-after (ready-next q h) c.in_ok-next-in_default-2.ensures.tells in omega (arith, room_for p, p.inside, p.few, p.below)
 
 pub returns-in_ok-next-in_default-2 : goal.returns-in_ok-next-in_default-2
 unfolding read_atom ast

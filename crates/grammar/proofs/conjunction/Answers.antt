@@ -1,5 +1,5 @@
 use native.Mathlib.Omega.{arith}
-use Rattle.grammar.proofs.Steps.{ready-after, told, begin, call, fail, hand}
+use Rattle.grammar.proofs.Steps.{begin, call, fail, hand}
 use Rattle.grammar.specs.Parse.{read_conj}
 use Rattle.syntax.specs.Abstract.{ast}
 use Rattle.syntax.specs.Tree.{one_atom}
@@ -8,9 +8,6 @@ use Rattle.grammar.proofs.conjunction.Goals as goal
 pub returns-in_err-next : goal.returns-in_err-next
 unfolding read_conj ast
 returns-in_err-next c = record { same = cc; tells = fail _ c.in_err-next.ensures.tells (begin 6 (read_conj c.args.source.now.kinds) c.requires) (omega arith) c.from_residual.ensures }
-
-pub more_conjunction-requires : goal.more_conjunction-requires
-more_conjunction-requires c = (ready-after c.requires c.in_ok-next.ensures.tells, (told c.in_ok-next.ensures.tells).rooted)
 
 pub returns : goal.returns
 unfolding read_conj ast

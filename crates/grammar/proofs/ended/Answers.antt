@@ -1,6 +1,6 @@
 use mathlib.Core.Path.{refl}
 use native.Mathlib.Omega.{arith}
-use Rattle.grammar.proofs.Steps.{kept, room_for, written, unwritten, ready-after, begin, ate, wrote, call, fail, missed, found}
+use Rattle.grammar.proofs.Steps.{kept, room_for, written, unwritten, begin, ate, wrote, call, fail, missed, found}
 use Rattle.grammar.specs.Parse.{read_ended}
 use Rattle.grammar.proofs.ended.Goals as goal
 
@@ -11,9 +11,6 @@ returns-in_err-next c = record { same = cc; ended = λ w m. fail _ c.in_err-next
 pub returns-in_err-expect : goal.returns-in_err-expect
 unfolding read_ended
 returns-in_err-expect c = record { same = cc; ended = λ w m. let C = call _ c.in_ok-next.ensures.tells (begin 5 (read_ended c.args.source.now.kinds w) c.requires.0) (omega arith) in missed _ c.in_err-expect.ensures c.from_residual-in_err-expect.ensures C.sofar }
-
-pub add-requires : goal.add-requires
-add-requires c = let q = ready-after c.requires.0 c.in_ok-next.ensures.tells in omega (arith, room_for q, q.inside, q.few, q.below)
 
 pub returns : goal.returns
 unfolding read_ended

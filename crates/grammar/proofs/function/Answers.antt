@@ -1,6 +1,6 @@
 use mathlib.Core.Path.{refl}
 use native.Mathlib.Omega.{arith}
-use Rattle.grammar.proofs.Steps.{kept, room_for, written, unwritten, ready-next, ready-after, ready_up, begin, pass, ate, wrote, call, fail, missed, found, not_last, there}
+use Rattle.grammar.proofs.Steps.{kept, room_for, written, unwritten, begin, pass, ate, wrote, call, fail, missed, found}
 use Rattle.grammar.specs.Parse.{read_fun}
 use Rattle.syntax.specs.Abstract.{ast}
 use Rattle.syntax.specs.Table.{at-function}
@@ -22,15 +22,9 @@ pub returns-in_err-expect-3 : goal.returns-in_err-expect-3
 unfolding read_fun ast
 returns-in_err-expect-3 c = record { same = cc; tells = let C = call _ c.in_ok-next.ensures.tells (ate _ c.in_ok-expect-2.ensures refl (ate _ c.in_ok-expect.ensures refl (pass c.requires.1 (begin 1 (read_fun c.args.source.now.kinds) c.requires.0)))) (omega arith) in missed _ c.in_err-expect-3.ensures c.from_residual-in_err-expect-3.ensures C.sofar }
 
-pub braces-requires : goal.braces-requires
-braces-requires c = let r = ready-next c.requires.0 c.requires.1 in let h = not_last r (there c.in_ok-expect.ensures) refl in let q = ready-next r h in let i = not_last q (there c.in_ok-expect-2.ensures) refl in let p = ready-next q i in let o = ready-after p c.in_ok-next.ensures.tells in let j = not_last o (there c.in_ok-expect-3.ensures) refl in ready_up (ready-next o j) (omega (arith, o.below))
-
 pub returns-in_err-next-2 : goal.returns-in_err-next-2
 unfolding read_fun ast
 returns-in_err-next-2 c = record { same = cc; tells = let C = call _ c.in_ok-next.ensures.tells (ate _ c.in_ok-expect-2.ensures refl (ate _ c.in_ok-expect.ensures refl (pass c.requires.1 (begin 1 (read_fun c.args.source.now.kinds) c.requires.0)))) (omega arith) in fail _ c.in_err-next-2.ensures.all (ate _ c.in_ok-expect-3.ensures refl C.sofar) (omega arith) c.from_residual-in_err-next-2.ensures }
-
-pub add-requires : goal.add-requires
-add-requires c = let r = ready-next c.requires.0 c.requires.1 in let h = not_last r (there c.in_ok-expect.ensures) refl in let q = ready-next r h in let i = not_last q (there c.in_ok-expect-2.ensures) refl in let p = ready-next q i in let o = ready-after p c.in_ok-next.ensures.tells in let j = not_last o (there c.in_ok-expect-3.ensures) refl in let w = ready-after (ready-next o j) c.in_ok-next-2.ensures.all in omega (arith, room_for w, w.inside, w.few, w.below)
 
 pub returns : goal.returns
 unfolding read_fun ast

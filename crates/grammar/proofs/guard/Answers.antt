@@ -1,6 +1,6 @@
 use mathlib.Core.Path.{refl}
 use native.Mathlib.Omega.{arith}
-use Rattle.grammar.proofs.Steps.{ready-next, begin, ate, call, fail, missed, found, not_last, there}
+use Rattle.grammar.proofs.Steps.{begin, ate, call, fail, missed, found}
 use Rattle.grammar.specs.Parse.{read_guard}
 use Rattle.syntax.specs.Abstract.{ast}
 use Rattle.grammar.proofs.guard.Goals as goal
@@ -8,9 +8,6 @@ use Rattle.grammar.proofs.guard.Goals as goal
 pub returns-in_err-expect : goal.returns-in_err-expect
 unfolding read_guard ast
 returns-in_err-expect c = record { same = cc; tells = missed _ c.in_err-expect.ensures c.from_residual.ensures (begin 1 (read_guard c.args.source.now.kinds) c.requires) }
-
-pub condition-requires : goal.condition-requires
-condition-requires c = let h = not_last c.requires (there c.in_ok-expect.ensures) refl in ready-next c.requires h
 
 pub returns-in_err-next : goal.returns-in_err-next
 unfolding read_guard ast

@@ -1,13 +1,9 @@
 use mathlib.Core.Path.{refl, ◌∙◌}
 use Rattle.std.proofs.Common.{rules}
-use native.Mathlib.Omega.{arith}
 use Rattle.grammar.proofs.Steps.{added-length}
 use Rattle.grammar.proofs.Whole.{begin-ready, no-funs-at, whole-stop, whole-tree, whole-bad, same-nodes, same-length}
 use Rattle.syntax.specs.Tree.{no_funs}
 use Rattle.grammar.proofs.parse.Goals as goal
-
-pub functions-requires : goal.functions-requires
-functions-requires c = (begin-ready refl c.requires c.add-none.ensures, (omega arith))
 
 pub returns-in_err-next-clause-answer : goal.returns-in_err-next-clause-answer
 returns-in_err-next-clause-answer c = let s = c.functions.ensures.same ∙ c.add-none.ensures.same in same-nodes (search rules) (whole-bad (begin-ready refl c.requires c.add-none.ensures) (c.in_err-next.ensures.after no_funs (no-funs-at refl c.requires c.add-none.ensures)) refl c.from_residual.ensures)

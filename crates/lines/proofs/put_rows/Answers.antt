@@ -1,4 +1,4 @@
-use Prim.Native.Nat.{◌+◌, ◌*◌}
+use Prim.Native.Nat.{◌*◌}
 use native.Mathlib.Omega.{arith}
 use Rattle.printing.proofs.Puts.{and_then, put_as, put-none}
 use Rattle.lines.specs.Print.{row_lines}
@@ -13,5 +13,5 @@ loop-k-init c = (put-none _ _ (omega arith) (omega arith), omega arith)
 
 pub loop-k-preserved : goal.loop-k-preserved
 loop-k-preserved c =
-    let w = rw (whole-rest c.args.rows.now (10 * (c.args.from + c.loop-k.k))) at c.put_row-p.ensures.0 in
-    (put_as (rows_more c.args.rows.now c.args.from c.loop-k.k) (and_then c.loop-k.invariant.0 w), omega (arith, c.loop-k.invariant.1, c.put_row-p.ensures.1))
+    let w = rw (whole-rest c.args.rows.now (10 * c.loop-k.k)) at c.put_row-p.ensures.0 in
+    (put_as (rows_more c.args.rows.now c.loop-k.k) (and_then c.loop-k.invariant.0 w), omega (arith, c.loop-k.invariant.1, c.put_row-p.ensures.1))

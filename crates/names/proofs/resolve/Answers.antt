@@ -1,11 +1,16 @@
+use mathlib.Core.Path.{ap}
 use native.Mathlib.Omega.{arith}
-use Rattle.text_rules.specs.Spelling.{same_name}
-use Rattle.names.proofs.Walks.{as_many}
+use lib.ListN.{length}
+use Rattle.text_rules.specs.Spelling.{same_in}
+use Rattle.names.proofs.Walks.{heads-fewer}
 use Rattle.names.proofs.Merging.{judged}
 use Rattle.names.proofs.resolve.Goals as goal
 
-pub see_all-best-requires : goal.see_all-best-requires
-see_all-best-requires c = (c.requires.0, c.requires.1, c.requires.2, omega (arith, as_many c.args.heads.now c.args.events.now c.args.h c.args.n c.requires.3), c.requires.4)
+pub see_all-best-requires-clause-heads : goal.see_all-best-requires-clause-heads
+see_all-best-requires-clause-heads c = omega (arith, ap length c.requires, heads-fewer c.args.events.now, c.as_slice.ensures.few)
 
 pub returns : goal.returns
-returns c = judged (same_name c.args.text.now c.args.places.now c.args.values.now) _ _ _ c.requires.3 c.see_all-best.ensures c.repeats.ensures
+returns c =
+    let s = rw c.as_slice.ensures.events at c.see_all-best.ensures in
+    let r = rw c.as_slice-2.ensures.heads at c.repeats.ensures in
+    judged (same_in c.args.source.now) _ _ _ c.requires s r

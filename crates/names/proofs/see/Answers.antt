@@ -2,13 +2,14 @@ use Prim.Native.Nat.{ℕ}
 use mathlib.Core.Path.{◌≡◌, refl}
 use mathlib.Core.Bool.{Bool}
 use mathlib.Core.List.{List, []}
+use mathlib.Core.Logic.{inl, inr}
 use Rattle.events.specs.declared.event.Event.{Event}
 use Rattle.events.specs.declared.event.Event.TheVariants.{Function, Parameter, Thing, Opens, Closes, Declares, Uses, Calls, Ends}
 use Rattle.events.specs.Read.{as_event}
 use Rattle.text_rules.specs.Rules.{Head}
 use Rattle.text_rules.specs.Names.{misnamed, uncalled, named}
 use Rattle.text_rules.specs.Scopes.{Scope, on_name, named_at}
-use Rattle.text_rules.specs.Spelling.{same_name}
+use Rattle.text_rules.specs.Spelling.{same_in}
 use Rattle.names.specs.Steps.{wrong}
 use Rattle.names.proofs.Seeing.{with_nothing, nothing}
 use Rattle.names.proofs.see.Goals as goal
@@ -30,11 +31,7 @@ module _ (same : ℕ → ℕ → Bool) (hs : List Head) (s : Scope) where
 
 pub returns-in-Parameter : goal.returns-in-Parameter
 unfolding on_name misnamed uncalled named
-returns-in-Parameter c = rw c.in-Parameter.is (with_nothing c.see_declaration.ensures)
-
-pub returns-in-Declares : goal.returns-in-Declares
-unfolding on_name misnamed uncalled named
-returns-in-Declares c = rw c.in-Declares.is (with_nothing c.see_declaration-in-Declares.ensures)
+returns-in-Parameter c = elim c.in-Parameter.is [ inl e ↦ rw e (with_nothing c.see_declaration.ensures) | inr e ↦ rw e (with_nothing c.see_declaration.ensures) ]
 
 pub returns-in-Uses : goal.returns-in-Uses
 unfolding on_name misnamed uncalled named
@@ -46,5 +43,5 @@ returns-in-Calls c = rw c.in-Calls.is c.see_call.ensures
 
 pub returns-in_default : goal.returns-in_default
 returns-in_default c =
-    let o = other (same_name c.args.text.now c.args.places.now c.args.values.now) _ _ c.args.event c.in_default.not-Parameter c.in_default.not-Declares c.in_default.not-Uses c.in_default.not-Calls in
+    let o = other (same_in c.args.source.now) _ _ c.args.event c.in_default.not-Parameter c.in_default.not-Declares c.in_default.not-Uses c.in_default.not-Calls in
     nothing o.0 o.1

@@ -1,10 +1,10 @@
 use mathlib.Core.Path.{sym, ap, ◌∙◌}
-use Rattle.scopes.specs.Answers.{slot_of}
+use Rattle.scopes.specs.Answers.{number_of}
 use Rattle.names.proofs.Seeing.{new, again}
 use Rattle.names.proofs.see_declaration.Goals as goal
 
-pub returns-in-Nothing : goal.returns-in-Nothing
-returns-in-Nothing c = new c.args.i (ap slot_of (sym c.in-Nothing.is) ∙ c.seek.ensures.0) c.write_address.ensures
+pub returns-in-Some : goal.returns-in-Some
+returns-in-Some c = rw (sym c.next.ensures) (again c.args.i (ap number_of (sym c.in-Some.is) ∙ c.seek.ensures.found) c.write_address.ensures c.lesser.ensures)
 
-pub returns-in-At : goal.returns-in-At
-returns-in-At c = again c.args.i (ap slot_of (sym c.in-At.is) ∙ c.seek.ensures.0) c.write_address.ensures c.lesser.ensures
+pub returns-in-None : goal.returns-in-None
+returns-in-None c = rw (sym c.next.ensures) (new c.args.i (ap number_of (sym c.in-None.is) ∙ c.seek.ensures.found) c.write_address.ensures)

@@ -1,18 +1,31 @@
 use native.Mathlib.Omega.{arith}
-use Rattle.printing.proofs.Puts.{and_then, put_as, put-none}
+use mathlib.Core.Path.{refl, ◌∙◌}
 use Rattle.search.specs.Loop.{close_of}
+use Rattle.printing.proofs.Puts.{and_then, put_as, put-none}
 use Rattle.pages.proofs.Sheet.{full_pages}
-use Rattle.pages.proofs.Pages.{one_more, all-pages}
+use Rattle.pages.proofs.Pages.{one_more, all-pages, next-page, left-length}
 use Rattle.pages.proofs.put_pages.Goals as goal
 
-pub loop-from-init : goal.loop-from-init
+pub loop-rest-init : goal.loop-rest-init
 unfolding full_pages
-loop-from-init c = (omega arith, omega arith, omega arith, (λ h. omega arith), put-none _ _ (omega arith) (omega arith))
+loop-rest-init c = record { behind = refl; numbered = omega arith; within = omega arith; needed = λ h. omega arith; written = put-none _ _ (omega arith) (omega arith) }
 
-pub loop-from-preserved : goal.loop-from-preserved
-loop-from-preserved c =
-    (omega (arith, c.loop-from.invariant.0, c.loop-from.invariant.1), omega arith, omega (arith, c.loop-from-test.true), (λ h. omega (arith, c.loop-from-test.true)), put_as (one_more c.args.rows.now c.args.n c.loop-from.number c.loop-from.from c.loop-from.invariant.0 c.loop-from.invariant.1 c.loop-from-test.true) (and_then c.loop-from.invariant.4 c.put_page-p.ensures))
+pub loop-rest-preserved : goal.loop-rest-preserved
+loop-rest-preserved c =
+    let i = c.loop-rest.invariant in
+    let ws = c.args.rows.now in
+    let rest = c.loop-rest.rest.now in
+    let n = left-length ws rest c.loop-rest.number i.behind i.numbered in
+    let w = rw c.split_at.ensures.front at c.put_page-p.ensures in
+    record {
+      behind = c.split_at.ensures.back ∙ next-page ws rest c.loop-rest.number i.behind i.numbered;
+      numbered = omega arith;
+      within = omega (arith, n, i.numbered, c.loop-rest-test.true);
+      needed = λ h. omega (arith, n, i.numbered, c.loop-rest-test.true);
+      written = put_as (one_more ws rest c.loop-rest.number i.behind i.numbered c.loop-rest-test.true) (and_then i.written w);
+    }
 
 pub returns : goal.returns
 returns c =
-    put_as (all-pages c.args.rows.now c.args.n c.loop-from.number c.loop-from.from c.loop-from.invariant.0 c.loop-from.invariant.1 (close_of c.args.close) c.loop-from.invariant.2 c.loop-from.invariant.3 c.loop-from-test.false) (and_then c.loop-from.invariant.4 c.put_page.ensures)
+    let i = c.loop-rest.invariant in
+    put_as (all-pages c.args.rows.now c.loop-rest.rest.now c.loop-rest.number i.behind i.numbered (close_of c.args.close) i.within i.needed c.loop-rest-test.false) (and_then i.written c.put_page.ensures)

@@ -1,4 +1,4 @@
-use Prim.Native.Nat.{◌+◌, ◌*◌}
+use Prim.Native.Nat.{◌*◌}
 use native.Mathlib.Omega.{arith}
 use mathlib.Core.List.{◌++◌}
 use Rattle.semantics.specs.Run.{Row}
@@ -17,5 +17,5 @@ loop-k-init c = put-none _ _ (omega arith) (omega arith)
 
 pub loop-k-preserved : goal.loop-k-preserved
 loop-k-preserved c =
-    let w = rw (whole-rest c.args.rows.now (10 * (c.args.from + c.loop-k.k))) at c.put_row-p.ensures in
-    put_as (rows_more (λ (r : Row). filled (row_across r) ++ line_end) c.args.rows.now c.args.from c.loop-k.k) (and_then c.loop-k.invariant w)
+    let w = rw (whole-rest c.args.rows.now (10 * c.loop-k.k)) at c.put_row-p.ensures in
+    put_as (rows_more (λ (r : Row). filled (row_across r) ++ line_end) c.args.rows.now c.loop-k.k) (and_then c.loop-k.invariant w)

@@ -1,9 +1,7 @@
-use Prim.Native.Nat.{◌*◌}
-use lib.ListN.{drop}
 use Rattle.printing.specs.Written.{Put}
 use Rattle.lines.specs.Written.{rows_from}
 use Rattle.pages.specs.Parts.{rows_bytes}
 use Rattle.pages.proofs.put_rows.Given as goal
 
 abbrev pub invariant-loop-k : goal.invariant-loop-k
-invariant-loop-k l = Put l.initial.out l.at (rows_bytes (rows_from l.k (drop (10 * l.from) l.rows))) l.out l.p
+invariant-loop-k l = Put l.initial.out l.at (rows_bytes (rows_from l.k l.rows)) l.out l.p
