@@ -1,5 +1,6 @@
 -- One path and its end, as the loop over the paths takes them.
-use Rattle.std.specs.Prelude.{Result, Ok, Err}
+use Rattle.search.specs.declared.Next.{Next}
+use Rattle.std.specs.Prelude.{Option, Result, Ok, Err}
 use Prim.Native.Nat.{ℕ, ◌+◌, ◌-◌, ◌≤◌, ◌<◌}
 use native.Mathlib.Omega.{arith}
 use mathlib.Core.Path.{◌≡◌, refl, sym, ap, ◌∙◌, subst}
@@ -26,7 +27,7 @@ use Rattle.settings.proofs.Counting.{rowed-none}
 use Rattle.paths.specs.declared.Point.{Point}
 use Rattle.paths.proofs.Table.{starts-same}
 use Rattle.walks.specs.declared.Stack.{Stack}
-use Rattle.walks.specs.declared.Walked.{Walked}
+use Rattle.walks.specs.declared.Ended.{Ended}
 use Rattle.walks.specs.Checkpoints.{none, StackHolds}
 use Rattle.walks.specs.Walk.{paid, Walks, Ends, FromMain, Begins}
 use Rattle.walks.proofs.Checkpoints.{Alike, checkpoints-stay}
@@ -36,7 +37,7 @@ use Rattle.search.specs.declared.Answered.{Answered}
 use Rattle.search.proofs.Backs.{onward-more}
 
 -- how the path went, by the kind of its end
-pub walked_as : (c : Code) (job : Window) (limit budget : ℕ) (forced : List Bool) (m : List ℕ) (r w : Walked) → r ≡ w → FromMain c job limit budget forced m r → FromMain c job limit budget forced m w
+pub walked_as : (c : Code) (job : Window) (limit budget : ℕ) (forced : List Bool) (m : List ℕ) (r w : Option Ended) → r ≡ w → FromMain c job limit budget forced m r → FromMain c job limit budget forced m w
 walked_as c job limit budget forced m r w e h = subst (FromMain c job limit budget forced m) e h
 
 paying-counts : (t : Tally) (left : ℕ) → left ≤ t.budget → Counts t (leaving t left)
@@ -52,9 +53,14 @@ room-few m m' n limit l e r = record { words = omega (arith, l, e, r.words); sma
 enough : (c : Code) (limit : ℕ) (fs : List Bool) → turns_left c (start known work c) (begins limit fs) < most_turns c limit
 enough c limit fs = turns-le c limit (start known work c) (begins limit fs) (kept-start c limit fs)
 
+-- the checkpoints before the next path, if there is one
+abbrev Resuming : Code → Window → List ℕ → ℕ → Result (ℕ × Tally) Answered → Stack → Type 0
+Resuming c job m' limit (Ok x) s = Begins c job m' x.0 s × (s.limit ≡ limit)
+Resuming c job m' limit (Err a) s = Unit {0}
+
 -- the checkpoints of a path that has ended are those before the next one
 resumes : (c : Code) (job : Window) (limit : ℕ) (m₁ m₂ : List ℕ) (n choices u : ℕ) (s : Stack) (r : Result (ℕ × Tally) Answered) → StackHolds c job m₁ choices n choices u s → s.limit ≡ limit → length m₂ ≡ length m₁ → BacktracksBy m₁ m₂ choices r
-    → Resumes c job m₂ limit r s
+    → Resuming c job m₂ limit r s
 resumes c job limit m₁ m₂ n choices w s (Err a) h e len f = tt
 resumes c job limit m₁ m₂ n choices w s (Ok (k, u)) h e len f = (
   record {
@@ -83,7 +89,7 @@ resumes c job limit m₁ m₂ n choices w s (Ok (k, u)) h e len f = (
 
 module _ (c : Code) (job : Window) (limit : ℕ) (m m₁ m₂ : List ℕ) (rows rows' : List ℤ) (forced : ℕ) (t : Tally) where
   pub round-ended : (e : End) (p : Point) (s : Stack) (left : ℕ) → Ends c job limit t.budget (start known work c) (begins limit (outcomes_in m 0 forced)) m₁ e p s left → (u : Tally) → u ≡ leaving t left → (r : Result (ℕ × Tally) Answered)
-      → length m₂ ≡ length m₁ → Finished m₁ m₂ rows rows' e p u r → Round c job limit m m₂ rows rows' forced t r × Resumes c job m₂ limit r s
+      → length m₂ ≡ length m₁ → Finished m₁ m₂ rows rows' e p u r → Round c job limit m m₂ rows rows' forced t r × Resuming c job m₂ limit r s
   round-ended e p s left h u q r len f = (by (subst (λ (u : Tally). Finished m₁ m₂ rows rows' e p u r) q f), resumes c job limit m₁ m₂ p.run.nodes p.choices p.windows s r h.stacked h.limited len f.backtracks)
     where
       by : Finished m₁ m₂ rows rows' e p (leaving t left) r → Round c job limit m m₂ rows rows' forced t r
@@ -111,7 +117,7 @@ begins-first c job m limit cells r u = record { nodes = 0; choices = 0; windows 
 pub round-as : (c : Code) (job : Window) (l limit : ℕ) (m m' : List ℕ) (rows rows' : List ℤ) (forced : ℕ) (t : Tally) (r : Result (ℕ × Tally) Answered) → l ≡ limit → Round c job l m m' rows rows' forced t r → Round c job limit m m' rows rows' forced t r
 round-as c job l limit m m' rows rows' forced t r e h = subst (λ (l : ℕ). Round c job l m m' rows rows' forced t r) e h
 
-pub resumes-as : (c : Code) (job : Window) (m' : List ℕ) (l limit : ℕ) (r : Result (ℕ × Tally) Answered) (s : Stack) (k : ℕ) (u : Tally) → r ≡ Ok (k, u) → l ≡ limit → Resumes c job m' l r s → Begins c job m' k s × (s.limit ≡ limit)
-resumes-as c job m' l limit r s k u e f h =
-    let g : Begins c job m' k s × (s.limit ≡ l) = subst (λ (r : Result (ℕ × Tally) Answered). Resumes c job m' l r s) e h in
+pub resumes-as : (c : Code) (job : Window) (m' : List ℕ) (l limit : ℕ) (r : Result Next Answered) (s : Next) → r ≡ Ok s → l ≡ limit → Resumes c job m' l r → Begins c job m' s.forced s.stack × (s.stack.limit ≡ limit)
+resumes-as c job m' l limit r s e f h =
+    let g : Begins c job m' s.forced s.stack × (s.stack.limit ≡ l) = subst (λ (r : Result Next Answered). Resumes c job m' l r) e h in
     (g.0, g.1 ∙ f)

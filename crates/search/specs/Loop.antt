@@ -20,9 +20,9 @@ use Rattle.settings.specs.Rows.{rows_at, sheet}
 use Rattle.settings.specs.Tries.{tally_of, tally_in, next_of, Counts, Rowed}
 use Rattle.paths.specs.declared.Point.{Point}
 use Rattle.paths.specs.Point.{state_at}
-use Rattle.walks.specs.declared.Stack.{Stack}
 use Rattle.simulation.specs.Measure.{most_turns}
 use Rattle.walks.specs.Walk.{Begins}
+use Rattle.search.specs.declared.Next.{Next}
 use Rattle.search.specs.declared.Ending.{Ending}
 use Rattle.search.specs.declared.Ending.TheVariants.{Whole, Cuts, Full, Spent}
 use Rattle.search.specs.declared.Answered.{Answered}
@@ -129,10 +129,15 @@ pub record Round (c : Code) (job : program.Window) (limit : ℕ) (m m' : List �
   pub onward : Onward t r
   pub rowed : Rowed rows rows' t.written (written_in r)
 
+-- the next path without the checkpoints before it
+abbrev pub ahead : Result Next Answered → Result (ℕ × Tally) Answered
+ahead (Ok s) = Ok (s.forced, s.tally)
+ahead (Err a) = Err a
+
 -- and where another path follows, the checkpoints before it: what stood where its last choice was made still stands there, or is kept
-abbrev pub Resumes : Code → program.Window → List ℕ → ℕ → Result (ℕ × Tally) Answered → Stack → Type 0
-Resumes c job m' limit (Ok x) s = Begins c job m' x.0 s × (s.limit ≡ limit)
-Resumes c job m' limit (Err a) s = Unit {0}
+abbrev pub Resumes : Code → program.Window → List ℕ → ℕ → Result Next Answered → Type 0
+Resumes c job m' limit (Ok s) = Begins c job m' s.forced s.stack × (s.stack.limit ≡ limit)
+Resumes c job m' limit (Err a) = Unit {0}
 
 -- ---- the search
 

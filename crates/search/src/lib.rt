@@ -9,14 +9,14 @@ ghost use Rattle.intervals.specs.Meaning.{Filled, of_window};
 ghost use Rattle.machine.specs.Terms.{Room, meant};
 ghost use Rattle.settings.specs.Tries.{Fair};
 ghost use Rattle.paths.specs.Point.{Standing};
-ghost use Rattle.walks.specs.Walk.{Begins};
-ghost use Rattle.search.specs.Loop.{NewestBack, close_of, closes, stopping, Backed, Finished, Round, Resumes, Lists};
+ghost use Rattle.walks.specs.Walk.{Begins, end_of};
+ghost use Rattle.search.specs.Loop.{NewestBack, close_of, closes, stopping, Backed, Finished, Round, ahead, Resumes, Lists};
 
 use intervals::Window;
 use machine::{Value, layout};
 use paths::Point;
 use settings::{Stopped, Tally};
-use walks::{Stack, Walked};
+use walks::{End, Stack};
 
 // How the search closes: it has ended, without a cut run or with one; a row has no place; or the budget is spent.
 #[derive(Clone, Copy, PartialEq, Eq, Debug)]
@@ -46,11 +46,12 @@ impl From<Stopped> for Answered {
     }
 }
 
-// What follows a path, with the checkpoints that there are: another path, with so many forced outcomes; or the search is over.
+// The next path: how many outcomes are forced on it, the checkpoints before it, and what has been counted.
 #[derive(Drop)]
-pub struct Rounded {
-    pub then: Result<(usize, Tally), Answered>,
+pub struct Next {
+    pub forced: usize,
     pub stack: Stack,
+    pub tally: Tally,
 }
 
 // Takes back the newest choice that went true, of n: it goes false, and those after it are dropped. The outcomes up to it are forced on the next path, by their count; there is no next path where none went true.
@@ -123,46 +124,51 @@ fn at_cut(mem: &mut [u32], p: Point, t: Tally) -> Result<(usize, Tally), Answere
     go_back(mem, p.choices, u)
 }
 
-// At a fail no setting is tried.
-fn at_fail(mem: &mut [u32], p: Point, t: Tally) -> Result<(usize, Tally), Answered>
-    requires { Room mem.old p.choices × (t.moves + t.budget < 4294967296) }
-    ensures { (rows : List ℤ) → Finished mem.old mem.new rows rows path.failed p t result }
+// At a path's end.
+fn finish(
+    mem: &mut [u32],
+    end: End,
+    p: Point,
+    t: Tally,
+    rows: &mut [i32],
+) -> Result<(usize, Tally), Answered>
+    requires { Standing mem.old p × Room mem.old p.choices × Fair (length rows.old) t }
+    ensures { Finished mem.old mem.new rows.old rows.new (end_of mem.old p end) p t result }
 {
-    go_back(mem, p.choices, t)
+    match end {
+        End::Returned(v) => at_return(mem, p, v, t, rows),
+        End::Failed => go_back(mem, p.choices, t),
+        End::Cut => at_cut(mem, p, t),
+    }
 }
 
-// One path, and what is done at its end.
+// One path, and what is done at its end: another path follows, or the search is over.
 fn round(
     code: &[u32],
     size: usize,
     mem: &mut [u32],
     job: Window,
-    stack: Stack,
-    forced: usize,
-    t: Tally,
+    path: Next,
     rows: &mut [i32],
-) -> Rounded
-    requires { (2 * size + 16 ≤ length code.now) × (size < 65536) × Begins (code_in code.now size) (of_window job) mem.old forced stack × Filled (of_window job) × Fair (length rows.old) t }
-    ensures { Round (code_in code.now size) (of_window job) stack.limit mem.old mem.new rows.old rows.new forced t result.then × Resumes (code_in code.now size) (of_window job) mem.new stack.limit result.then result.stack }
+) -> Result<Next, Answered>
+    requires { (2 * size + 16 ≤ length code.now) × (size < 65536) × Begins (code_in code.now size) (of_window job) mem.old path.forced path.stack × Filled (of_window job) × Fair (length rows.old) path.tally }
+    ensures { Round (code_in code.now size) (of_window job) path.stack.limit mem.old mem.new rows.old rows.new path.forced path.tally (ahead result) × Resumes (code_in code.now size) (of_window job) mem.new path.stack.limit result }
 {
-    match walks::run_path(code, size, mem, job, stack, forced, t.budget) {
-        Walked::Spent => {
-            let then = Err(close(t.leaving(0), Ending::Spent));
-            Rounded { then, stack }
-        }
-        Walked::Returned(v, p, s, left) => {
-            let then = at_return(mem, p, v, t.leaving(left), rows);
-            Rounded { then, stack: s }
-        }
-        Walked::Failed(p, s, left) => {
-            let then = at_fail(mem, p, t.leaving(left));
-            Rounded { then, stack: s }
-        }
-        Walked::Cut(p, s, left) => {
-            let then = at_cut(mem, p, t.leaving(left));
-            Rounded { then, stack: s }
-        }
-    }
+    let Next {
+        forced,
+        stack,
+        tally,
+    } = path;
+    let Some(ended) = walks::run_path(code, size, mem, job, stack, forced, tally.budget) else {
+        return Err(close(tally.leaving(0), Ending::Spent));
+    };
+    let paid = tally.leaving(ended.left);
+    let (forced, tally) = finish(mem, ended.end, ended.point, paid, rows)?;
+    Ok(Next {
+        forced,
+        stack: ended.stack,
+        tally,
+    })
 }
 
 // The whole search, path after path, on a job's program, window and step limit: its rows are written from the start of the slice.
@@ -179,29 +185,26 @@ pub fn run(
     requires { (2 * size + 16 ≤ length code.now) × (size < 65536) × Room mem.old (limit + 1) × Filled (of_window job) }
     ensures { Lists (code_in code.now size) (of_window job) limit skip (length rows.old / 10) budget rows.old rows.new result }
 {
-    let mut forced: usize = 0;
-    let mut stack = Stack {
-        height: 0,
-        limit,
-        cells: walks::cells::in_use(code, size),
-    };
-    let mut t = Tally {
-        budget,
-        skip,
-        room: rows.len() / 10,
-        written: 0,
-        moves: 0,
-        cut: false,
+    let mut path = Next {
+        forced: 0,
+        stack: Stack {
+            height: 0,
+            limit,
+            cells: walks::cells::in_use(code, size),
+        },
+        tally: Tally {
+            budget,
+            skip,
+            room: rows.len() / 10,
+            written: 0,
+            moves: 0,
+            cut: false,
+        },
     };
     loop {
-        let rounded = round(code, size, mem, job, stack, forced, t, rows);
-        match rounded.then {
-            Ok((k, u)) => {
-                forced = k;
-                stack = rounded.stack;
-                t = u;
-            }
-            Err(a) => return a,
+        match round(code, size, mem, job, path, rows) {
+            Ok(next) => path = next,
+            Err(answered) => return answered,
         }
     }
 }

@@ -1,4 +1,5 @@
 -- Where a path begins: at the start of main, or at a checkpoint, to which the path with these outcomes forced comes without a move.
+use Rattle.std.specs.Prelude.{Option, Some as Done, None}
 use mathlib.Core.Path.{◌≡◌, refl, sym, ap, ◌∙◌, subst}
 use mathlib.Core.Bool.{Bool}
 use mathlib.Core.Logic.{⊎_elim}
@@ -36,8 +37,7 @@ use Rattle.paths.proofs.Choice.{outcomes-same}
 use Rattle.checkpoints.specs.Live.{size_of, number_count}
 use Rattle.checkpoints.specs.Words.{Agrees, forced, Restored, EndsBefore}
 use Rattle.walks.specs.declared.Stack.{Stack}
-use Rattle.walks.specs.declared.Walked.{Walked}
-use Rattle.walks.specs.declared.Walked.TheVariants.{Spent, Returned, Failed, Cut}
+use Rattle.walks.specs.declared.Ended.{Ended}
 use Rattle.walks.specs.Checkpoints.{ComesTo, Checkpoints, none, more, Dropped}
 use Rattle.walks.specs.Walk.{at_start, Stands, Walks, Walking, FromMain, Begins}
 use Rattle.walks.specs.Walk as walk
@@ -54,11 +54,9 @@ module _ (c : Code) (job : Window) (limit budget : ℕ) (x x₂ : Machine Value)
   ends-from : {m' : List ℕ} {e : End} {q : Point} {r : Stack} {left : ℕ} → walk.Ends c job limit budget x₂ y₂ m' e q r left → walk.Ends c job limit budget x y m' e q r left
   ends-from h = record { walks = walks_from h.walks; standing = h.standing; few = h.few; rest = h.rest; stacked = h.stacked; limited = h.limited }
 
-  pub walking-from : (m' : List ℕ) (r : Walked) → Walking c job limit budget x₂ y₂ m' r → Walking c job limit budget x y m' r
-  walking-from m' Spent h = walks_from h
-  walking-from m' (Returned v q r left) h = (ends-from h.0, h.1)
-  walking-from m' (Failed q r left) h = ends-from h
-  walking-from m' (Cut q r left) h = ends-from h
+  pub walking-from : (m' : List ℕ) (r : Option Ended) → Walking c job limit budget x₂ y₂ m' r → Walking c job limit budget x y m' r
+  walking-from m' None h = walks_from h
+  walking-from m' (Done r) h = (ends-from h.0, h.1)
 
 -- ---- the start of main
 
@@ -100,7 +98,7 @@ module _ (c : Code) (job : Window) (m m' : List ℕ) (s : Stack) (r : Run) (f : 
       stacked = record { checkpoints = none e; room = room-same len room; uses = uses; cells = cells };
     })
 
-    pub first_walks : (p : Point) → p ≡ first → (limit budget : ℕ) (m₂ : List ℕ) (w : Walked) → s.limit ≡ limit → Walking c job s.limit budget (machine_at m' p.run) (state_at m' p) m₂ w
+    pub first_walks : (p : Point) → p ≡ first → (limit budget : ℕ) (m₂ : List ℕ) (w : Option Ended) → s.limit ≡ limit → Walking c job s.limit budget (machine_at m' p.run) (state_at m' p) m₂ w
         → FromMain c job limit budget (outcomes_in m 0 f) m₂ w
     first_walks p i limit budget m₂ w l k = subst (λ (l : ℕ). FromMain c job l budget (outcomes_in m 0 f) m₂ w) l
         (subst (λ (y : State). Walking c job s.limit budget (start known work c) y m₂ w) (sym begins-at)
@@ -208,7 +206,7 @@ module _ (c : Code) (job : Window) (m : List ℕ) (s : Stack) (k : ℕ) (n u : �
         ∙ outcomes-join m 0 p.choices (k - p.choices)
         ∙ ap (outcomes_in m 0) {x = p.choices + (k - p.choices)} {y = k} (omega (arith, o.choices, some))
 
-    pub again_walks : (limit budget : ℕ) (m₂ : List ℕ) (w : Walked) → s.limit ≡ limit → Walking c job s.limit budget (machine_at m' q.run) (state_at m' q) m₂ w → FromMain c job limit budget (outcomes_in m 0 k) m₂ w
+    pub again_walks : (limit budget : ℕ) (m₂ : List ℕ) (w : Option Ended) → s.limit ≡ limit → Walking c job s.limit budget (machine_at m' q.run) (state_at m' q) m₂ w → FromMain c job limit budget (outcomes_in m 0 k) m₂ w
     again_walks limit budget m₂ w e h = subst (λ (l : ℕ). FromMain c job l budget (outcomes_in m 0 k) m₂ w) e (subst (λ (fs : List Bool). FromMain c job s.limit budget fs m₂ w) all-forced
         (walking-from c job s.limit budget (start known work c) (machine_at o.is.before p.run) (begins s.limit ((state_at o.is.before p).chosen ++ rest)) (forcing rest (state_at o.is.before p))
         (resumed in_use job c s.limit (machine_at o.is.before p.run) (state_at o.is.before p) rest o.is.comes (some-outcomes m p.choices (k - p.choices) (omega (arith, o.choices, some)))) m₂ w

@@ -1,5 +1,5 @@
 -- One path of the search up to its end: what `path` of `simulation` (Lister) says of it, before `finish`.
-use Rattle.std.specs.Prelude.{◌≡◌, Bool, List, ℕ, ◌+◌, ◌-◌, ◌≤◌, ◌<◌}
+use Rattle.std.specs.Prelude.{◌≡◌, Bool, List, ℕ, ◌+◌, ◌-◌, ◌≤◌, ◌<◌, Option, Some, None}
 use Rattle.semantics.specs.Program.{Window}
 use Rattle.semantics.specs.Search.{Value, known, work, spent, in_use}
 use Rattle.simulation.specs.Code.{Code}
@@ -13,8 +13,9 @@ use Rattle.machine.specs.declared.Run.{Run}
 use Rattle.paths.specs.declared.Point.{Point}
 use Rattle.paths.specs.Point.{state_at, Standing, Usable, Going}
 use Rattle.walks.specs.declared.Stack.{Stack}
-use Rattle.walks.specs.declared.Walked.{Walked}
-use Rattle.walks.specs.declared.Walked.TheVariants.{Spent, Returned, Failed, Cut}
+use Rattle.walks.specs.declared.End as ends
+use Rattle.walks.specs.declared.End.TheVariants.{Returned, Failed, Cut}
+use Rattle.walks.specs.declared.Ended.{Ended}
 use Rattle.walks.specs.Checkpoints.{ComesTo, StackHolds}
 
 -- what has been counted, where so much of the budget is left
@@ -45,12 +46,21 @@ pub record Ends (c : Code) (job : Window) (limit budget : ℕ) (x : Machine Valu
   pub stacked : StackHolds c job m' q.choices q.run.nodes q.choices q.windows r
   pub limited : r.limit ≡ limit
 
--- how the path went: a value that it returned is one of its nodes
-abbrev pub Walking : Code → Window → ℕ → ℕ → Machine Value → State → List ℕ → Walked → Type 0
-Walking c job limit budget x s m' Spent = Walks c job limit budget x s (λ t. over (closed spent (paid 0 t)))
-Walking c job limit budget x s m' (Returned v q r left) = Ends c job limit budget x s m' (returned (meant m' q.run.nodes v)) q r left × Usable q.run.nodes v
-Walking c job limit budget x s m' (Failed q r left) = Ends c job limit budget x s m' failed q r left
-Walking c job limit budget x s m' (Cut q r left) = Ends c job limit budget x s m' cut q r left
+-- the end, as `simulation` has it; a value that is returned is one of the nodes
+abbrev pub end_of : List ℕ → Point → ends.End → End
+end_of m q (Returned v) = returned (meant m q.run.nodes v)
+end_of m q Failed = failed
+end_of m q Cut = cut
+
+abbrev pub Returns : ℕ → ends.End → Type 0
+Returns n (Returned v) = Usable n v
+Returns n Failed = Unit {0}
+Returns n Cut = Unit {0}
+
+-- how the path went
+abbrev pub Walking : Code → Window → ℕ → ℕ → Machine Value → State → List ℕ → Option Ended → Type 0
+Walking c job limit budget x s m' None = Walks c job limit budget x s (λ t. over (closed spent (paid 0 t)))
+Walking c job limit budget x s m' (Some r) = Ends c job limit budget x s m' (end_of m' r.point r.end) r.point r.stack r.left × Returns r.point.run.nodes r.end
 
 -- ---- where a path begins
 
@@ -63,5 +73,5 @@ pub record Begins (c : Code) (job : Window) (m : List ℕ) (forced : ℕ) (s : S
   pub first : forced ≡ 0 → s.height ≡ 0
 
 -- the path with these outcomes forced, from the start of main on
-abbrev pub FromMain : Code → Window → ℕ → ℕ → List Bool → List ℕ → Walked → Type 0
+abbrev pub FromMain : Code → Window → ℕ → ℕ → List Bool → List ℕ → Option Ended → Type 0
 FromMain c job limit budget forced m' r = Walking c job limit budget (start known work c) (begins limit forced) m' r

@@ -28,13 +28,21 @@ pub struct Stack {
     pub cells: usize,
 }
 
-// How a path went: the budget was spent on the way, or the path has ended at a point, with these checkpoints and so much of the budget left.
-#[derive(Drop)]
-pub enum Walked {
-    Spent,
-    Returned(Value, Point, Stack, u32),
-    Failed(Point, Stack, u32),
-    Cut(Point, Stack, u32),
+// How a path ends.
+#[derive(Clone, Copy, PartialEq, Eq, Debug)]
+pub enum End {
+    Returned(Value),
+    Failed,
+    Cut,
+}
+
+// A path that has ended: how, at which point, with which checkpoints, and what is left of the budget.
+#[derive(Clone, Copy)]
+pub struct Ended {
+    pub end: End,
+    pub point: Point,
+    pub stack: Stack,
+    pub left: u32,
 }
 
 // Whether the entry at pc is a comparison.
@@ -89,7 +97,7 @@ fn keep(code: &[u32], size: usize, mem: &mut [u32], p: Point, s: Stack) -> Stack
     s
 }
 
-// A path from the point that it begins at up to its end. Each move costs one of the budget.
+// A path from the point that it begins at up to its end; none, where the budget was spent on the way. Each move costs one of the budget.
 fn walk(
     code: &[u32],
     size: usize,
@@ -98,7 +106,7 @@ fn walk(
     begins: Point,
     stack: Stack,
     budget: u32,
-) -> Walked
+) -> Option<Ended>
     requires { (2 * size + 16 ≤ length code.now) × (size < 65536) × Stands (code_in code.now size) (of_window job) mem.old begins stack × Filled (of_window job) }
     ensures { Walking (code_in code.now size) (of_window job) stack.limit budget (machine_at mem.old begins.run) (state_at mem.old begins) mem.new result }
 {
@@ -114,15 +122,36 @@ fn walk(
             Turned::On(o, q) => {
                 if o {
                     if left == 0 {
-                        return Walked::Spent;
+                        return None;
                     }
                     left -= 1;
                 }
                 p = q;
             }
-            Turned::Returned(v) => return Walked::Returned(v, p, s, left),
-            Turned::Failed => return Walked::Failed(p, s, left),
-            Turned::Cut => return Walked::Cut(p, s, left),
+            Turned::Returned(v) => {
+                return Some(Ended {
+                    end: End::Returned(v),
+                    point: p,
+                    stack: s,
+                    left,
+                });
+            }
+            Turned::Failed => {
+                return Some(Ended {
+                    end: End::Failed,
+                    point: p,
+                    stack: s,
+                    left,
+                });
+            }
+            Turned::Cut => {
+                return Some(Ended {
+                    end: End::Cut,
+                    point: p,
+                    stack: s,
+                    left,
+                });
+            }
         }
     }
 }
@@ -158,7 +187,7 @@ fn first(mem: &mut [u32], limit: usize, forced: usize) -> Point
     }
 }
 
-// The path with the forced outcomes that stand in the memory, up to its end: from the newest checkpoint before the last of them, or from the start of main.
+// The path with the forced outcomes that stand in the memory, up to its end, or none, where the budget was spent on the way: from the newest checkpoint before the last of them, or from the start of main.
 pub fn run_path(
     code: &[u32],
     size: usize,
@@ -167,7 +196,7 @@ pub fn run_path(
     stack: Stack,
     forced: usize,
     budget: u32,
-) -> Walked
+) -> Option<Ended>
     requires { (2 * size + 16 ≤ length code.now) × (size < 65536) × Begins (code_in code.now size) (of_window job) mem.old forced stack × Filled (of_window job) }
     ensures { FromMain (code_in code.now size) (of_window job) stack.limit budget (outcomes_in mem.old 0 forced) mem.new result }
 {

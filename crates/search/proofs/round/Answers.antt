@@ -1,29 +1,47 @@
-use Rattle.simulation.specs.Path.{returned, failed, cut}
+use Rattle.std.specs.Prelude.{Ok, Err, Some, None}
+use Rattle.std.proofs.lemmas.Result.{err_from_is_err_and}
+use lib.ListN.{length}
 use Rattle.simulation.specs.Words.{code_in}
 use Rattle.intervals.specs.Meaning.{of_window}
 use Rattle.machine.specs.Memory.{outcomes_in}
-use Rattle.machine.specs.Terms.{meant}
-use Rattle.walks.specs.declared.Walked.TheVariants as Walked
-use Rattle.search.proofs.Rounds.{walked_as, round-ended}
+use Rattle.walks.specs.Walk.{end_of}
+use Rattle.search.proofs.Rounds.{walked_as, paying-fair, room-few, round-ended, round-spent}
 use Rattle.search.proofs.round.Goals as goal
 
-pub returns-in-Returned : goal.returns-in-Returned
-returns-in-Returned c =
+pub leaving-paid-requires : goal.leaving-paid-requires
+leaving-paid-requires c =
     let x = code_in c.args.code.now c.args.size in
-    let job = of_window c.args.job in
-    let w = walked_as x job c.args.stack.limit c.args.t.budget (outcomes_in c.args.mem.now 0 c.args.forced) c.run_path.new.mem c.run_path.result (Walked.Returned c.in-Returned.v c.in-Returned.p c.in-Returned.s c.in-Returned.left) c.in-Returned.is c.run_path.ensures in
-    round-ended x job c.args.stack.limit c.args.mem.now c.run_path.new.mem c.at_return-then.new.mem c.args.rows.now c.at_return-then.new.rows c.args.forced c.args.t (returned (meant c.run_path.new.mem c.in-Returned.p.run.nodes c.in-Returned.v)) c.in-Returned.p c.in-Returned.s c.in-Returned.left w.0 c.leaving-in-Returned.result c.leaving-in-Returned.ensures c.at_return-then.result c.at_return-then.auto.mem c.at_return-then.ensures
+    let w = walked_as x (of_window c.args.job) c.args.path.stack.limit c.args.path.tally.budget (outcomes_in c.args.mem.now 0 c.args.path.forced) c.run_path.new.mem c.run_path.result (Some c.in-Some.ended) c.in-Some.is c.run_path.ensures in
+    (w.0.rest, c.requires.4.sum)
 
-pub returns-in-Failed : goal.returns-in-Failed
-returns-in-Failed c =
+pub finish-requires : goal.finish-requires
+finish-requires c =
     let x = code_in c.args.code.now c.args.size in
-    let job = of_window c.args.job in
-    let w = walked_as x job c.args.stack.limit c.args.t.budget (outcomes_in c.args.mem.now 0 c.args.forced) c.run_path.new.mem c.run_path.result (Walked.Failed c.in-Failed.p c.in-Failed.s c.in-Failed.left) c.in-Failed.is c.run_path.ensures in
-    round-ended x job c.args.stack.limit c.args.mem.now c.run_path.new.mem c.at_fail-then.new.mem c.args.rows.now c.args.rows.now c.args.forced c.args.t failed c.in-Failed.p c.in-Failed.s c.in-Failed.left w c.leaving-in-Failed.result c.leaving-in-Failed.ensures c.at_fail-then.result c.at_fail-then.auto.mem (c.at_fail-then.ensures c.args.rows.now)
+    let w = walked_as x (of_window c.args.job) c.args.path.stack.limit c.args.path.tally.budget (outcomes_in c.args.mem.now 0 c.args.path.forced) c.run_path.new.mem c.run_path.result (Some c.in-Some.ended) c.in-Some.is c.run_path.ensures in (
+      w.0.standing,
+      room-few c.args.mem.now c.run_path.new.mem c.in-Some.ended.point.choices c.args.path.stack.limit w.0.few c.run_path.auto.mem c.requires.2.stacked.room,
+      paying-fair c.args.path.tally c.leaving-paid.result c.in-Some.ended.left (length c.args.rows.now) c.leaving-paid.ensures w.0.rest c.requires.4,
+    )
 
-pub returns-in-Cut : goal.returns-in-Cut
-returns-in-Cut c =
+pub returns-in_default : goal.returns-in_default
+returns-in_default c =
     let x = code_in c.args.code.now c.args.size in
     let job = of_window c.args.job in
-    let w = walked_as x job c.args.stack.limit c.args.t.budget (outcomes_in c.args.mem.now 0 c.args.forced) c.run_path.new.mem c.run_path.result (Walked.Cut c.in-Cut.p c.in-Cut.s c.in-Cut.left) c.in-Cut.is c.run_path.ensures in
-    round-ended x job c.args.stack.limit c.args.mem.now c.run_path.new.mem c.at_cut-then.new.mem c.args.rows.now c.args.rows.now c.args.forced c.args.t cut c.in-Cut.p c.in-Cut.s c.in-Cut.left w c.leaving-in-Cut.result c.leaving-in-Cut.ensures c.at_cut-then.result c.at_cut-then.auto.mem (c.at_cut-then.ensures c.args.rows.now)
+    let w = walked_as x job c.args.path.stack.limit c.args.path.tally.budget (outcomes_in c.args.mem.now 0 c.args.path.forced) c.run_path.new.mem c.run_path.result None c.in_default.is c.run_path.ensures in
+    (round-spent x job c.args.path.stack.limit c.args.mem.now c.run_path.new.mem c.args.rows.now c.args.path.forced c.args.path.tally w c.leaving.result c.leaving.ensures _ c.close.ensures, tt)
+
+pub returns-in_err-forced : goal.returns-in_err-forced
+returns-in_err-forced c =
+    let x = code_in c.args.code.now c.args.size in
+    let job = of_window c.args.job in
+    let w = walked_as x job c.args.path.stack.limit c.args.path.tally.budget (outcomes_in c.args.mem.now 0 c.args.path.forced) c.run_path.new.mem c.run_path.result (Some c.in-Some.ended) c.in-Some.is c.run_path.ensures in
+    let f = err_from_is_err_and c.from_residual.result c.from_residual.ensures.1 in
+    rw (f.1, f.2)
+    (round-ended x job c.args.path.stack.limit c.args.mem.now c.run_path.new.mem c.finish.new.mem c.args.rows.now c.finish.new.rows c.args.path.forced c.args.path.tally (end_of c.run_path.new.mem c.in-Some.ended.point c.in-Some.ended.end) c.in-Some.ended.point c.in-Some.ended.stack c.in-Some.ended.left w.0 c.leaving-paid.result c.leaving-paid.ensures (Err c.in_err-forced.field-0.0) c.finish.auto.mem c.in_err-forced.ensures)
+
+pub returns : goal.returns
+returns c =
+    let x = code_in c.args.code.now c.args.size in
+    let job = of_window c.args.job in
+    let w = walked_as x job c.args.path.stack.limit c.args.path.tally.budget (outcomes_in c.args.mem.now 0 c.args.path.forced) c.run_path.new.mem c.run_path.result (Some c.in-Some.ended) c.in-Some.is c.run_path.ensures in
+    round-ended x job c.args.path.stack.limit c.args.mem.now c.run_path.new.mem c.finish.new.mem c.args.rows.now c.finish.new.rows c.args.path.forced c.args.path.tally (end_of c.run_path.new.mem c.in-Some.ended.point c.in-Some.ended.end) c.in-Some.ended.point c.in-Some.ended.stack c.in-Some.ended.left w.0 c.leaving-paid.result c.leaving-paid.ensures (Ok (c.in_ok-forced.forced, c.in_ok-forced.tally)) c.finish.auto.mem c.in_ok-forced.ensures

@@ -7,8 +7,8 @@ use Rattle.walks.specs.Walk.{Begins}
 use Rattle.search.proofs.Searching.{Between}
 use Rattle.search.proofs.run.Given as goal
 
-abbrev pub invariant-loop-k : goal.invariant-loop-k
-invariant-loop-k l = Between (code_in l.code l.size) (of_window l.job) l.limit l.skip (length l.initial.rows / 10) l.budget l.initial.mem l.initial.rows l.mem l.rows l.forced l.t × Begins (code_in l.code l.size) (of_window l.job) l.mem l.forced l.stack × (l.stack.limit ≡ l.limit)
+abbrev pub invariant-loop-next : goal.invariant-loop-next
+invariant-loop-next l = Between (code_in l.code l.size) (of_window l.job) l.limit l.skip (length l.initial.rows / 10) l.budget l.initial.mem l.initial.rows l.mem l.rows l.path.forced l.path.tally × Begins (code_in l.code l.size) (of_window l.job) l.mem l.path.forced l.path.stack × (l.path.stack.limit ≡ l.limit)
 
-abbrev pub decreases-loop-k : goal.decreases-loop-k
-decreases-loop-k l = l.t.budget
+abbrev pub decreases-loop-next : goal.decreases-loop-next
+decreases-loop-next l = l.path.tally.budget
