@@ -6,7 +6,6 @@ ghost use Rattle.semantics.specs.Int.{Cmp};
 ghost use Rattle.semantics.specs.Program.{Window as WindowS};
 ghost use Rattle.semantics.specs.Search.{all32, clipped, unknown};
 ghost use Rattle.simulation.specs.Path.{holding as holdingS};
-ghost use Rattle.simulation.specs.Words.{code_in};
 ghost use Rattle.simulation.specs.Nodes as nodes;
 ghost use Rattle.simulation.specs.Nodes.{range_in, Within};
 ghost use Rattle.ints.specs.Meaning.{of_comparison};
@@ -20,6 +19,7 @@ ghost use Rattle.paths.specs.Choice.{Tables, PairSet, Reached, bit, test_by, Not
 ghost use Rattle.paths.specs.Point.{Standing, Stays, Chose, chosen, running, flagging, Usable, Compared, Going};
 ghost use Rattle.paths.specs.Turn.{Growing, Grown, spending, declaring, AfterStep, AfterTest, AfterFree, OneTurn};
 
+use code::Code;
 use intervals::Window;
 use ints::{Comparison, Operation};
 use machine::{Did, Run, Value, kinds, layout};
@@ -376,11 +376,11 @@ fn after_free(mem: &mut [u32], p: Point, run: Run, w: Window) -> Turned
 }
 
 // One turn of the path: one entry of the code is worked, within the limits.
-pub fn turn(code: &[u32], size: usize, mem: &mut [u32], job: Window, p: Point) -> Turned
-    requires { (2 * size + 16 ≤ length code.now) × (size < 65536) × Going mem.old p × Filled (of_window job) }
-    ensures { OneTurn (code_in code.now size) (of_window job) mem.old mem.new p result × Stays mem.old mem.new p.run.nodes p.choices }
+pub fn turn(code: &Code, mem: &mut [u32], job: Window, p: Point) -> Turned
+    requires { Going mem.old p × Filled (of_window job) }
+    ensures { OneTurn code.now (of_window job) mem.old mem.new p result × Stays mem.old mem.new p.run.nodes p.choices }
 {
-    match machine::advance(code, size, mem, job, p.run, p.windows as u32) {
+    match machine::advance(code, mem, job, p.run, p.windows as u32) {
         Did::Silent(r) => Turned::On(false, p.proceed(r)),
         Did::Step(r) => after_step(mem, p, r),
         Did::Free(r, w) => after_free(mem, p, r, w),
