@@ -1,4 +1,4 @@
--- What the compiler asks of an accepted text, from the rules that the text keeps: the tree is sound, it has at most 16 functions, and its code has room where the text's tokens have.
+-- What the compiler asks of an accepted text, from the rules that the text keeps: the tree is sound, it has at most 16 functions, and there is room for its code.
 use Rattle.std.proofs.Common.{◌≡◌, ℕ, suc, ◌+◌, ◌*◌, ◌<◌, ◌≤◌, Bool, not, List, [], ◌∷◌, ◌++◌, length, sym, refl, ap, subst, arith}
 use lib.ListN.{length-map}
 use Rattle.syntax.specs.Tree.{Tree, width, numbered}
@@ -16,8 +16,8 @@ use Rattle.text_rules.specs.Names.{bad_names, meant, meanings}
 use Rattle.text_rules.specs.Own.{owns}
 use Rattle.text_rules.specs.Resolve.{part, main_of, resolved}
 use Rattle.semantics.specs.Program.{Stmts}
-use Rattle.simulation.specs.Code.{code_of}
-use Rattle.simulation.specs.Words.{entry_words, code_in, Fits}
+use Rattle.simulation.specs.Code.{Code, code_of}
+use Rattle.simulation.specs.Words.{Fits}
 use Rattle.simulation.specs.Placed.{Placed}
 use Rattle.compiler.specs.Coded.{word, program}
 use Rattle.compiler.specs.Sound.{Sound}
@@ -144,8 +144,8 @@ module _ (same : ℕ → ℕ → Bool) (t : Tree T.prog) (f : ℕ → ℕ) where
   unfolding events
   accepted-sound m e h value small k = sound meaning_of m value small 1 tree h (good same f tree (text-rises t e) k.six k.seven k.ten) k.eighteen
 
-  -- the tree stands at node i, the slices hold the values and the meanings of the text's m tokens, and there is room for two words a token
-  pub record Given (l : List ℕ) (i : ℕ) (values slots : List ℕ) (g : ℕ) (code : List ℕ) (m : ℕ) : Type 0 where
+  -- the tree stands at node i, the slices hold the values and the meanings of the text's m tokens, and a code has room for an entry a token
+  pub record Given (l : List ℕ) (i : ℕ) (values slots : List ℕ) (g m : ℕ) : Type 0 where
     pub holds : Holds l i tree
     pub room : node_words * i + node_words ≤ length l
     pub few : i < 65536
@@ -155,10 +155,9 @@ module _ (same : ℕ → ℕ → Bool) (t : Tree T.prog) (f : ℕ → ℕ) where
     pub small : (j : ℕ) → j < m → word values j < 2147483648
     pub agree : (j : ℕ) → j < m → word slots j ≡ meaning_of j
     pub main : g < 16
-    pub less : 3 + width t < 65536
-    pub space : entry_words * (3 + width t) + 16 ≤ length code
+    pub space : 3 + width t ≤ 2052
 
-  module _ {l : List ℕ} {i : ℕ} {values slots : List ℕ} {g : ℕ} {code : List ℕ} {m : ℕ} (given : Given l i values slots g code m) (k : Keeps (word values)) where
+  module _ {l : List ℕ} {i : ℕ} {values slots : List ℕ} {g m : ℕ} (given : Given l i values slots g m) (k : Keeps (word values)) where
     within : Below m tree
     within = accepted-below m given.numbers given.wide
 
@@ -169,7 +168,7 @@ module _ (same : ℕ → ℕ → Bool) (t : Tree T.prog) (f : ℕ → ℕ) where
     size = code-short (word values) (word slots) t g
 
     -- what the compiler asks
-    pub accepted-ready : Ready l i values slots g code
+    pub accepted-ready : Ready l i values slots g
     accepted-ready = record {
       rooted = record { tree = tree; holds = given.holds; room = given.room; few = given.few };
       tokens = m;
@@ -177,7 +176,6 @@ module _ (same : ℕ → ℕ → Bool) (t : Tree T.prog) (f : ℕ → ℕ) where
       sound = stands;
       functions = functions-few (word values) (word slots) tree k.ten;
       main = given.main;
-      few = omega (arith, size, given.less);
       space = omega (arith, size, given.space);
     }
 
@@ -185,19 +183,16 @@ module _ (same : ℕ → ℕ → Bool) (t : Tree T.prog) (f : ℕ → ℕ) where
     pub accepted-program : (value : ℕ → ℕ) → ((j : ℕ) → j < m → word values j ≡ value j) → part (word values) (word slots) tree [] ≡ part value meaning_of tree []
     accepted-program value valued = part_same m (word values) (word slots) value meaning_of (record { at = valued }) (record { at = given.agree }) tree within []
 
-    module _ {after : List ℕ} {r : ℕ} (c : Compiled l i values slots g code after r) where
+    module _ {code : Code} (c : Compiled l i values slots g code) where
       fitting : Fits (program values slots g tree)
       fitting = fits-program m values slots g tree stands (functions-few (word values) (word slots) tree k.ten) given.main
 
-      -- in the words that it leaves the resolved program is placed
-      pub accepted-placed : (value : ℕ → ℕ) → ((j : ℕ) → j < m → word values j ≡ value j) → (is_main : ℕ → Bool) → g ≡ main_of is_main (heads (events tree)) → Placed (code_in after r) (resolved value meaning_of is_main (heads (events tree)) tree)
+      -- in the code that it makes the resolved program is placed
+      pub accepted-placed : (value : ℕ → ℕ) → ((j : ℕ) → j < m → word values j ≡ value j) → (is_main : ℕ → Bool) → g ≡ main_of is_main (heads (events tree)) → Placed code (resolved value meaning_of is_main (heads (events tree)) tree)
       accepted-placed value valued is_main e =
-          subst (λ (h : ℕ). Placed (code_in after r) (record { bodies = part value meaning_of tree []; main = h })) e
-          (subst (λ (bs : List Stmts). Placed (code_in after r) (record { bodies = bs; main = g })) (accepted-program value valued)
-          (placed-code tree given.holds fitting (omega (arith, size, given.space)) c))
-
-      pub accepted-few : r < 65536
-      accepted-few = omega (arith, c.total tree given.holds, size, given.less)
+          subst (λ (h : ℕ). Placed code (record { bodies = part value meaning_of tree []; main = h })) e
+          (subst (λ (bs : List Stmts). Placed code (record { bodies = bs; main = g })) (accepted-program value valued)
+          (placed-code tree given.holds fitting c))
 
   -- where rule 8 is kept too, main's number is below 16
   pub accepted-main : (is_main : ℕ → Bool) (end : ℕ) → mainless is_main end (events tree) ≡ [] → too_many (events tree) ≡ [] → main_of is_main (heads (events tree)) < 16

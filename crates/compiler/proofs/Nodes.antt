@@ -1,6 +1,5 @@
 -- What the kind of a node says of the tree that stands there, and of its code: expressions, conditions and arguments.
 use Rattle.std.proofs.Common.{◌≡◌, ℕ, ◌+◌, ◌<◌, ◌≤◌, true, false, List, [], ◌∷◌, ◌++◌, length, pos, ◌-ℤ◌, ◌⊎◌, inl, inr, sym, refl, ap, subst, ◌∙◌, zero-add, arith}
-use Rattle.semantics.specs.Int.{add, sub, mul}
 use Rattle.semantics.specs.Program.{slot, Exprs}
 use Rattle.syntax.specs.declared.node.Node.{Node}
 use Rattle.syntax.specs.declared.node.NodeKind.{NodeKind}
@@ -14,10 +13,11 @@ use Rattle.syntax.specs.Table.{At, Holds, cmp_number, n_number, n_negative, n_na
 use Rattle.events.specs.Event.{count}
 use Rattle.events.specs.Visit.{level}
 use Rattle.events.proofs.Nodes.{at-kind, moved}
-use Rattle.text_rules.specs.Resolve.{part, comparison}
+use Rattle.ints.specs.Numbers.{comparison}
+use Rattle.text_rules.specs.Resolve.{part}
+use Rattle.text_rules.specs.Resolve as R
 use Rattle.simulation.specs.Code.{Entry, number, name, operate, compare, call, constant, jump, leaf, argument, act, code_e, code_c}
 use Rattle.simulation.specs.Code as Code
-use Rattle.simulation.specs.Words.{c_compare, kind_of, word_of}
 use Rattle.compiler.specs.Coded.{coded}
 use Rattle.compiler.specs.Sound.{Sound}
 use Rattle.compiler.specs.Pass.{operation_of, jump_of}
@@ -76,18 +76,18 @@ module _ (value means : ℕ → ℕ) (m : ℕ) where
   pub number-node : {l : List ℕ} {s : Sort} {i : ℕ} {n : Node} {t : Ast s} → Fetched l i n → n.kind ≡ kind.Number → Holds l i t → None t (leaf (number (pos (value n.token))) ∷ []) ((n.token < m) × (value n.token < 2147483648))
   number-node f e h = number_at f (at-kind n_number f (ap node_number e) h)
 
-  negative-at : {l : List ℕ} {s : Sort} {i : ℕ} {n : Node} {t : Ast s} → Fetched l i n → At l s i n_negative t → None t (leaf (number (pos 0 -ℤ pos (value (n.token + 1)))) ∷ []) (n.token + 1 < m)
+  negative-at : {l : List ℕ} {s : Sort} {i : ℕ} {n : Node} {t : Ast s} → Fetched l i n → At l s i n_negative t → None t (leaf (number (pos 0 -ℤ pos (value (n.token + 1)))) ∷ []) ((n.token + 1 < m) × (value (n.token + 1) < 2147483648))
   unfolding part code_e Sound
-  negative-at f (at-negative r) = record { code = rw (f.token ∙ r.token); own = λ b. rw (f.token ∙ r.token) b.0 }
+  negative-at f (at-negative r) = record { code = rw (f.token ∙ r.token); own = λ b. rw (f.token ∙ r.token) b }
 
-  pub negative-node : {l : List ℕ} {s : Sort} {i : ℕ} {n : Node} {t : Ast s} → Fetched l i n → n.kind ≡ kind.Negative → Holds l i t → None t (leaf (number (pos 0 -ℤ pos (value (n.token + 1)))) ∷ []) (n.token + 1 < m)
+  pub negative-node : {l : List ℕ} {s : Sort} {i : ℕ} {n : Node} {t : Ast s} → Fetched l i n → n.kind ≡ kind.Negative → Holds l i t → None t (leaf (number (pos 0 -ℤ pos (value (n.token + 1)))) ∷ []) ((n.token + 1 < m) × (value (n.token + 1) < 2147483648))
   negative-node f e h = negative-at f (at-kind n_negative f (ap node_number e) h)
 
-  name-at : {l : List ℕ} {s : Sort} {i : ℕ} {n : Node} {t : Ast s} → Fetched l i n → At l s i n_name t → None t (leaf (name (slot (means n.token))) ∷ []) (n.token < m)
+  name-at : {l : List ℕ} {s : Sort} {i : ℕ} {n : Node} {t : Ast s} → Fetched l i n → At l s i n_name t → None t (leaf (name (slot (means n.token))) ∷ []) ((n.token < m) × (means n.token < 16))
   unfolding part code_e Sound
-  name-at f (at_name r) = record { code = rw (f.token ∙ r.token); own = λ b. rw (f.token ∙ r.token) b.0 }
+  name-at f (at_name r) = record { code = rw (f.token ∙ r.token); own = λ b. rw (f.token ∙ r.token) b }
 
-  pub name-node : {l : List ℕ} {s : Sort} {i : ℕ} {n : Node} {t : Ast s} → Fetched l i n → n.kind ≡ kind.Name → Holds l i t → None t (leaf (name (slot (means n.token))) ∷ []) (n.token < m)
+  pub name-node : {l : List ℕ} {s : Sort} {i : ℕ} {n : Node} {t : Ast s} → Fetched l i n → n.kind ≡ kind.Name → Holds l i t → None t (leaf (name (slot (means n.token))) ∷ []) ((n.token < m) × (means n.token < 16))
   name-node f e h = name-at f (at-kind n_name f (ap node_number e) h)
 
   no-args-at : {l : List ℕ} {s : Sort} {i : ℕ} {t : Ast s} → At l s i n_no_args t → coded value means t ≡ []
@@ -141,29 +141,12 @@ module _ (value means : ℕ → ℕ) (m : ℕ) where
     both : Junction n_both
     either : Junction n_either
 
-  -- the jump over the right side, for so many entries
-  pub record Joined (l : List ℕ) (i a b k : ℕ) {s : Sort} (t : Ast s) : Type 0 where
-    pub jumps : ℕ → Entry
-    pub kinds : (d : ℕ) → kind_of (jumps d) ≡ jump_of k
-    pub words : (d : ℕ) → word_of (jumps d) ≡ d
-    pub two : Two l i a b t cond cond (λ x y. coded value means x ++ jumps (length (coded value means y)) ∷ coded value means y)
+  junction-at : {l : List ℕ} {s : Sort} {i k : ℕ} {n : Node} {t : Ast s} → Junction k → Fetched l i n → At l s i k t → Two l i n.first n.second t cond cond (λ x y. coded value means x ++ act (jump (jump_of k) (length (coded value means y))) ∷ coded value means y)
+  unfolding part code_c Sound jump_of
+  junction-at both f (at_both {x = x} {y = y} r p q c e) = record { x = x; y = y; falls = omega (arith, f.first, r.first); falls₂ = omega (arith, f.second, r.second); holds = moved (f.first ∙ r.first) c; holds₂ = moved (f.second ∙ r.second) e; code = refl; sound = λ b. b.0; sound₂ = λ b. b.1 }
+  junction-at either f (at-either {x = x} {y = y} r p q c e) = record { x = x; y = y; falls = omega (arith, f.first, r.first); falls₂ = omega (arith, f.second, r.second); holds = moved (f.first ∙ r.first) c; holds₂ = moved (f.second ∙ r.second) e; code = refl; sound = λ b. b.0; sound₂ = λ b. b.1 }
 
-  junction-at : {l : List ℕ} {s : Sort} {i k : ℕ} {n : Node} {t : Ast s} → Junction k → Fetched l i n → At l s i k t → Joined l i n.first n.second k t
-  unfolding part code_c Sound kind_of word_of jump_of
-  junction-at both f (at_both {x = x} {y = y} r p q c e) = record {
-    jumps = λ d. act (jump false d);
-    kinds = λ d. refl;
-    words = λ d. refl;
-    two = record { x = x; y = y; falls = omega (arith, f.first, r.first); falls₂ = omega (arith, f.second, r.second); holds = moved (f.first ∙ r.first) c; holds₂ = moved (f.second ∙ r.second) e; code = refl; sound = λ b. b.0; sound₂ = λ b. b.1 };
-  }
-  junction-at either f (at-either {x = x} {y = y} r p q c e) = record {
-    jumps = λ d. act (jump true d);
-    kinds = λ d. refl;
-    words = λ d. refl;
-    two = record { x = x; y = y; falls = omega (arith, f.first, r.first); falls₂ = omega (arith, f.second, r.second); holds = moved (f.first ∙ r.first) c; holds₂ = moved (f.second ∙ r.second) e; code = refl; sound = λ b. b.0; sound₂ = λ b. b.1 };
-  }
-
-  pub junction-node : {l : List ℕ} {s : Sort} {i : ℕ} {n : Node} {t : Ast s} → Junction (node_number n.kind) → Fetched l i n → Holds l i t → Joined l i n.first n.second (node_number n.kind) t
+  pub junction-node : {l : List ℕ} {s : Sort} {i : ℕ} {n : Node} {t : Ast s} → Junction (node_number n.kind) → Fetched l i n → Holds l i t → Two l i n.first n.second t cond cond (λ x y. coded value means x ++ act (jump (jump_of (node_number n.kind)) (length (coded value means y))) ∷ coded value means y)
   junction-node {n = n} j f h = junction-at j f (at-kind (node_number n.kind) f refl h)
 
   -- ---- two operands, or one argument more
@@ -181,10 +164,7 @@ module _ (value means : ℕ → ℕ) (m : ℕ) where
     pub same : level s₁ ≡ 0
     pub same₂ : level s₂ ≡ 0
     pub few : c < 6
-    pub last : ℕ → Entry
-    pub kinds : (d : ℕ) → kind_of (last d) ≡ operation_of k c
-    pub words : (d : ℕ) → word_of (last d) ≡ d
-    pub two : Two l i a b t s₁ s₂ (λ x y. coded value means x ++ (coded value means y ++ last (length (coded value means y)) ∷ []))
+    pub two : Two l i a b t s₁ s₂ (λ x y. coded value means x ++ (coded value means y ++ operation_of k c (length (coded value means y)) ∷ []))
 
   comparison-few : (o : T.Cmp) → cmp_number o < 6
   comparison-few T.less = omega arith
@@ -194,26 +174,22 @@ module _ (value means : ℕ → ℕ) (m : ℕ) where
   comparison-few T.equal = omega arith
   comparison-few T.unequal = omega arith
 
-  comparison-kind : (o : T.Cmp) (d : ℕ) → kind_of (act (compare (comparison o) d)) ≡ c_compare + cmp_number o
-  unfolding kind_of
-  comparison-kind T.less d = refl
-  comparison-kind T.less_eq d = refl
-  comparison-kind T.greater d = refl
-  comparison-kind T.greater_eq d = refl
-  comparison-kind T.equal d = refl
-  comparison-kind T.unequal d = refl
+  comparison-read : (o : T.Cmp) → comparison (cmp_number o) ≡ R.comparison o
+  comparison-read T.less = refl
+  comparison-read T.less_eq = refl
+  comparison-read T.greater = refl
+  comparison-read T.greater_eq = refl
+  comparison-read T.equal = refl
+  comparison-read T.unequal = refl
 
   operated-at : {l : List ℕ} {s : Sort} {i k : ℕ} {n : Node} {t : Ast s} → Operation k → Fetched l i n → At l s i k t → Operated l i n.first n.second k n.third t
-  unfolding part code_e code_c Sound kind_of word_of operation_of
+  unfolding part code_e code_c Sound operation_of
   operated-at times f (at-times {o = T.product} {x = x} {y = y} r p q c e) = record {
     s₁ = expr;
     s₂ = expr;
     same = refl;
     same₂ = refl;
     few = omega (arith, f.third, r.third);
-    last = λ d. act (operate mul d);
-    kinds = λ d. refl;
-    words = λ d. refl;
     two = record { x = x; y = y; falls = omega (arith, f.first, r.first); falls₂ = omega (arith, f.second, r.second); holds = moved (f.first ∙ r.first) c; holds₂ = moved (f.second ∙ r.second) e; code = refl; sound = λ b. b.0; sound₂ = λ b. b.1 };
   }
   operated-at plus f (at-plus {x = x} {y = y} r p q c e) = record {
@@ -222,9 +198,6 @@ module _ (value means : ℕ → ℕ) (m : ℕ) where
     same = refl;
     same₂ = refl;
     few = omega (arith, f.third, r.third);
-    last = λ d. act (operate add d);
-    kinds = λ d. refl;
-    words = λ d. refl;
     two = record { x = x; y = y; falls = omega (arith, f.first, r.first); falls₂ = omega (arith, f.second, r.second); holds = moved (f.first ∙ r.first) c; holds₂ = moved (f.second ∙ r.second) e; code = refl; sound = λ b. b.0; sound₂ = λ b. b.1 };
   }
   operated-at minus f (at-minus {x = x} {y = y} r p q c e) = record {
@@ -233,9 +206,6 @@ module _ (value means : ℕ → ℕ) (m : ℕ) where
     same = refl;
     same₂ = refl;
     few = omega (arith, f.third, r.third);
-    last = λ d. act (operate sub d);
-    kinds = λ d. refl;
-    words = λ d. refl;
     two = record { x = x; y = y; falls = omega (arith, f.first, r.first); falls₂ = omega (arith, f.second, r.second); holds = moved (f.first ∙ r.first) c; holds₂ = moved (f.second ∙ r.second) e; code = refl; sound = λ b. b.0; sound₂ = λ b. b.1 };
   }
   operated-at more-args f (at-more-args {x = x} {y = y} r p q c e) = record {
@@ -244,9 +214,6 @@ module _ (value means : ℕ → ℕ) (m : ℕ) where
     same = refl;
     same₂ = refl;
     few = omega (arith, f.third, r.third);
-    last = λ d. argument d;
-    kinds = λ d. refl;
-    words = λ d. refl;
     two = record { x = x; y = y; falls = omega (arith, f.first, r.first); falls₂ = omega (arith, f.second, r.second); holds = moved (f.first ∙ r.first) c; holds₂ = moved (f.second ∙ r.second) e; code = args-code value means x (Exprs.more (part value means y) Exprs.none); sound = λ b. b.0; sound₂ = λ b. b.1 };
   }
   operated-at comparing f (at-compare {o = o} {x = x} {y = y} r p q c e) = record {
@@ -255,10 +222,7 @@ module _ (value means : ℕ → ℕ) (m : ℕ) where
     same = refl;
     same₂ = refl;
     few = omega (arith, f.third, r.third, comparison-few o);
-    last = λ d. act (compare (comparison o) d);
-    kinds = λ d. comparison-kind o d ∙ rw (f.third ∙ r.third);
-    words = λ d. refl;
-    two = record { x = x; y = y; falls = omega (arith, f.first, r.first); falls₂ = omega (arith, f.second, r.second); holds = moved (f.first ∙ r.first) c; holds₂ = moved (f.second ∙ r.second) e; code = refl; sound = λ b. b.0; sound₂ = λ b. b.1 };
+    two = record { x = x; y = y; falls = omega (arith, f.first, r.first); falls₂ = omega (arith, f.second, r.second); holds = moved (f.first ∙ r.first) c; holds₂ = moved (f.second ∙ r.second) e; code = rw (f.third ∙ r.third, comparison-read o); sound = λ b. b.0; sound₂ = λ b. b.1 };
   }
 
   pub operated-node : {l : List ℕ} {s : Sort} {i : ℕ} {n : Node} {t : Ast s} → Operation (node_number n.kind) → Fetched l i n → Holds l i t → Operated l i n.first n.second (node_number n.kind) n.third t

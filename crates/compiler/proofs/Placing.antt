@@ -1,28 +1,26 @@
--- The program of a sound tree fits into words; so the words that the compiler writes are a code in which the program is placed.
-use Rattle.std.proofs.Common.{◌≡◌, ℕ, zero, suc, ◌+◌, ◌-◌, ◌*◌, ◌%◌, ◌^◌, ◌<◌, ◌≤◌, Bool, true, false, List, [], ◌∷◌, ◌++◌, length, drop, ℤ, pos, negsuc, ◌-ℤ◌, sym, ap, ◌∙◌, zero-add, arith, length-append, w32, to_z, le-ltb, lt-ltb}
-use lib.Seq.{sets-eq}
+-- The program of a sound tree fits into words; so it is placed in the code that the compiler makes.
+use Rattle.std.proofs.Common.{◌≡◌, ℕ, zero, suc, ◌+◌, ◌-◌, ◌%◌, ◌^◌, ◌<◌, ◌≤◌, Bool, true, false, List, [], ◌∷◌, length, ℤ, pos, negsuc, ◌-ℤ◌, sym, ap, ◌∙◌, subst, arith, w32, to_z, le-ltb, lt-ltb}
 use mir.Val.{sel}
 use Rattle.semantics.specs.Int.{low32}
-use Rattle.semantics.specs.Program.{Exprs, Stmts, Program}
+use Rattle.semantics.specs.Program.{Exprs, Stmts}
 use Rattle.semantics.specs.Does.{frame}
-use Rattle.semantics.proofs.Frames.{length-frame}
 use Rattle.syntax.specs.Ast.{Sort, Ast, prog, low_first, low_number, high_number}
 use Rattle.syntax.specs.Ast as A
 use Rattle.syntax.specs.Table.{Holds}
 use Rattle.text_rules.specs.Own.{signed}
 use Rattle.text_rules.specs.Resolve.{Part, part}
 use Rattle.text_rules.proofs.OwnRules.{negated-is}
-use Rattle.simulation.specs.Code.{code_of}
-use Rattle.simulation.specs.Words.{entry_words, code_in, words_of, words_in, FitsE, FitsEs, FitsC, FitsS, FitsSs, FitsBs, Fits}
+use Rattle.simulation.specs.Code.{Code, code_of}
+use Rattle.simulation.specs.Words.{FitsE, FitsEs, FitsC, FitsS, FitsSs, FitsBs, Fits}
 use Rattle.simulation.specs.Placed.{Placed}
-use Rattle.simulation.proofs.Words.{length-words, placed-words}
+use Rattle.simulation.proofs.Words.{placed-filled}
 use Rattle.compiler.specs.Coded.{word, program}
 use Rattle.compiler.specs.Sound.{Sound}
 use Rattle.compiler.specs.Compile.{Compiled}
 
 -- ---- numbers
 
-low-number : (v : ℕ) → v < 2147483648 → to_z w32 v ≡ pos v
+pub low-number : (v : ℕ) → v < 2147483648 → to_z w32 v ≡ pos v
 low-number v h = ap (λ (b : Bool). sel b (pos v) (negsuc (2 ^ 32 - suc v))) (lt-ltb v 2147483648 h)
 
 pub number_fits : (v : ℕ) → v < 2147483648 → to_z w32 (low32 (pos v)) ≡ pos v
@@ -104,23 +102,11 @@ module _ (m : ℕ) (value means : ℕ → ℕ) where
 pub fits-program : (m : ℕ) (values slots : List ℕ) (g : ℕ) (p : Ast prog) → Sound m (word values) (word slots) p → length (part (word values) (word slots) p []) ≤ 16 → g < 16 → Fits (program values slots g p)
 fits-program m values slots g p s few h = record { bodies = fits m (word values) (word slots) p s [] tt; functions = omega arith; main = h }
 
--- ---- the words are that code
+-- ---- the code is that of the program
 
-pub length-code : (p : Program) → length (words_in (code_of p)) ≡ entry_words * length (code_of p).entries + 16
-unfolding words_in
-length-code p = omega (arith, length-append (words_of (code_of p).entries) (frame 2 16 (code_of p).starts), length-words (code_of p).entries, length-frame 2 16 (code_of p).starts)
-
-module _ {l : List ℕ} {i : ℕ} {values slots : List ℕ} {g : ℕ} {before after : List ℕ} {r : ℕ} (p : Ast prog) (held : Holds l i p) (fitting : Fits (program values slots g p)) (space : entry_words * length (code_of (program values slots g p)).entries + 16 ≤ length before) (c : Compiled l i values slots g before after r) where
-  abbrev pub it : Program
-  it = program values slots g p
-
-  -- the words of the code, and after them what stood there
-  pub written : after ≡ words_in (code_of it) ++ drop (length (words_in (code_of it))) before
-  written =
-      c.words p held
-      ∙ sets-eq (words_in (code_of it)) before 0 (omega (arith, space, length-code it))
-      ∙ ap (λ (k : ℕ). words_in (code_of it) ++ drop k before) (zero-add (length (words_in (code_of it))))
-
-  -- the program is placed in the words at exit
-  pub placed-code : Placed (code_in after r) it
-  placed-code = rw (written, c.total p held) (placed-words it fitting (drop (length (words_in (code_of it))) before))
+-- the program is placed in the code
+pub placed-code : {l : List ℕ} {i : ℕ} {values slots : List ℕ} {g : ℕ} {code : Code} (p : Ast prog) → Holds l i p → Fits (program values slots g p) → Compiled l i values slots g code → Placed code (program values slots g p)
+placed-code {values = values} {slots = slots} {g = g} {code = code} p held fitting c =
+    let it = program values slots g p in
+    let same : code ≡ record { entries = (code_of it).entries; starts = frame 2 16 (code_of it).starts } = λ i. record { entries = c.entries p held i; starts = c.starts p held i } in
+    subst (λ (x : Code). Placed x it) (sym same) (placed-filled it fitting)

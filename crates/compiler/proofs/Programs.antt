@@ -1,6 +1,6 @@
 -- What the kind of a node says of the tree that stands there, and of its code: functions.
-use Rattle.std.proofs.Common.{◌≡◌, ℕ, zero, suc, ◌+◌, ◌<◌, ◌≤◌, List, [], ◌∷◌, ◌++◌, length, set, replicate, sym, refl, ap, ◌∙◌, subst, zero-add, arith}
-use lib.Seq.{sets, length-sets}
+use Rattle.std.proofs.Common.{◌≡◌, ℕ, zero, suc, ◌+◌, ◌<◌, ◌≤◌, List, [], ◌∷◌, ◌++◌, length, set, replicate, sym, refl, ap, ◌∙◌, subst, append_assoc, zero-add, arith}
+use lib.Seq.{sets}
 use Rattle.syntax.specs.declared.node.Node.{Node}
 use Rattle.syntax.specs.declared.node.NodeKind.TheVariants as kind
 use Rattle.syntax.specs.NodeKinds.{node_number}
@@ -11,10 +11,9 @@ use Rattle.syntax.specs.Table.{At, Holds, n_more_funs, at-function, at-no-funs, 
 use Rattle.semantics.specs.Does.{frame}
 use Rattle.events.proofs.Nodes.{at-kind, moved}
 use Rattle.text_rules.specs.Resolve.{part}
-use Rattle.simulation.specs.Code.{fail, act, code_b, starts_of}
-use Rattle.compiler.specs.Coded.{word, coded}
+use Rattle.simulation.specs.Code.{Entry, fail, act, code_b, starts_of}
+use Rattle.compiler.specs.Coded.{coded}
 use Rattle.compiler.specs.Sound.{Sound}
-use Rattle.compiler.specs.Pass.{Built}
 use Rattle.compiler.proofs.Parts.{funs, funs-code, funs-starts, funs-length}
 use Rattle.compiler.proofs.Nodes.{One}
 use Rattle.compiler.proofs.Laws.{sets-append, sets-cons}
@@ -69,6 +68,15 @@ module _ (value means : ℕ → ℕ) (m : ℕ) where
   pub function-node : {l : List ℕ} {i : ℕ} {n : Node} {t : Ast fun} → Fetched l i n → Holds l i t → One value means m l i n.second t body (λ x. coded value means x ++ act fail ∷ []) (λ x. Unit)
   function-node f h = function-at f h.at
 
+-- ---- a function more
+
+-- xs: the code of the functions before it; ys: that of its body, after which the run fails
+pub bodied : {b d k r es fs : List Entry} (a xs ys : List Entry) → es ≡ xs ++ fs → fs ≡ ys ++ act fail ∷ [] → b ≡ a ++ xs → d ≡ b → k ≡ d ++ ys → r ≡ k ++ act fail ∷ [] → r ≡ a ++ es
+bodied a xs ys e f g h i j =
+    j ∙ ap (λ (z : List Entry). z ++ act fail ∷ []) (i ∙ ap (λ (z : List Entry). z ++ ys) (h ∙ g))
+    ∙ append_assoc (a ++ xs) ys (act fail ∷ []) ∙ append_assoc a xs (ys ++ act fail ∷ [])
+    ∙ ap (λ (z : List Entry). a ++ z) (sym (e ∙ ap (λ (z : List Entry). xs ++ z) f))
+
 -- ---- where functions begin
 
 -- one more
@@ -84,10 +92,6 @@ filled d zero [] h = refl
 filled d zero (v ∷ vs) h = absurd (omega arith)
 filled d (suc n) [] h = ap (λ (r : List ℕ). d ∷ r) (filled d n [] (omega arith))
 filled d (suc n) (v ∷ vs) h = sets-cons v (replicate n d) 0 vs ∙ ap (λ (r : List ℕ). v ∷ r) (filled d n vs (omega arith))
-
--- the words of where functions begin are as many as before
-pub built-size : {l : List ℕ} {i : ℕ} {values slots before after : List ℕ} {n r : ℕ} {table table' : List ℕ} → Built l i values slots before after n r table table' → (p : Ast prog) → Holds l i p → length table' ≡ length table
-built-size {values = values} {slots = slots} {n = n} {table = table} b p h = ap length (b.starts p h) ∙ length-sets table 0 (starts_of n (part (word values) (word slots) p []))
 
 -- ---- all programs at a node have as many functions
 

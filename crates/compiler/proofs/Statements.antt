@@ -6,7 +6,7 @@ use Rattle.syntax.specs.declared.node.NodeKind.TheVariants as kind
 use Rattle.syntax.specs.NodeKinds.{node_number}
 use Rattle.syntax.proofs.SameKinds.{same-node}
 use Rattle.syntax.specs.Fetch.{Fetched}
-use Rattle.syntax.specs.Ast.{Sort, Ast, expr, cond, stmt, stmts, body, bit, low_first, high_number}
+use Rattle.syntax.specs.Ast.{Sort, Ast, expr, cond, stmt, stmts, body, bit, low_first, low_number, high_number}
 use Rattle.syntax.specs.Table.{n_no_stmts, At, Holds, n_empty, n_declare, n_declare_free, n_declare_own, n_assign, n_eval, n_block, n_if_else, n_while, n_return, n_fail, n_more_stmts, n_braced, at-number, at-negative, at_name, at_call, at_bracket, at-times, at-plus, at-minus, at_no_args, at-more-args, at-always, at-never, at-compare, at_both, at-either, at-empty, at-declare, at-declare-free, at-declare-own, at-assign, at-eval, at_block, at-if-else, at-while, at_return, at-fail, at-no-stmts, at-more-stmts, at-braced, at-no-params, at-more-params, at-function, at-no-funs, at-more-funs}
 use Rattle.events.specs.Visit.{level}
 use Rattle.events.proofs.Nodes.{at-kind, moved}
@@ -45,11 +45,11 @@ module _ (value means : ℕ → ℕ) (m : ℕ) where
   pub declare-node : {l : List ℕ} {s : Sort} {i : ℕ} {n : Node} {t : Ast s} → Fetched l i n → n.kind ≡ kind.Declare → Holds l i t → None value means m t (act begin ∷ []) Unit
   declare-node f e h = declare-at f (at-kind n_declare f (ap node_number e) h)
 
-  free-at : {l : List ℕ} {s : Sort} {i : ℕ} {n : Node} {t : Ast s} → Fetched l i n → At l s i n_declare_free t → None value means m t (act (ask (slot (means (n.token + 1)))) ∷ []) (n.token + 1 < m)
+  free-at : {l : List ℕ} {s : Sort} {i : ℕ} {n : Node} {t : Ast s} → Fetched l i n → At l s i n_declare_free t → None value means m t (act (ask (slot (means (n.token + 1)))) ∷ []) ((n.token + 1 < m) × (means (n.token + 1) < 16))
   unfolding part code_s Sound
-  free-at f (at-declare-free r) = record { code = rw (f.token ∙ r.token); own = λ b. rw (f.token ∙ r.token) b.0 }
+  free-at f (at-declare-free r) = record { code = rw (f.token ∙ r.token); own = λ b. rw (f.token ∙ r.token) b }
 
-  pub free-node : {l : List ℕ} {s : Sort} {i : ℕ} {n : Node} {t : Ast s} → Fetched l i n → n.kind ≡ kind.DeclareFree → Holds l i t → None value means m t (act (ask (slot (means (n.token + 1)))) ∷ []) (n.token + 1 < m)
+  pub free-node : {l : List ℕ} {s : Sort} {i : ℕ} {n : Node} {t : Ast s} → Fetched l i n → n.kind ≡ kind.DeclareFree → Holds l i t → None value means m t (act (ask (slot (means (n.token + 1)))) ∷ []) ((n.token + 1 < m) × (means (n.token + 1) < 16))
   free-node f e h = free-at f (at-kind n_declare_free f (ap node_number e) h)
 
   -- the words of the node say which of the ends have a minus
@@ -59,7 +59,7 @@ module _ (value means : ℕ → ℕ) (m : ℕ) where
     pub first : n.first ≡ bit low
     pub second : n.second ≡ bit high
     pub code : coded value means t ≡ own_code value means n.token low high
-    pub inside : Sound m value means t → high_number (low_first n.token) low high < m
+    pub inside : Sound m value means t → (high_number (low_first n.token) low high < m) × (means (n.token + 1) < 16) × (value (low_number (low_first n.token) low) < 2147483648) × (value (high_number (low_first n.token) low high) < 2147483648)
 
   own_at : {l : List ℕ} {s : Sort} {i : ℕ} {n : Node} {t : Ast s} → Fetched l i n → At l s i n_declare_own t → OwnNode n t
   unfolding part code_s Sound
@@ -69,7 +69,7 @@ module _ (value means : ℕ → ℕ) (m : ℕ) where
     first = f.first ∙ r.first;
     second = f.second ∙ r.second;
     code = rw (f.token ∙ r.token);
-    inside = λ s. rw (f.token ∙ r.token) s.0;
+    inside = λ s. rw (f.token ∙ r.token) (s.0, s.1, s.2, s.3);
   }
 
   pub own-node : {l : List ℕ} {s : Sort} {i : ℕ} {n : Node} {t : Ast s} → Fetched l i n → n.kind ≡ kind.DeclareOwn → Holds l i t → OwnNode n t
@@ -77,11 +77,11 @@ module _ (value means : ℕ → ℕ) (m : ℕ) where
 
   -- ---- one child
 
-  assign-at : {l : List ℕ} {s : Sort} {i : ℕ} {n : Node} {t : Ast s} → Fetched l i n → At l s i n_assign t → One value means m l i n.first t expr (λ x. act begin ∷ (coded value means x ++ act (store (slot (means n.token))) ∷ [])) (λ x. n.token < m)
+  assign-at : {l : List ℕ} {s : Sort} {i : ℕ} {n : Node} {t : Ast s} → Fetched l i n → At l s i n_assign t → One value means m l i n.first t expr (λ x. act begin ∷ (coded value means x ++ act (store (slot (means n.token))) ∷ [])) (λ x. (n.token < m) × (means n.token < 16))
   unfolding part code_s Sound
-  assign-at f (at-assign {x = x} r p c) = record { x = x; falls = omega (arith, f.first, r.first); holds = moved (f.first ∙ r.first) c; code = rw (f.token ∙ r.token); sound = λ b. b.2; own = λ b. rw (f.token ∙ r.token) b.0 }
+  assign-at f (at-assign {x = x} r p c) = record { x = x; falls = omega (arith, f.first, r.first); holds = moved (f.first ∙ r.first) c; code = rw (f.token ∙ r.token); sound = λ b. b.2; own = λ b. rw (f.token ∙ r.token) (b.0, b.1) }
 
-  pub assign-node : {l : List ℕ} {s : Sort} {i : ℕ} {n : Node} {t : Ast s} → Fetched l i n → n.kind ≡ kind.Assign → Holds l i t → One value means m l i n.first t expr (λ x. act begin ∷ (coded value means x ++ act (store (slot (means n.token))) ∷ [])) (λ x. n.token < m)
+  pub assign-node : {l : List ℕ} {s : Sort} {i : ℕ} {n : Node} {t : Ast s} → Fetched l i n → n.kind ≡ kind.Assign → Holds l i t → One value means m l i n.first t expr (λ x. act begin ∷ (coded value means x ++ act (store (slot (means n.token))) ∷ [])) (λ x. (n.token < m) × (means n.token < 16))
   assign-node f e h = assign-at f (at-kind n_assign f (ap node_number e) h)
 
   eval-at : {l : List ℕ} {s : Sort} {i : ℕ} {n : Node} {t : Ast s} → Fetched l i n → At l s i n_eval t → One value means m l i n.first t expr (λ x. act begin ∷ coded value means x) (λ x. Unit)

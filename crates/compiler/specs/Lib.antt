@@ -1,4 +1,4 @@
--- The code of a resolved program in a lent slice.
+-- The code of a resolved program.
 pub mod Coded
 pub mod Sound
 pub mod Compile

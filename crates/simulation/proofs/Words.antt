@@ -212,6 +212,10 @@ filled p o h = record {
   bodies = λ g. subst (InB (code_of p).entries (get_or p.bodies g Stmts.end)) (sym (frame-get_d 2 16 (code_of p).starts (few-starts p h) g)) ((placed p o).bodies g);
 }
 
+-- a program that fits is placed in its code, and so it is where the places left over lead to 2
+pub placed-filled : (p : Program) → Fits p → Placed (record { entries = (code_of p).entries; starts = frame 2 16 (code_of p).starts }) p
+placed-filled p h = filled p (upward-bs p.bodies h.bodies) h.functions
+
 -- a program that fits is placed in the words of its code, whatever follows them
 pub placed-words : (p : Program) → Fits p → (rest : List ℕ) → Placed (code_in (words_in (code_of p) ++ rest) (length (code_of p).entries)) p
-placed-words p h rest = subst (λ c. Placed c p) (sym (code-back (code_of p) (plain_code p h) rest)) (filled p (upward-bs p.bodies h.bodies) h.functions)
+placed-words p h rest = subst (λ c. Placed c p) (sym (code-back (code_of p) (plain_code p h) rest)) (placed-filled p h)

@@ -20,4 +20,4 @@ unfolding operation_of
 returns-in-MoreArgs c = rw c.in-MoreArgs.is
 
 pub returns-in_default : goal.returns-in_default
-returns-in_default c = compared c.args.c (λ e. c.in_default.not-Times (same-node e)) (λ e. c.in_default.not-Plus (same-node e)) (λ e. c.in_default.not-Minus (same-node e)) (λ e. c.in_default.not-MoreArgs (same-node e))
+returns-in_default c = rw c.from.ensures (compared c.args.c c.args.over (λ e. c.in_default.not-Times (same-node e)) (λ e. c.in_default.not-Plus (same-node e)) (λ e. c.in_default.not-Minus (same-node e)) (λ e. c.in_default.not-MoreArgs (same-node e)))
