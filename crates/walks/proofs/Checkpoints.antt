@@ -79,22 +79,22 @@ module _ (c : Code) (job : Window) (limit cells : ℕ) where
 
 -- ---- one more, if it is due
 
-module _ (words : List ℕ) (size : ℕ) (m m' : List ℕ) (p : Point) (deep : p.run.depth ≤ 32) where
-  pub kept-machine : (s r : Stack) → Keeping words size m m' p s r → machine_at m' p.run ≡ machine_at m p.run
+module _ (c : Code) (m m' : List ℕ) (p : Point) (deep : p.run.depth ≤ 32) where
+  pub kept-machine : (s r : Stack) → Keeping c m m' p s r → machine_at m' p.run ≡ machine_at m p.run
   kept-machine s r (passed n e f) = ap (λ (l : List ℕ). machine_at l p.run) e
   kept-machine s r (kept due saved k f) = machine-stays (machinery-is m m' s.height (size_of s.cells p) k) p.run deep
 
-  pub kept-state : (s r : Stack) → Keeping words size m m' p s r → state_at m' p ≡ state_at m p
+  pub kept-state : (s r : Stack) → Keeping c m m' p s r → state_at m' p ≡ state_at m p
   kept-state s r (passed n e f) = ap (λ (l : List ℕ). state_at l p) e
   kept-state s r (kept due saved k f) = state-is m m' s.height (size_of s.cells p) k p
 
-  pub kept-limit : (s r : Stack) → Keeping words size m m' p s r → r.limit ≡ s.limit
+  pub kept-limit : (s r : Stack) → Keeping c m m' p s r → r.limit ≡ s.limit
   kept-limit s r (passed n e f) = ap (λ (s : Stack). s.limit) f
   kept-limit s r (kept due saved k f) = ap (λ (s : Stack). s.limit) f
 
-pub kept-stands : (c : Code) (job : Window) (words : List ℕ) (size : ℕ) (m m' : List ℕ) (p : Point) (s r : Stack) → length m' ≡ length m → Stands c job m p s → Keeping words size m m' p s r → Stands c job m' p r
-kept-stands c job words size m m' p s r len h (passed n e f) = subst (λ (l : List ℕ). Stands c job l p r) (sym e) (subst (Stands c job m p) (sym f) h)
-kept-stands c job words size m m' p s r len h (kept due saved k f) = subst (Stands c job m' p) (sym f) (record {
+pub kept-stands : (c : Code) (job : Window) (m m' : List ℕ) (p : Point) (s r : Stack) → length m' ≡ length m → Stands c job m p s → Keeping c m m' p s r → Stands c job m' p r
+kept-stands c job m m' p s r len h (passed n e f) = subst (λ (l : List ℕ). Stands c job l p r) (sym e) (subst (Stands c job m p) (sym f) h)
+kept-stands c job m m' p s r len h (kept due saved k f) = subst (Stands c job m' p) (sym f) (record {
   going = going-is m m' s.height (size_of s.cells p) k p len h.going;
   few = h.few;
   comes = comes-same;
@@ -132,5 +132,5 @@ kept-stands c job words size m m' p s r len h (kept due saved k f) = subst (Stan
     }
 
     comes-same : ComesTo c job s.limit m' p
-    comes-same = subst (λ (x : Machine Value). Comes in_use job c s.limit x (state_at m' p)) (sym (kept-machine words size m m' p h.going.ready.deep s (added s p) (kept due saved k refl)))
-        (subst (Comes in_use job c s.limit (machine_at m p.run)) (sym (kept-state words size m m' p h.going.ready.deep s (added s p) (kept due saved k refl))) h.comes)
+    comes-same = subst (λ (x : Machine Value). Comes in_use job c s.limit x (state_at m' p)) (sym (kept-machine c m m' p h.going.ready.deep s (added s p) (kept due saved k refl)))
+        (subst (Comes in_use job c s.limit (machine_at m p.run)) (sym (kept-state c m m' p h.going.ready.deep s (added s p) (kept due saved k refl))) h.comes)

@@ -119,14 +119,14 @@ module _ (c : Code) (job : Window) (limit : ℕ) where
             ap₂ (λ (b n : ℕ). tally b t.skip t.room t.rows n t.cut) e n
 
     -- a checkpoint is saved, or not
-    pub reaches-kept : (words : List ℕ) (size : ℕ) (m m' : List ℕ) (p : Point) (s r : Stack) (left : ℕ) → length m' ≡ length m → WalkedTo budget x y m p s left → Keeping words size m m' p s r → WalkedTo budget x y m' p r left
-    reaches-kept words size m m' p s r left len h k =
+    pub reaches-kept : (m m' : List ℕ) (p : Point) (s r : Stack) (left : ℕ) → length m' ≡ length m → WalkedTo budget x y m p s left → Keeping c m m' p s r → WalkedTo budget x y m' p r left
+    reaches-kept m m' p s r left len h k =
         let deep = h.stands.going.ready.deep in
-        let e = kept-machine words size m m' p deep s r k in
-        let f = kept-state words size m m' p deep s r k in
+        let e = kept-machine c m m' p deep s r k in
+        let f = kept-state c m m' p deep s r k in
         record {
-          stands = kept-stands c job words size m m' p s r len h.stands k;
-          limited = kept-limit words size m m' p deep s r k ∙ h.limited;
+          stands = kept-stands c job m m' p s r len h.stands k;
+          limited = kept-limit c m m' p deep s r k ∙ h.limited;
           rest = h.rest;
           so = λ t g n b.
               let u = h.so t g n b in

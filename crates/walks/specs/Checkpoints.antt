@@ -1,11 +1,11 @@
 -- The checkpoints of a search, one behind another.
-use Rattle.std.specs.Prelude.{ℕ, ◌+◌, ◌*◌, ◌≤◌, ◌<◌, ◌≡◌, List, get_or}
+use Rattle.std.specs.Prelude.{ℕ, ◌+◌, ◌*◌, ◌≤◌, ◌<◌, ◌≡◌, List, length, get_or}
 use Rattle.semantics.specs.Program.{Window}
 use Rattle.semantics.specs.Search.{in_use}
-use Rattle.simulation.specs.Code.{Code}
-use Rattle.simulation.specs.Words.{c_compare, c_call, c_return}
+use Rattle.semantics.specs.Int.{Cmp}
+use Rattle.simulation.specs.Code.{Code, act, compare, fail}
 use Rattle.simulation.specs.Resume.{Comes}
-use Rattle.simulation.specs.Cells.{Uses}
+use Rattle.simulation.specs.Cells.{Uses, CallsMain}
 use Rattle.machine.specs.Layout.{frame_cells}
 use Rattle.machine.specs.Memory.{machine_at}
 use Rattle.machine.specs.Terms.{Room}
@@ -47,32 +47,27 @@ pub record StackHolds (c : Code) (job : Window) (m : List ℕ) (upto n t u : ℕ
 
 -- ---- a checkpoint is added, if it is due
 
--- entry i of the code, in words, is a comparison
-pub record Compares (words : List ℕ) (size i : ℕ) : Type 0 where
-  pub inside : i < size
-  pub from : c_compare ≤ get_or words (2 * i) 0
-  pub upto : get_or words (2 * i) 0 < c_call
-
--- the code begins with the call of main, whose value is returned
-pub record MainFirst (words : List ℕ) (size : ℕ) : Type 0 where
-  pub two : 2 ≤ size
-  pub calls : get_or words 0 0 ≡ c_call
-  pub returns : get_or words 2 0 ≡ c_return
+-- entry i of the code is a comparison
+pub record Compares (c : Code) (i : ℕ) : Type 0 where
+  pub inside : i < length c.entries
+  pub by : Cmp
+  pub behind : ℕ
+  pub is : get_or c.entries i (act fail) ≡ act (compare by behind)
 
 -- At the point p some window is reached, no outcome is forced and a comparison comes next, whose outcome may be a choice that no path has made yet; and there are marks for a checkpoint beside those that there are, and beside two for each three steps that are left, which later ones may need.
-pub record Due (words : List ℕ) (size : ℕ) (p : Point) (s : Stack) : Type 0 where
+pub record Due (c : Code) (p : Point) (s : Stack) : Type 0 where
   pub unforced : p.forced ≡ 0
   pub reached : 1 ≤ p.windows
-  pub compares : Compares words size p.run.pc
+  pub compares : Compares c p.run.pc
   pub fits : 3 * (s.height + size_of s.cells p) + 2 * p.steps ≤ 3 * s.limit
 
 abbrev pub added : Stack → Point → Stack
 added s p = record { height = s.height + size_of s.cells p; limit = s.limit; cells = s.cells }
 
 -- a checkpoint was due and the point was saved, or none was due and nothing was done
-pub data Keeping (words : List ℕ) (size : ℕ) (m m' : List ℕ) (p : Point) (s r : Stack) : Type 0 where
-  passed : (MainFirst words size → Due words size p s → ⊥) → m' ≡ m → r ≡ s → Keeping words size m m' p s r
-  kept : Due words size p s → Saved s.cells m' m p s.height → Marking m m' s.height (size_of s.cells p) → r ≡ added s p → Keeping words size m m' p s r
+pub data Keeping (c : Code) (m m' : List ℕ) (p : Point) (s r : Stack) : Type 0 where
+  passed : (CallsMain c → Due c p s → ⊥) → m' ≡ m → r ≡ s → Keeping c m m' p s r
+  kept : Due c p s → Saved s.cells m' m p s.height → Marking m m' s.height (size_of s.cells p) → r ≡ added s p → Keeping c m m' p s r
 
 -- ---- checkpoints are dropped
 

@@ -1,35 +1,30 @@
 // Which cells of a frame a code uses.
-ghost use Rattle.std.specs.Prelude.{◌+◌, ◌*◌, ◌≤◌, ◌≡◌, length};
-ghost use Rattle.simulation.specs.Words.{entry_of, code_in};
+ghost use Rattle.std.specs.Prelude.{◌≤◌};
 ghost use Rattle.simulation.specs.Cells.{Fills, Uses};
 ghost use Rattle.machine.specs.Layout.{frame_cells};
+ghost use Rattle.code.specs.Meaning.{as_entry};
 
-use code::entry;
+use code::{Code, Entry};
 use machine::layout;
 
-// How many cells an entry, by its kind and its number, may put values into, up to the last of them.
-fn filled(kind: u32, w: usize) -> usize
-    ensures { (result ≤ frame_cells) × Fills result (entry_of kind w) }
+// How many cells an entry may put values into, up to the last of them.
+fn filled(entry: Entry) -> usize
+    ensures { (result ≤ frame_cells) × Fills result (as_entry entry) }
 {
-    if kind == entry::CALL {
-        return (w / entry::FUNCTIONS).min(layout::CELLS);
+    match entry {
+        Entry::Call { count, .. } => count.min(layout::CELLS),
+        Entry::Ask(a) | Entry::Own(a) | Entry::Store(a) => a.0 % layout::CELLS + 1,
+        _ => 0,
     }
-    if kind < entry::ASK {
-        return 0;
-    }
-    w % layout::CELLS + 1
 }
 
 // How many cells of a frame the code uses.
-pub fn in_use(code: &[u32], size: usize) -> usize
-    requires { 2 * size ≤ length code.now }
-    ensures { Uses (code_in code.now size) result × (result ≤ frame_cells) }
+pub fn in_use(code: &Code) -> usize
+    ensures { Uses code.now result × (result ≤ frame_cells) }
 {
     let mut n: usize = 0;
-    for e in 0..size {
-        let kind = code[entry::WORDS * e];
-        let w = code[entry::WORDS * e + entry::NUMBER_WORD] as usize;
-        n = n.max(filled(kind, w));
+    for e in 0..code.len() {
+        n = n.max(filled(code.entry(e)));
     }
     n
 }

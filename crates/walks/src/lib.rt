@@ -2,7 +2,6 @@
 #![tactic(auto)]
 
 ghost use Rattle.std.specs.Prelude.{◌≡◌, true, false, ◌+◌, ◌*◌, ◌<◌, ◌≤◌, length};
-ghost use Rattle.simulation.specs.Words.{code_in};
 ghost use Rattle.simulation.specs.Cells.{CallsMain};
 ghost use Rattle.intervals.specs.Meaning.{Filled, of_window};
 ghost use Rattle.machine.specs.Layout.{frame_cells, tables_place};
@@ -10,10 +9,10 @@ ghost use Rattle.machine.specs.Memory.{machine_at, outcomes_in};
 ghost use Rattle.machine.specs.Terms.{Room, Started};
 ghost use Rattle.paths.specs.Point.{state_at, Going};
 ghost use Rattle.checkpoints.specs.Live.{Small, Unused};
-ghost use Rattle.walks.specs.Checkpoints.{Compares, MainFirst, Due, Keeping, Dropped};
+ghost use Rattle.walks.specs.Checkpoints.{Compares, Due, Keeping, Dropped};
 ghost use Rattle.walks.specs.Walk.{at_start, Stands, Walking, Begins, FromMain};
 
-use code::entry;
+use code::{Code, Entry};
 use intervals::Window;
 use machine::Value;
 use paths::{Point, Turned};
@@ -46,15 +45,10 @@ pub struct Ended {
 }
 
 // Whether the entry at pc is a comparison.
-fn compares(code: &[u32], size: usize, pc: usize) -> bool
-    requires { 2 * size ≤ length code.now }
-    ensures { (result ≡ true → Compares code.now size pc) × (result ≡ false → Compares code.now size pc → ⊥) }
+fn compares(code: &Code, pc: usize) -> bool
+    ensures { (result ≡ true → Compares code.now pc) × (result ≡ false → Compares code.now pc → ⊥) × (result ≡ true → pc < 65536) }
 {
-    pc < size
-        && matches!(
-            code[entry::WORDS * pc],
-            entry::COMPARE..=entry::COMPARE_LAST
-        )
+    pc < code.len() && matches!(code.entry(pc), Entry::Compare(_, _))
 }
 
 // Of each three steps that are left, two marks are kept back for checkpoints that are due later.
@@ -63,11 +57,11 @@ const SHARE: usize = 3;
 const KEPT_BACK: usize = 2;
 
 // Whether a checkpoint is due: a choice may follow that no path has made yet, and there are marks for one more. Known steps have passed the comparisons of known values: at one that is left an operand is open, or the path ends there.
-fn is_due(code: &[u32], size: usize, p: Point, s: Stack) -> bool
-    requires { (2 * size ≤ length code.now) × Small p × (p.steps < 4294967296) × (s.limit < 4294967296) × (s.height ≤ s.limit) × (s.cells ≤ frame_cells) }
-    ensures { (result ≡ true → Due code.now size p s) × (result ≡ false → Due code.now size p s → ⊥) }
+fn is_due(code: &Code, p: Point, s: Stack) -> bool
+    requires { Small p × (p.steps < 4294967296) × (s.limit < 4294967296) × (s.height ≤ s.limit) × (s.cells ≤ frame_cells) }
+    ensures { (result ≡ true → Due code.now p s) × (result ≡ false → Due code.now p s → ⊥) × (result ≡ true → p.run.pc < 65536) }
 {
-    if p.forced != 0 || p.windows == 0 || !compares(code, size, p.run.pc) {
+    if p.forced != 0 || p.windows == 0 || !compares(code, p.run.pc) {
         return false;
     }
     let height = s.height + checkpoints::size_of(p, s.cells);
@@ -75,19 +69,20 @@ fn is_due(code: &[u32], size: usize, p: Point, s: Stack) -> bool
 }
 
 // Whether the code begins with the call of main, whose value is returned: then nothing is ever stored in the first frame, that of the start.
-fn calls_main(code: &[u32], size: usize) -> bool
-    requires { 2 * size ≤ length code.now }
-    ensures { (result ≡ true → MainFirst code.now size) × (result ≡ false → MainFirst code.now size → ⊥) }
+fn calls_main(code: &Code) -> bool
+    ensures { (result ≡ true → CallsMain code.now) × (result ≡ false → CallsMain code.now → ⊥) }
 {
-    2 <= size && code[0] == entry::CALL && code[entry::WORDS] == entry::RETURN
+    2 <= code.len()
+        && matches!(code.entry(0), Entry::Call { .. })
+        && matches!(code.entry(1), Entry::Return)
 }
 
 // Saves a checkpoint, if one is due.
-fn keep(code: &[u32], size: usize, mem: &mut [u32], p: Point, s: Stack) -> Stack
-    requires { (2 * size ≤ length code.now) × (size < 65536) × Going mem.old p × Room mem.old s.limit × (s.height ≤ s.limit) × (s.cells ≤ frame_cells) × (CallsMain (code_in code.now size) → Unused s.cells mem.old p.run.depth) }
-    ensures { Keeping code.now size mem.old mem.new p s result }
+fn keep(code: &Code, mem: &mut [u32], p: Point, s: Stack) -> Stack
+    requires { Going mem.old p × Room mem.old s.limit × (s.height ≤ s.limit) × (s.cells ≤ frame_cells) × (CallsMain code.now → Unused s.cells mem.old p.run.depth) }
+    ensures { Keeping code.now mem.old mem.new p s result }
 {
-    if is_due(code, size, p, s) && calls_main(code, size) {
+    if is_due(code, p, s) && calls_main(code) {
         checkpoints::save(mem, p, s.cells, s.height);
         return Stack {
             height: s.height + checkpoints::size_of(p, s.cells),
@@ -99,26 +94,25 @@ fn keep(code: &[u32], size: usize, mem: &mut [u32], p: Point, s: Stack) -> Stack
 
 // A path from the point that it begins at up to its end; none, where the budget was spent on the way. Each move costs one of the budget.
 fn walk(
-    code: &[u32],
-    size: usize,
+    code: &Code,
     mem: &mut [u32],
     job: Window,
     begins: Point,
     stack: Stack,
     budget: u32,
 ) -> Option<Ended>
-    requires { (2 * size + 16 ≤ length code.now) × (size < 65536) × Stands (code_in code.now size) (of_window job) mem.old begins stack × Filled (of_window job) }
-    ensures { Walking (code_in code.now size) (of_window job) stack.limit budget (machine_at mem.old begins.run) (state_at mem.old begins) mem.new result }
+    requires { Stands code.now (of_window job) mem.old begins stack × Filled (of_window job) }
+    ensures { Walking code.now (of_window job) stack.limit budget (machine_at mem.old begins.run) (state_at mem.old begins) mem.new result }
 {
     let mut p = begins;
     let mut s = stack;
     let mut left = budget;
     loop {
-        let passed = known_steps::pass(code, size, mem, p, left);
+        let passed = known_steps::pass(code, mem, p, left);
         p = passed.point;
         left = passed.left;
-        s = keep(code, size, mem, p, s);
-        match paths::turn(code, size, mem, job, p) {
+        s = keep(code, mem, p, s);
+        match paths::turn(code, mem, job, p) {
             Turned::On(o, q) => {
                 if o {
                     if left == 0 {
@@ -189,22 +183,21 @@ fn first(mem: &mut [u32], limit: usize, forced: usize) -> Point
 
 // The path with the forced outcomes that stand in the memory, up to its end, or none, where the budget was spent on the way: from the newest checkpoint before the last of them, or from the start of main.
 pub fn run_path(
-    code: &[u32],
-    size: usize,
+    code: &Code,
     mem: &mut [u32],
     job: Window,
     stack: Stack,
     forced: usize,
     budget: u32,
 ) -> Option<Ended>
-    requires { (2 * size + 16 ≤ length code.now) × (size < 65536) × Begins (code_in code.now size) (of_window job) mem.old forced stack × Filled (of_window job) }
-    ensures { FromMain (code_in code.now size) (of_window job) stack.limit budget (outcomes_in mem.old 0 forced) mem.new result }
+    requires { Begins code.now (of_window job) mem.old forced stack × Filled (of_window job) }
+    ensures { FromMain code.now (of_window job) stack.limit budget (outcomes_in mem.old 0 forced) mem.new result }
 {
     let s = drop_after(mem, stack, forced.saturating_sub(1));
     if s.height == 0 {
         let p = first(mem, s.limit, forced);
-        return walk(code, size, mem, job, p, s, budget);
+        return walk(code, mem, job, p, s, budget);
     }
     let q = checkpoints::restore(mem, s.cells, s.height, forced);
-    walk(code, size, mem, job, q, s, budget)
+    walk(code, mem, job, q, s, budget)
 }
