@@ -1,5 +1,5 @@
 -- One turn: what an entry did that makes no node is a turn of the path, within the limits.
-use Rattle.std.specs.Prelude.{Some}
+use Rattle.std.specs.Prelude.{Some, None}
 use mathlib.Core.Path.{◌≡◌, refl, sym, subst}
 use mathlib.Core.Bool.{Bool, false}
 use mathlib.Core.List.{List}
@@ -29,7 +29,7 @@ use Rattle.paths.proofs.Stays.{stays-none, stays-kept}
 use Rattle.paths.proofs.Comparing.{compared-so}
 use Rattle.paths.proofs.Turning.{step-on, spent-standing, test_on}
 use Rattle.paths.proofs.Keeping.{standing-kept, growing-kept, silent-on, onwards, turned, test-turned}
-use Rattle.known_steps.specs.Turns.{silent, step, Made, OneOrTwo, once, One, one}
+use Rattle.known_steps.specs.Turns.{silent, step, Made, OneOrTwo, once, One, one, no}
 use Rattle.known_steps.proofs.Decided.{decided-known}
 
 module _ (c : Code) (m : List ℕ) (p : Point) (g : Going m p) where
@@ -109,3 +109,7 @@ one-both c m m' p floor r q e h l = subst (λ (q : Point). One c m m' p floor (S
 
 pub one-made : (c : Code) (m m' : List ℕ) (p : Point) (floor : ℕ) (r q : Point) → r ≡ q → Made c m m' p q → floor ≤ q.steps → One c m m' p floor (Some r)
 one-made c m m' p floor r q e h l = one-both c m m' p floor r q e (once h) l
+
+-- there is none
+pub no_turn : {c : Code} {m : List ℕ} {p : Point} {floor : ℕ} → One c m m p floor None
+no_turn = no refl

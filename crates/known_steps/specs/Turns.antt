@@ -1,10 +1,10 @@
 -- Turns of a path, one after another.
-use Rattle.std.specs.Prelude.{ℕ, zero, suc, ◌+◌, ◌-◌, ◌*◌, ◌≤◌, ◌<◌, ◌≡◌, Bool, false, List, eqb, get_or, Option, Some, None}
+use Rattle.std.specs.Prelude.{ℕ, zero, suc, ◌+◌, ◌-◌, ◌≤◌, ◌<◌, ◌≡◌, Bool, false, List, eqb, get_or, Option, Some, None}
 use Rattle.std.proofs.Math.ListN as lists
+use Rattle.semantics.specs.Int.{Op}
 use Rattle.semantics.specs.Program.{Window}
 use Rattle.semantics.specs.Search.{in_use}
-use Rattle.simulation.specs.Code.{Code}
-use Rattle.simulation.specs.Words.{c_add}
+use Rattle.simulation.specs.Code.{Code, Act, act}
 use Rattle.simulation.specs.Path.{turn}
 use Rattle.machine.specs.Layout.{temp_place}
 use Rattle.machine.specs.Memory.{cell_read_as, cell_at, machine_at}
@@ -40,10 +40,12 @@ pub data OneOrTwo (c : Code) (m m' : List ℕ) (p q : Point) : Type 0 where
   twice : (m₁ : List ℕ) (p₁ : Point) → Made c m m₁ p p₁ → Made c m₁ m' p₁ q → OneOrTwo c m m' p q
 
 -- the newest temporary of the running function has the word v: the value of the operation before the entry at the point
-pub record Result (words m : List ℕ) (p : Point) (v : ℕ) : Type 0 where
+pub record Result (c : Code) (m : List ℕ) (p : Point) (v : ℕ) : Type 0 where
   pub some : p.run.base < p.run.top
   pub behind : 0 < p.run.pc
-  pub operation : c_add ≤ get_or words (2 * (p.run.pc - 1)) 0
+  pub operation : Op
+  pub over : ℕ
+  pub before : get_or c.entries (p.run.pc - 1) (act Act.fail) ≡ act (Act.operate operation over)
   pub cell : cell_at m (temp_place (p.run.top - 1)) ≡ cell_read_as 0 v
 
 -- a turn was made, or there is none of this kind

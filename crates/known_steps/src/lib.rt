@@ -1,11 +1,13 @@
 // Turns that choose nothing and add no node, in a loop of their own: values stay words, and nothing but the point goes from turn to turn.
 #![tactic(auto)]
 
-ghost use Rattle.std.specs.Prelude.{◌≡◌, ℕ, ◌+◌, ◌-◌, ◌*◌, ◌<◌, ◌≤◌, length, get_or, List, IfSome};
+ghost use Rattle.std.specs.Prelude.{◌≡◌, ℕ, ◌+◌, ◌-◌, ◌<◌, ◌≤◌, length, get_or, List, IfSome};
 ghost use Rattle.std.specs.Int.{w32};
 ghost use Rattle.std.proofs.Common.{to_z};
 ghost use Rattle.semantics.specs.Int.{arith, holds as holds_of};
-ghost use Rattle.simulation.specs.Words.{c_add, c_call, c_store, code_in};
+ghost use Rattle.simulation.specs.Code.{act, fail};
+ghost use Rattle.code.specs.Meaning.{as_entry};
+ghost use Rattle.code.specs.declared.Entry.TheVariants.{Operate, Compare, Store};
 ghost use Rattle.ints.specs.Meaning.{of_operation, of_comparison};
 ghost use Rattle.machine.specs.Memory.{cell_read_as};
 ghost use Rattle.machine.specs.Terms.{Ready, Put, Popped, Taking, Paired};
@@ -15,13 +17,10 @@ ghost use Rattle.paths.specs.Point.{Going};
 ghost use Rattle.known_steps.specs.Cells.{value_as};
 ghost use Rattle.known_steps.specs.Turns.{Turns, Made, OneOrTwo, Result, One, moves, Passes};
 
-use code::entry;
+use code::{Address, Code, Entry};
 use ints::{Comparison, Operation};
 use machine::{Run, layout};
 use paths::Point;
-
-// The cells of a frame, as a word.
-const FRAME_CELLS: u32 = layout::CELLS as u32;
 
 // An operand: the two words of its cell, and where the temporaries end without it.
 #[derive(Drop)]
@@ -67,44 +66,42 @@ fn pop(mem: &[u32], run: Run) -> Operand
 }
 
 // The operand that ends just before entry j.
-fn take(code: &[u32], size: usize, mem: &[u32], run: Run, j: usize) -> Operand
-    requires { (2 * size ≤ length code.now) × Ready mem.now run }
-    ensures { Taking (code_in code.now size) mem.now run j (value_as result.kind result.word) result.top }
+fn take(code: &Code, mem: &[u32], run: Run, j: usize) -> Operand
+    requires { Ready mem.now run }
+    ensures { Taking code.now mem.now run j (value_as result.kind result.word) result.top }
 {
-    if j == 0 || size < j {
+    if j == 0 || code.len() < j {
         return pop(mem, run);
     }
-    let k = code[entry::WORDS * (j - 1)];
-    let w = code[entry::WORDS * (j - 1) + entry::NUMBER_WORD];
-    if k == entry::NUMBER {
-        return Operand {
+    match code.entry(j - 1) {
+        Entry::Number(z) => Operand {
             kind: 0,
-            word: w,
+            word: ints::word(z),
             top: run.top,
-        };
+        },
+        Entry::Name(a) => {
+            let at = layout::FRAME * run.depth + layout::CELL * (a.0 % layout::CELLS);
+            Operand {
+                kind: mem[at],
+                word: mem[at + 1],
+                top: run.top,
+            }
+        }
+        _ => pop(mem, run),
     }
-    if k == entry::NAME {
-        let at = layout::FRAME * run.depth + layout::CELL * ((w % FRAME_CELLS) as usize);
-        return Operand {
-            kind: mem[at],
-            word: mem[at + 1],
-            top: run.top,
-        };
-    }
-    pop(mem, run)
 }
 
 // The two operands of the next entry, the right one of which has d entries; none, where one of them is open.
-fn pair(code: &[u32], size: usize, mem: &[u32], run: Run, d: usize) -> Option<Operands>
-    requires { (2 * size ≤ length code.now) × Ready mem.now run }
-    ensures { IfSome result (λ b. Paired (code_in code.now size) mem.now run d (Known (to_z w32 b.left)) (Known (to_z w32 b.right)) b.top) }
+fn pair(code: &Code, mem: &[u32], run: Run, d: usize) -> Option<Operands>
+    requires { Ready mem.now run }
+    ensures { IfSome result (λ b. Paired code.now mem.now run d (Known (to_z w32 b.left)) (Known (to_z w32 b.right)) b.top) }
 {
-    let right = take(code, size, mem, run, run.pc);
+    let right = take(code, mem, run, run.pc);
     let rest = Run {
         top: right.top,
         ..run
     };
-    let left = take(code, size, mem, rest, run.pc.saturating_sub(d));
+    let left = take(code, mem, rest, run.pc.saturating_sub(d));
     if left.kind == 0 && right.kind == 0 {
         return Some(Operands {
             left: left.word,
@@ -145,19 +142,32 @@ fn holds(c: Comparison, x: u32, y: u32) -> bool
     c.holds(ints::signed(x), ints::signed(y))
 }
 
+// The variable that entry i assigns to, if it is an assignment.
+fn assigned(code: &Code, i: usize) -> Option<Address>
+    ensures entry { IfSome result (λ a. as_entry (Store a) ≡ get_or code.now.entries i (act fail)) }
+    ensures inside { IfSome result (λ a. i < 65536) }
+{
+    if code.len() <= i {
+        return None;
+    }
+    match code.entry(i) {
+        Entry::Store(a) => Some(a),
+        _ => None,
+    }
+}
+
 // The assignment behind an operation whose value is v, if there is one.
-fn assign(code: &[u32], size: usize, mem: &mut [u32], p: Point, v: u32) -> Point
-    requires { (2 * size ≤ length code.now) × (size < 65536) × Going mem.old p × Result code.now mem.old p v }
-    ensures { ((m : List ℕ) (before : point.Point) → Made (code_in code.now size) m mem.old before p → OneOrTwo (code_in code.now size) m mem.new before result) × (result.steps ≡ p.steps) }
+fn assign(code: &Code, mem: &mut [u32], p: Point, v: u32) -> Point
+    requires { Going mem.old p × Result code.now mem.old p v }
+    ensures { ((m : List ℕ) (before : point.Point) → Made code.now m mem.old before p → OneOrTwo code.now m mem.new before result) × (result.steps ≡ p.steps) }
 {
     let run = p.run;
-    if size <= run.pc || code[entry::WORDS * run.pc] != entry::STORE {
+    let Some(a) = assigned(code, run.pc) else {
         return p;
-    }
-    let w = code[entry::WORDS * run.pc + entry::NUMBER_WORD] as usize;
+    };
     put(
         mem,
-        layout::FRAME * run.depth + layout::CELL * (w % layout::CELLS),
+        layout::FRAME * run.depth + layout::CELL * (a.0 % layout::CELLS),
         0,
         v,
     );
@@ -168,51 +178,64 @@ fn assign(code: &[u32], size: usize, mem: &mut [u32], p: Point, v: u32) -> Point
     })
 }
 
-// An operation or a comparison, if its values are known.
+// An operation, if its values are known, and the assignment behind it.
+#[tactic(auto, using(crate::proofs::Making::no_turn))]
 fn work(
-    code: &[u32],
-    size: usize,
+    code: &Code,
     mem: &mut [u32],
     p: Point,
     floor: usize,
-    kind: u32,
+    op: Operation,
     d: usize,
 ) -> Option<Point>
-    requires { (2 * size ≤ length code.now) × (size < 65536) × Going mem.old p × (p.run.pc < size) × (kind ≡ get_or code.now (2 * p.run.pc) 0) × (d ≡ get_or code.now (2 * p.run.pc + 1) 0) × (c_add ≤ kind) × (kind < c_call) × (floor < p.steps) }
-    ensures { One (code_in code.now size) mem.old mem.new p floor result }
+    requires { Going mem.old p × (p.run.pc < 65536) × (as_entry (Operate op d) ≡ get_or code.now.entries p.run.pc (act fail)) × (floor < p.steps) }
+    ensures { One code.now mem.old mem.new p floor result }
 {
     let run = p.run;
-    let b = pair(code, size, mem, run, d)?;
-    if kind < entry::COMPARE {
-        let operation = Operation::from(kind - entry::ADD);
-        let v = operate(operation, b.left, b.right);
-        put(mem, layout::TEMPORARIES + layout::STRIDE * b.top, 0, v);
-        let next = p.spend(Run {
-            pc: run.pc + 1,
-            top: b.top + 1,
-            ..run
-        });
-        return Some(assign(code, size, mem, next, v));
-    }
-    let comparison = Comparison::from(kind - entry::COMPARE);
+    let b = pair(code, mem, run, d)?;
+    let v = operate(op, b.left, b.right);
+    put(mem, layout::TEMPORARIES + layout::STRIDE * b.top, 0, v);
+    let next = p.spend(Run {
+        pc: run.pc + 1,
+        top: b.top + 1,
+        ..run
+    });
+    Some(assign(code, mem, next, v))
+}
+
+// A comparison, if its values are known.
+#[tactic(auto, using(crate::proofs::Making::no_turn))]
+fn compare(
+    code: &Code,
+    mem: &[u32],
+    p: Point,
+    floor: usize,
+    c: Comparison,
+    d: usize,
+) -> Option<Point>
+    requires { Going mem.now p × (p.run.pc < 65536) × (as_entry (Compare c d) ≡ get_or code.now.entries p.run.pc (act fail)) × (floor < p.steps) }
+    ensures { One code.now mem.now mem.now p floor result }
+{
+    let run = p.run;
+    let b = pair(code, mem, run, d)?;
     Some(p.spend(Run {
         pc: run.pc + 1,
-        flag: holds(comparison, b.left, b.right),
+        flag: holds(c, b.left, b.right),
         top: b.top,
         ..run
     }))
 }
 
 // An assignment.
-fn store(code: &[u32], size: usize, mem: &mut [u32], p: Point, w: usize) -> Point
-    requires { (2 * size ≤ length code.now) × (size < 65536) × Going mem.old p × (p.run.pc < size) × (get_or code.now (2 * p.run.pc) 0 ≡ c_store) × (w ≡ get_or code.now (2 * p.run.pc + 1) 0) }
-    ensures { Made (code_in code.now size) mem.old mem.new p result × (result.steps ≡ p.steps) }
+fn store(code: &Code, mem: &mut [u32], p: Point, a: Address) -> Point
+    requires { Going mem.old p × (p.run.pc < 65536) × (as_entry (Store a) ≡ get_or code.now.entries p.run.pc (act fail)) }
+    ensures { Made code.now mem.old mem.new p result × (result.steps ≡ p.steps) }
 {
     let run = p.run;
-    let t = take(code, size, mem, run, run.pc);
+    let t = take(code, mem, run, run.pc);
     put(
         mem,
-        layout::FRAME * run.depth + layout::CELL * (w % layout::CELLS),
+        layout::FRAME * run.depth + layout::CELL * (a.0 % layout::CELLS),
         first_word(t.kind),
         t.word,
     );
@@ -223,84 +246,52 @@ fn store(code: &[u32], size: usize, mem: &mut [u32], p: Point, w: usize) -> Poin
     })
 }
 
-// An entry behind the comparisons.
-fn act(
-    code: &[u32],
-    size: usize,
-    mem: &mut [u32],
-    p: Point,
-    floor: usize,
-    kind: u32,
-    w: usize,
-) -> Option<Point>
-    requires { (2 * size ≤ length code.now) × (size < 65536) × Going mem.old p × (p.run.pc < size) × (kind ≡ get_or code.now (2 * p.run.pc) 0) × (w ≡ get_or code.now (2 * p.run.pc + 1) 0) × (w < 4294967296) × (floor ≤ p.steps) }
-    ensures { One (code_in code.now size) mem.old mem.new p floor result }
+// One turn, if it is one of these and leaves no fewer steps than the floor.
+#[tactic(auto, using(crate::proofs::Making::no_turn))]
+fn one(code: &Code, mem: &mut [u32], p: Point, floor: usize) -> Option<Point>
+    requires { Going mem.old p × (floor ≤ p.steps) }
+    ensures { One code.now mem.old mem.new p floor result }
 {
     let run = p.run;
-    match kind {
-        entry::NEVER => Some(p.proceed(run.flagged(false))),
-        entry::ALWAYS => Some(p.proceed(run.flagged(true))),
-        entry::JUMP => Some(p.proceed(Run {
-            pc: run.landing(false, w),
-            ..run
-        })),
-        entry::JUMP_TRUE => Some(p.proceed(Run {
-            pc: run.landing(true, w),
-            ..run
-        })),
-        entry::SKIP => Some(p.proceed(Run {
-            pc: run.pc + 1 + w,
-            ..run
-        })),
-        entry::AGAIN if floor < p.steps => Some(p.spend(Run {
-            pc: run.pc.saturating_sub(w),
-            ..run
-        })),
-        entry::BEGIN if floor < p.steps => Some(p.spend(Run {
+    if code.len() <= run.pc {
+        return None;
+    }
+    match code.entry(run.pc) {
+        Entry::Number(_) | Entry::Name(_) | Entry::Argument(_) => Some(p.proceed(Run {
             pc: run.pc + 1,
             ..run
         })),
-        entry::STORE => Some(store(code, size, mem, p, w)),
+        Entry::Operate(op, d) if floor < p.steps => work(code, mem, p, floor, op, d as usize),
+        Entry::Compare(c, d) if floor < p.steps => compare(code, mem, p, floor, c, d as usize),
+        Entry::Constant(flag) => Some(p.proceed(run.flagged(flag))),
+        Entry::Jump { flag, over } => Some(p.proceed(Run {
+            pc: run.landing(flag, over as usize),
+            ..run
+        })),
+        Entry::Skip(over) => Some(p.proceed(Run {
+            pc: run.pc + 1 + over as usize,
+            ..run
+        })),
+        Entry::Again(back) if floor < p.steps => Some(p.spend(Run {
+            pc: run.pc.saturating_sub(back as usize),
+            ..run
+        })),
+        Entry::Begin if floor < p.steps => Some(p.spend(Run {
+            pc: run.pc + 1,
+            ..run
+        })),
+        Entry::Store(a) => Some(store(code, mem, p, a)),
         _ => None,
     }
 }
 
-// One turn, if it is one of these and leaves no fewer steps than the floor.
-fn one(code: &[u32], size: usize, mem: &mut [u32], p: Point, floor: usize) -> Option<Point>
-    requires { (2 * size ≤ length code.now) × (size < 65536) × Going mem.old p × (floor ≤ p.steps) }
-    ensures { One (code_in code.now size) mem.old mem.new p floor result }
-{
-    let run = p.run;
-    if size <= run.pc {
-        return None;
-    }
-    let kind = code[entry::WORDS * run.pc];
-    if kind < entry::NUMBER {
-        return None;
-    }
-    if kind < entry::ADD {
-        return Some(p.proceed(Run {
-            pc: run.pc + 1,
-            ..run
-        }));
-    }
-    let w = code[entry::WORDS * run.pc + entry::NUMBER_WORD] as usize;
-    if entry::COMPARE_LAST < kind {
-        return act(code, size, mem, p, floor, kind, w);
-    }
-    if p.steps == floor {
-        return None;
-    }
-    work(code, size, mem, p, floor, kind, w)
-}
-
 // Turns as long as they are of these kinds and leave no fewer steps than the floor.
-fn make(code: &[u32], size: usize, mem: &mut [u32], begins: Point, floor: usize) -> Point
-    requires { (2 * size ≤ length code.now) × (size < 65536) × Going mem.old begins × (floor ≤ begins.steps) }
-    ensures { Turns (code_in code.now size) mem.old begins mem.new result × Going mem.new result × (floor ≤ result.steps) }
+fn make(code: &Code, mem: &mut [u32], begins: Point, floor: usize) -> Point
+    requires { Going mem.old begins × (floor ≤ begins.steps) }
+    ensures { Turns code.now mem.old begins mem.new result × Going mem.new result × (floor ≤ result.steps) }
 {
     let mut p = begins;
-    while let Some(next) = one(code, size, mem, p, floor) {
+    while let Some(next) = one(code, mem, p, floor) {
         p = next;
     }
     p
@@ -330,11 +321,11 @@ fn left_of(p: Point, left: u32, steps: usize) -> u32
 }
 
 // Turns on known values, as far as the budget pays for them.
-pub fn pass(code: &[u32], size: usize, mem: &mut [u32], p: Point, left: u32) -> Passed
-    requires { (2 * size ≤ length code.now) × (size < 65536) × Going mem.old p }
-    ensures { Passes (code_in code.now size) mem.old mem.new p left result.point result.left }
+pub fn pass(code: &Code, mem: &mut [u32], p: Point, left: u32) -> Passed
+    requires { Going mem.old p }
+    ensures { Passes code.now mem.old mem.new p left result.point result.left }
 {
-    let q = make(code, size, mem, p, floor_of(p, left));
+    let q = make(code, mem, p, floor_of(p, left));
     Passed {
         point: q,
         left: left_of(p, left, q.steps),

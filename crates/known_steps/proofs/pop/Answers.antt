@@ -5,11 +5,9 @@ use Rattle.machine.proofs.Operands.{popped-none, popped-one}
 use Rattle.known_steps.proofs.Cells.{holds-words}
 use Rattle.known_steps.proofs.pop.Goals as goal
 
--- src/lib.rt:60:9
 pub returns-then-run : goal.returns-then-run
 returns-then-run c = popped-none c.args.mem.now c.args.run c.if-run.true
 
--- src/lib.rt:55:1
 pub returns : goal.returns
 returns c =
     popped-one c.args.mem.now c.args.run _ c.requires c.if-run.false (holds-words c.args.mem.now (temp_place (c.args.run.top - 1)) (omega (arith, c.type_inv.mem (temp_place (c.args.run.top - 1) + 1))))
