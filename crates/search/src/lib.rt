@@ -4,7 +4,6 @@
 ghost use Rattle.std.specs.Prelude.{◌≡◌, List, ◌+◌, ◌*◌, ◌<◌, ◌≤◌, ◌/◌, length, ℤ, Ok};
 ghost use Rattle.simulation.specs.Path as path;
 ghost use Rattle.simulation.specs.Lister.{closing};
-ghost use Rattle.simulation.specs.Words.{code_in};
 ghost use Rattle.intervals.specs.Meaning.{Filled, of_window};
 ghost use Rattle.machine.specs.Terms.{Room, meant};
 ghost use Rattle.settings.specs.Tries.{Fair};
@@ -12,6 +11,7 @@ ghost use Rattle.paths.specs.Point.{Standing};
 ghost use Rattle.walks.specs.Walk.{Begins, end_of};
 ghost use Rattle.search.specs.Loop.{NewestBack, close_of, closes, stopping, Backed, Finished, Round, ahead, Resumes, Lists};
 
+use code::Code;
 use intervals::Window;
 use machine::{Value, layout};
 use paths::Point;
@@ -144,22 +144,21 @@ fn finish(
 
 // One path, and what is done at its end: another path follows, or the search is over.
 fn round(
-    code: &[u32],
-    size: usize,
+    code: &Code,
     mem: &mut [u32],
     job: Window,
     path: Next,
     rows: &mut [i32],
 ) -> Result<Next, Answered>
-    requires { (2 * size + 16 ≤ length code.now) × (size < 65536) × Begins (code_in code.now size) (of_window job) mem.old path.forced path.stack × Filled (of_window job) × Fair (length rows.old) path.tally }
-    ensures { Round (code_in code.now size) (of_window job) path.stack.limit mem.old mem.new rows.old rows.new path.forced path.tally (ahead result) × Resumes (code_in code.now size) (of_window job) mem.new path.stack.limit result }
+    requires { Begins code.now (of_window job) mem.old path.forced path.stack × Filled (of_window job) × Fair (length rows.old) path.tally }
+    ensures { Round code.now (of_window job) path.stack.limit mem.old mem.new rows.old rows.new path.forced path.tally (ahead result) × Resumes code.now (of_window job) mem.new path.stack.limit result }
 {
     let Next {
         forced,
         stack,
         tally,
     } = path;
-    let Some(ended) = walks::run_path(code, size, mem, job, stack, forced, tally.budget) else {
+    let Some(ended) = walks::run_path(code, mem, job, stack, forced, tally.budget) else {
         return Err(close(tally.leaving(0), Ending::Spent));
     };
     let paid = tally.leaving(ended.left);
@@ -173,8 +172,7 @@ fn round(
 
 // The whole search, path after path, on a job's program, window and step limit: its rows are written from the start of the slice.
 pub fn run(
-    code: &[u32],
-    size: usize,
+    code: &Code,
     mem: &mut [u32],
     job: Window,
     limit: usize,
@@ -182,15 +180,15 @@ pub fn run(
     budget: u32,
     rows: &mut [i32],
 ) -> Answered
-    requires { (2 * size + 16 ≤ length code.now) × (size < 65536) × Room mem.old (limit + 1) × Filled (of_window job) }
-    ensures { Lists (code_in code.now size) (of_window job) limit skip (length rows.old / 10) budget rows.old rows.new result }
+    requires { Room mem.old (limit + 1) × Filled (of_window job) }
+    ensures { Lists code.now (of_window job) limit skip (length rows.old / 10) budget rows.old rows.new result }
 {
     let mut path = Next {
         forced: 0,
         stack: Stack {
             height: 0,
             limit,
-            cells: walks::cells::in_use(code, size),
+            cells: walks::cells::in_use(code),
         },
         tally: Tally {
             budget,
@@ -202,7 +200,7 @@ pub fn run(
         },
     };
     loop {
-        match round(code, size, mem, job, path, rows) {
+        match round(code, mem, job, path, rows) {
             Ok(next) => path = next,
             Err(answered) => return answered,
         }
