@@ -12,6 +12,7 @@ use text_rules::broken::lesser;
 use text_rules::heads::{Heads, arity_of};
 
 // What breaks the rule at one event, with what was found before.
+#[tactic(auto, unfolding(text_rules::specs::Rules::miscounted, text_rules::specs::Rules::wrong, text_rules::specs::Answers::least_with))]
 fn miscount(source: &Source, heads: &Heads, event: Event, best: Option<usize>) -> Option<usize>
     ensures { result ≡ least_with (miscounted (same_in source.now) heads.now (as_event event)) best }
 {

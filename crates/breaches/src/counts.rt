@@ -25,6 +25,7 @@ struct Tally {
 }
 
 // The tally after one event.
+#[tactic(auto, unfolding(text_rules::specs::Rules::counted))]
 fn count(tally: Tally, event: Event) -> Tally
     requires { Room tally }
     ensures { tallied result ≡ counted (tallied tally) (as_event event) }

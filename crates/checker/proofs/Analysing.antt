@@ -1,27 +1,29 @@
 -- A whole text, from what the lexer answers and what is settled of its tokens.
+use Rattle.std.specs.Prelude.{Ok, Err}
 use Prim.Native.Nat.{ℕ, zero, suc, ◌≤◌, ◌<◌}
-use mathlib.Core.Path.{◌≡◌, refl, sym, ap, ◌∙◌, subst}
+use mathlib.Core.Path.{◌≡◌, refl, sym, ap, ◌∙◌}
 use mathlib.Core.Bool.{true, false}
 use mathlib.Core.List.{List, [], ◌∷◌, ◌++◌, map-append}
 use native.Mathlib.Omega.{arith}
-use lib.ListN.{length, get_or, take, length-take}
+use lib.ListN.{length, get_or, take, length-take, length-map}
 use lib.Seq.{take-suc, length-sets}
 use lib.Dec.{eqb}
 use Rattle.syntax.specs.Token.{k_end}
+use Rattle.syntax.specs.Refusals.{number_of}
+use Rattle.syntax.specs.declared.refusal.Refusal.{Refusal}
 use Rattle.lexer.specs.Lex as L
-use Rattle.lexer.specs.Lex.{Token, lexed}
+use Rattle.lexer.specs.Lex.{Token, Lexing, lexed}
 use Rattle.lexer.specs.Parts as W
 use Rattle.lexer.specs.Parts.{Lexes, stored}
-use Rattle.lexer.specs.declared.Lexed.{Lexed}
-use Rattle.lexer.specs.declared.Lexed.TheVariants as X
 use Rattle.lexer.proofs.Theorems.{Ended, the_end, before-end, lexed-tokens, end-last, count, stored-length, stored-kinds, stored-places}
 use Rattle.grammar.specs.Text.{Tokens}
-use Rattle.checker.specs.Check.{Verdict, accepted, refused, kinds, values, source, checked_tokens, checked}
+use Rattle.events.specs.Event.{Event}
+use Rattle.text_rules.specs.Rules.{Head}
+use Rattle.checker.specs.Check.{Verdict, accepted, refused, kinds, values, Source, source, source_of, checked_tokens, checked}
 use Rattle.checker.specs.Sizes.{TOKENS}
-use Rattle.checker.specs.Analysis.{Settles, Analyses}
+use Rattle.checker.specs.Analysis.{Reads, Settles, Analyses}
 use Rattle.checker.specs.Analysis as N
-use Rattle.checker.specs.declared.Analysed.{Analysed}
-use Rattle.checker.specs.declared.Analysed.TheVariants.{Refused, Fine}
+use Rattle.checker.specs.declared.Analysis.{Analysis}
 
 -- ---- the lists of kinds, places and values
 
@@ -56,20 +58,26 @@ ends-in (before-end {t = t} {ts = ts} n e) =
         clash z = let w : ◌≡◌ {A = ℕ} 0 1 = cc in omega arith
     only (suc a) h q r = omega (arith, r.only a (omega (arith, h)) q)
 
+-- the kinds of a text's tokens are a token list, of at most so many
+pub token-list : (text : List ℕ) (ts : List Token) → lexed text ≡ L.tokens ts → Tokens (kinds ts)
+token-list text ts l = ends-in (end-last (lexed-tokens text ts l).1)
+
+pub few-tokens : (text : List ℕ) (ts : List Token) → lexed text ≡ L.tokens ts → length ts ≤ TOKENS
+few-tokens text ts l =
+    let t = lexed-tokens text ts l in
+    omega (arith, t.0, count t.1)
+
 -- ---- what the lexer's answer says
 
--- the n tokens of the text stand in the slices
-pub record Into (text ks ps vs : List ℕ) (n : ℕ) : Type 0 where
-  pub is : lexed text ≡ L.tokens (stored n ks ps vs)
+pub as_long : {A : Type 0} {n : ℕ} (l : List A) → n ≤ length l → n ≡ length (take n l)
+as_long {n = n} l h = sym (length-take n l ∙ omega (arith, h))
 
-pub into : {text ks ps vs ks' ps' vs' : List ℕ} {n : ℕ} {r : Lexed} → Lexes text ks ps vs ks' ps' vs' r → r ≡ X.Tokens n → Into text ks' ps' vs' n
-into {ks' = ks'} {ps' = ps'} {vs' = vs'} h e = record { is = h.answer ∙ ap (W.answer_of ks' ps' vs') e }
+-- the first n of a text's tokens are told
+module _ {text ks ps vs ks' ps' vs' : List ℕ} {n : ℕ} (x : Lexes text ks ps vs ks' ps' vs' (Ok n)) where
+  pub few-told : n ≤ TOKENS
+  few-told = omega (arith, few-tokens text (stored n ks' ps' vs') x.answer, stored-length n ks' ps' vs')
 
-pub as_long : {n : ℕ} (l : List ℕ) → n ≤ length l → n ≡ length (take n l)
-as_long {n} l h = sym (length-take n l ∙ omega (arith, h))
-
--- the slices keep their lengths
-module _ {text ks ps vs ks' ps' vs' : List ℕ} {r : Lexed} (x : Lexes text ks ps vs ks' ps' vs' r) where
+  -- the slices keep their lengths
   pub kinds-long : length ks ≡ TOKENS → length ks' ≡ TOKENS
   kinds-long e = ap length x.kinds ∙ length-sets ks 0 (W.kinds_of (W.written text)) ∙ e
 
@@ -79,42 +87,56 @@ module _ {text ks ps vs ks' ps' vs' : List ℕ} {r : Lexed} (x : Lexes text ks p
   pub values-long : length vs ≡ TOKENS → length vs' ≡ TOKENS
   values-long e = ap length x.values ∙ length-sets vs 0 (W.values_of (W.written text)) ∙ e
 
-module _ {text ks ps vs : List ℕ} {n : ℕ} (x : Into text ks ps vs n) where
-  pub few-tokens : n ≤ TOKENS
-  few-tokens =
-      let t = lexed-tokens text (stored n ks ps vs) x.is in
-      omega (arith, t.0, count t.1, stored-length n ks ps vs)
+  pub told : n ≤ length ks' → n ≤ length ps' → n ≤ length vs' → Reads text (Ok (source text (take n ks') (take n ps') (take n vs'))) (lexed text)
+  told h i j = rw x.answer (rw (← stored-kinds n ks' ps' vs' h, ← stored-places n ks' ps' vs' i, ← stored-values n ks' ps' vs' j) N.Reads.has)
 
-  pub token-list : n ≤ length ks → Tokens (take n ks)
-  token-list h = subst Tokens (stored-kinds n ks ps vs h) (ends-in (end-last (lexed-tokens text (stored n ks ps vs) x.is).1))
+pub refused-lexing : {text ks ps vs ks' ps' vs' : List ℕ} {r : Refusal} → Lexes text ks ps vs ks' ps' vs' (Err r) → Reads text (Err r) (lexed text)
+refused-lexing x = rw x.answer N.Reads.refuses
 
-  pub few-listed : n ≤ length ks → length (take n ks) ≤ TOKENS
-  few-listed h = omega (arith, as_long ks h, few-tokens)
+-- ---- what is answered
+
+-- s is a text with its tokens
+pub record Lexed (text : List ℕ) (s : Source) : Type 0 where
+  pub tokens : List Token
+  pub lexes : lexed text ≡ L.tokens tokens
+  pub is : s ≡ source_of text tokens
+
+pub is-lexed : {text : List ℕ} {s : Source} {a : Lexing} → Reads text (Ok s) a → lexed text ≡ a → Lexed text s
+is-lexed (N.Reads.has {ts = ts}) e = record { tokens = ts; lexes = e; is = refl }
+
+module _ {text : List ℕ} {s : Source} (x : Lexed text s) where
+  pub listed : Tokens s.kinds
+  listed = rw x.is (token-list text x.tokens x.lexes)
+
+  pub few-listed : length s.kinds ≤ TOKENS
+  few-listed = rw x.is (let e : length (kinds x.tokens) ≡ length x.tokens = length-map x.tokens (λ (t : Token). t.kind) in omega (arith, e, few-tokens text x.tokens x.lexes))
 
   -- what check says is what is said of the tokens
-  is-checked : n ≤ length ks → n ≤ length ps → n ≤ length vs → checked text ≡ checked_tokens (source text (take n ks) (take n ps) (take n vs))
+  is-checked : checked text ≡ checked_tokens s
   unfolding checked
-  is-checked h i j = rw (x.is, checked) (rw (stored-kinds n ks ps vs h, stored-places n ks ps vs i, stored-values n ks ps vs j))
+  is-checked = rw (x.lexes, checked) (ap checked_tokens (sym x.is))
 
-  pub analysed : {nodes events heads slots : List ℕ} {r : Analysed} → n ≤ length ks → n ≤ length ps → n ≤ length vs
-      → Settles (source text (take n ks) (take n ps) (take n vs)) nodes events heads slots r (checked_tokens (source text (take n ks) (take n ps) (take n vs)))
-      → Analyses text ks ps vs nodes events heads slots r (checked text)
-  analysed {nodes} {events} {heads} {slots} h i j s = rw (is-checked h i j) (go s)
-    where
-      go : {r : Analysed} {v : Verdict} → Settles (source text (take n ks) (take n ps) (take n vs)) nodes events heads slots r v → Analyses text ks ps vs nodes events heads slots r v
-      go N.Settles.refuses = N.rejects
-      go (N.Settles.accepts {root = root} {e = k} {h = f} q w) =
-          subst (λ (m : ℕ). Analyses text ks ps vs nodes events heads slots (Fine m root k f) accepted) (as_long ks h ∙ sym q) (N.has x.is w)
+  module _ {nodes : List ℕ} {events : List Event} {heads : List Head} {slots : List ℕ} where
+    pub settled-refused : {r : Refusal} → Settles s nodes events heads slots (Err r) (checked_tokens s) → Analyses text (Err r) (checked text)
+    settled-refused {r} h = rw is-checked (go h)
+      where
+        go : {v : Verdict} → Settles s nodes events heads slots (Err r) v → Analyses text (Err r) v
+        go N.Settles.refuses = N.Analyses.rejects
 
-pub refused-so : {text ks ps vs ks' ps' vs' nodes events heads slots : List ℕ} {c p : ℕ} {r : Lexed} → Lexes text ks ps vs ks' ps' vs' r → r ≡ X.Refused c p
-    → Analyses text ks' ps' vs' nodes events heads slots (Refused c p) (checked text)
+pub settled : {text : List ℕ} {a : Analysis} → Lexed text a.source → Settles a.source a.nodes.now a.events.now a.heads.now a.slots.now (Ok a.root) (checked_tokens a.source) → Analyses text (Ok a) (checked text)
+settled {text} {a} x h = rw (is-checked x) (go h)
+  where
+    go : {v : Verdict} → Settles a.source a.nodes.now a.events.now a.heads.now a.slots.now (Ok a.root) v → Analyses text (Ok a) v
+    go (N.Settles.accepts w) = N.Analyses.has x.lexes x.is w
+
+pub refused-so : {text : List ℕ} {r : Refusal} {a : Lexing} → Reads text (Err r) a → lexed text ≡ a → Analyses text (Err r) (checked text)
 unfolding checked
-refused-so {ks' = ks'} {ps' = ps'} {vs' = vs'} {c = c} {p = p} h e = let q : lexed _ ≡ L.refused c p = h.answer ∙ ap (W.answer_of ks' ps' vs') e in rw (q, checked) N.rejects
+refused-so N.Reads.refuses e = rw (e, checked) N.Analyses.rejects
 
 -- what an analysis says of its text
-module _ {text ks ps vs nodes events heads slots : List ℕ} where
-  pub says-refused : {c p : ℕ} {v : Verdict} → Analyses text ks ps vs nodes events heads slots (Refused c p) v → refused c p ≡ v
-  says-refused N.rejects = refl
+module _ {text : List ℕ} where
+  pub says-refused : {r : Refusal} {v : Verdict} → Analyses text (Err r) v → refused (number_of r.reason) r.place ≡ v
+  says-refused N.Analyses.rejects = refl
 
-  pub says-accepted : {n root e h : ℕ} {v : Verdict} → Analyses text ks ps vs nodes events heads slots (Fine n root e h) v → accepted ≡ v
-  says-accepted (N.has i w) = refl
+  pub says-accepted : {a : Analysis} {v : Verdict} → Analyses text (Ok a) v → accepted ≡ v
+  says-accepted (N.Analyses.has i e w) = refl

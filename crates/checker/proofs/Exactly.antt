@@ -3,37 +3,28 @@ use Prim.Native.Nat.{ℕ}
 use mathlib.Core.Path.{◌≡◌, refl, sym, ap, ◌∙◌}
 use mathlib.Core.List.{List}
 use mathlib.Core.Logic.{◌↔◌}
-use mathlib.Core.Option.{Option, none, some}
+use Rattle.std.specs.Prelude.{None}
 use native.Mathlib.Omega.{arith}
 use lib.ListN.{get_or}
 use Rattle.lexer.specs.Lex as L
 use Rattle.lexer.specs.Lex.{Token, lexed}
-use Rattle.lexer.proofs.Theorems.{lexed-tokens, end-last}
 use Rattle.syntax.specs.Tree.{Tree, prog, width}
 use Rattle.syntax.specs.Abstract.{ast}
 use Rattle.grammar.specs.Parse.{Res, parsed, ok, bad}
 use Rattle.grammar.specs.Text as G
 use Rattle.grammar.specs.Text.{Tokens}
 use Rattle.grammar.proofs.Grammar as Q
-use Rattle.checker.specs.Check.{accepted, refused, kinds, places, source_of, rules_of, Fault, first_broken, verdict, checked_tokens, checked}
+use Rattle.checker.specs.Check.{accepted, refused, kinds, places, source_of, rules_of, first_broken, verdict, checked_tokens, checked}
 use Rattle.checker.specs.Accepted.{KeepsRules}
-use Rattle.checker.proofs.Table.{AllKept, none_kept, also_kept, kept-exactly, unbroken}
-use Rattle.checker.proofs.Analysing.{ends-in}
-
-is-accepted : (ps : List ℕ) (o : Option Fault) → verdict ps o ≡ accepted → o ≡ none
-is-accepted ps none e = refl
-is-accepted ps (some f) e = let z : ◌≡◌ {A = ℕ} 0 1 = cc in absurd (omega arith)
-
--- the kinds of a text's tokens are a token list
-pub token-list : (text : List ℕ) (ts : List Token) → lexed text ≡ L.tokens ts → Tokens (kinds ts)
-token-list text ts l = ends-in (end-last (lexed-tokens text ts l).1)
+use Rattle.checker.proofs.Table.{AllKept, none_kept, also_kept, kept-exactly, unbroken, is-accepted}
+use Rattle.checker.proofs.Analysing.{token-list}
 
 -- the tokens of a tree are read back as this tree
 pub read-so : (ks : List ℕ) (t : Tree prog) → G.KeepsGrammar ks t → parsed ks ≡ ok t (width t)
 read-so ks t k = Q.accepts ks t k.tokens ∙ ap (λ (x : Tree prog). ok x (width t)) (sym k.numbers)
 
 module _ (text : List ℕ) where
-  kept : (ts : List Token) → lexed text ≡ L.tokens ts → (t : Tree prog) (m : ℕ) → parsed (kinds ts) ≡ ok t m → first_broken (rules_of (source_of text ts) (ast t)) ≡ none → KeepsRules text
+  kept : (ts : List Token) → lexed text ≡ L.tokens ts → (t : Tree prog) (m : ℕ) → parsed (kinds ts) ≡ ok t m → first_broken (rules_of (source_of text ts) (ast t)) ≡ None → KeepsRules text
   unfolding rules_of
   kept ts l t m p f =
       let k = unbroken (rules_of (source_of text ts) (ast t)) f in

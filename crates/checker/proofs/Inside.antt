@@ -6,7 +6,7 @@ use mathlib.Core.List.Memᴰ.{head as here}
 use mathlib.Core.List.Memᴰ.{not-nil as nowhere}
 use mathlib.Core.List.Memᴰ.{tail as there}
 use mathlib.Core.List.{List, [], ◌∷◌, ◌++◌}
-use mathlib.Core.Option.{Option, none, some}
+use Rattle.std.specs.Prelude.{Option, None, Some}
 use native.Mathlib.Omega.{arith}
 use lib.ListN.{length}
 use lib.Dec.{eqb, leb, ltb}
@@ -104,12 +104,12 @@ module _ (m : ℕ) where
 
   module _ (same : ℕ → ℕ → Bool) where
     low-found : {i : ℕ} (o : Option ℕ) → i < m → Low m (if_found o i)
-    low-found none h = nil
-    low-found (some n) h = more h nil
+    low-found None h = nil
+    low-found (Some n) h = more h nil
 
     low-unless : {i : ℕ} (o : Option ℕ) → i < m → Low m (unless_found o i)
-    low-unless none h = more h nil
-    low-unless (some n) h = nil
+    low-unless None h = more h nil
+    low-unless (Some n) h = nil
 
     low-misnamed_at : (s : Scope) (e : Event) → Within m e → Low m (misnamed_at same s e)
     unfolding on_name misnamed Within
@@ -142,8 +142,8 @@ module _ (m : ℕ) where
 
     low-wrong : {i : ℕ} (o : Option ℕ) (n : ℕ) → i < m → Low m (wrong o i n)
     unfolding wrong
-    low-wrong none n h = nil
-    low-wrong (some k) n h = low-when (not (eqb k n)) h
+    low-wrong None n h = nil
+    low-wrong (Some k) n h = low-when (not (eqb k n)) h
 
     low-miscounted : (hs : List Head) (e : Event) → Within m e → Low m (miscounted same hs e)
     unfolding miscounted Within

@@ -14,3 +14,4 @@ pub mod Texts
 pub mod Lookups
 pub mod Resolving
 pub mod Sure
+pub mod Passing

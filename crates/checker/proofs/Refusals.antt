@@ -7,7 +7,7 @@ use mathlib.Core.List.Memᴰ.{not-nil as nowhere}
 use mathlib.Core.List.Memᴰ.{tail as there}
 use mathlib.Core.List.{List, [], ◌∷◌, ◌++◌}
 use mathlib.Core.Logic.{◌↔◌}
-use mathlib.Core.Option.{Option, none, some}
+use Rattle.std.specs.Prelude.{Option, None, Some}
 use native.Mathlib.Omega.{arith}
 use lib.ListN.{length, get_or}
 use lib.Dec.{leb}
@@ -27,7 +27,8 @@ use Rattle.checker.specs.Check.{Verdict, accepted, refused, kinds, places, sourc
 use Rattle.checker.specs.Accepted.{KeepsRules}
 use Rattle.checker.specs.Refusal.{Smallest, Breaks, Refusal, too_long, no-token, too_large, no_program, breaks-rule}
 use Rattle.checker.proofs.Table.{AllKept, none_kept, also_kept, least-none, kept-exactly, first-append}
-use Rattle.checker.proofs.Exactly.{token-list, read-so, exactly}
+use Rattle.checker.proofs.Analysing.{token-list}
+use Rattle.checker.proofs.Exactly.{read-so, exactly}
 use Rattle.checker.proofs.Inside.{Low, low-at, Lows, also, broken-low}
 
 -- ---- the least of a list
@@ -36,7 +37,7 @@ record Least (is : List ℕ) (i : ℕ) : Type 0 where
   pub among : i ∈ is
   pub lowest : (j : ℕ) → j ∈ is → i ≤ j
 
-least-so : (is : List ℕ) (i : ℕ) → least is ≡ some i → Least is i
+least-so : (is : List ℕ) (i : ℕ) → least is ≡ Some i → Least is i
 unfolding least lesser
 least-so [] i e = absurd (let z : ◌≡◌ {A = ℕ} 0 1 = cc in omega arith)
 least-so (k ∷ is) i e = go (least is) refl e (least-so is)
@@ -45,7 +46,7 @@ least-so (k ∷ is) i e = go (least is) refl e (least-so is)
     first q j (here f) = omega (arith, f)
     first q j (there m) = absurd (nowhere (subst (λ (l : List ℕ). j ∈ l) q m))
 
-    two : (b : Bool) (j : ℕ) → leb k j ≡ b → Least is j → some (cond b k j) ≡ some i → Least (k ∷ is) i
+    two : (b : Bool) (j : ℕ) → leb k j ≡ b → Least is j → Some (cond b k j) ≡ Some i → Least (k ∷ is) i
     two true j q l f = let z : k ≡ i = cc in record { among = here (sym z); lowest = low }
       where
         low : (n : ℕ) → n ∈ k ∷ is → i ≤ n
@@ -57,9 +58,9 @@ least-so (k ∷ is) i e = go (least is) refl e (least-so is)
         low n (here g) = let z : j ≡ i = cc in omega (arith, g, z, leb-false k j q)
         low n (there g) = let z : j ≡ i = cc in omega (arith, z, l.lowest n g)
 
-    go : (o : Option ℕ) → least is ≡ o → lesser k o ≡ some i → ((j : ℕ) → least is ≡ some j → Least is j) → Least (k ∷ is) i
-    go none q f r = let z : k ≡ i = cc in record { among = here (sym z); lowest = subst (λ (n : ℕ). (j : ℕ) → j ∈ k ∷ is → n ≤ j) z (first (least-none is q)) }
-    go (some j) q f r = two (leb k j) j refl (r j q) f
+    go : (o : Option ℕ) → least is ≡ o → lesser k o ≡ Some i → ((j : ℕ) → least is ≡ Some j → Least is j) → Least (k ∷ is) i
+    go None q f r = let z : k ≡ i = cc in record { among = here (sym z); lowest = subst (λ (n : ℕ). (j : ℕ) → j ∈ k ∷ is → n ≤ j) z (first (least-none is q)) }
+    go (Some j) q f r = two (leb k j) j refl (r j q) f
 
 -- ---- places ascend with the numbers of tokens
 
@@ -78,21 +79,21 @@ places-ascend (above q a) (suc i) (suc j) h k = places-ascend a i j (omega (arit
 -- ---- the first rule that is broken
 
 -- it is found
-finds : (before : List Rule) (r : Rule) (after : List Rule) (i : ℕ) → AllKept before → least r.broken ≡ some i → first_broken (before ++ r ∷ after) ≡ some (fault r.number i)
+finds : (before : List Rule) (r : Rule) (after : List Rule) (i : ℕ) → AllKept before → least r.broken ≡ Some i → first_broken (before ++ r ∷ after) ≡ Some (fault r.number i)
 unfolding first_broken
 finds before r after i k e = first-append before (r ∷ after) ∙ rw ((kept-exactly before).1 k, e)
 
 -- what a fault says
 abbrev Found : List Token → List Rule → Option Fault → Type 0
-Found ts rs none = Unit
-Found ts rs (some f) = Breaks ts rs f.number (get_or (places ts) f.token 0)
+Found ts rs None = Unit
+Found ts rs (Some f) = Breaks ts rs f.number (get_or (places ts) f.token 0)
 
 later : {ts : List Token} {rs : List Rule} {n p : ℕ} (r : Rule) → r.broken ≡ [] → Breaks ts rs n p → Breaks ts (r ∷ rs) n p
 later r e b =
     record { before = r ∷ b.before; broken = b.broken; after = b.after; order = ap (λ (l : List Rule). r ∷ l) b.order; kept = also_kept e b.kept; number = b.number; place = b.place }
 
 module _ (ts : List Token) (a : Ascending 0 ts) where
-  now : (r : Rule) (rs : List Rule) (i : ℕ) → Low (length ts) r.broken → least r.broken ≡ some i → Breaks ts (r ∷ rs) r.number (get_or (places ts) i 0)
+  now : (r : Rule) (rs : List Rule) (i : ℕ) → Low (length ts) r.broken → least r.broken ≡ Some i → Breaks ts (r ∷ rs) r.number (get_or (places ts) i 0)
   now r rs i l e =
       let s = least-so r.broken i e in
       record {
@@ -111,12 +112,12 @@ module _ (ts : List Token) (a : Ascending 0 ts) where
   first_found (r ∷ rs) (also l ls) = go (least r.broken) refl (first_broken rs) (first_found rs ls)
     where
       go : (o : Option ℕ) → least r.broken ≡ o → (f : Option Fault) → Found ts rs f → Found ts (r ∷ rs) (or_else r.number o f)
-      go none e none b = tt
-      go none e (some f) b = later r (least-none r.broken e) b
-      go (some i) e f b = now r rs i l e
+      go None e None b = tt
+      go None e (Some f) b = later r (least-none r.broken e) b
+      go (Some i) e f b = now r rs i l e
 
   -- the place of the least of the tokens is the smallest
-  least-place : (is : List ℕ) (p i : ℕ) → Smallest ts is p → least is ≡ some i → get_or (places ts) i 0 ≡ p
+  least-place : (is : List ℕ) (p i : ℕ) → Smallest ts is p → least is ≡ Some i → get_or (places ts) i 0 ≡ p
   least-place is p i s e =
       let l = least-so is i e in
       omega (arith, s.stands, s.smallest i l.among, places-ascend a i s.token (l.lowest s.token s.breaks) (s.inside s.token s.breaks))
@@ -125,9 +126,9 @@ module _ (ts : List Token) (a : Ascending 0 ts) where
   breaks-only rs n p b = go (least b.broken.broken) refl
     where
       go : (o : Option ℕ) → least b.broken.broken ≡ o → verdict (places ts) (first_broken rs) ≡ refused n p
-      go none e = absurd (nowhere (subst (λ (l : List ℕ). b.place.token ∈ l) (least-none b.broken.broken e) b.place.breaks))
-      go (some i) e =
-          let f : first_broken rs ≡ some (fault b.broken.number i) = ap first_broken b.order ∙ finds b.before b.broken b.after i b.kept e in
+      go None e = absurd (nowhere (subst (λ (l : List ℕ). b.place.token ∈ l) (least-none b.broken.broken e) b.place.breaks))
+      go (Some i) e =
+          let f : first_broken rs ≡ Some (fault b.broken.number i) = ap first_broken b.order ∙ finds b.before b.broken b.after i b.kept e in
           let q = least-place b.broken.broken p i b.place e in
           ap (verdict (places ts)) f ∙ ap (λ (m : ℕ). refused m (get_or (places ts) i 0)) (sym b.number) ∙ ap (refused n) q
 
@@ -167,8 +168,8 @@ module _ (text : List ℕ) where
       low = subst (λ (m : ℕ). Lows m rs) (length-kinds ts) (broken-low (source_of text ts) t k)
 
       go : (o : Option Fault) → Found ts rs o → Says text (verdict (places ts) o)
-      go none b = tt
-      go (some f) b = breaks-rule l k b
+      go None b = tt
+      go (Some f) b = breaks-rule l k b
 
   -- number 4, and all together
   says : Says text (checked text)

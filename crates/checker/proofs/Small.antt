@@ -2,7 +2,7 @@
 use Prim.Native.Nat.{ℕ, zero, suc, ◌≤◌}
 use mathlib.Core.Path.{◌≡◌, refl}
 use mathlib.Core.List.{List, []}
-use mathlib.Core.Option.{Option, none, some}
+use Rattle.std.specs.Prelude.{Option, None, Some}
 use native.Mathlib.Omega.{arith}
 use lib.ListN.{length, get_or, length-drop}
 use Rattle.lexer.specs.Lex as L
@@ -26,8 +26,8 @@ place-low {text = text} (next {t = t} size b f c) zero = omega (arith, f.some, f
 place-low (next size b f c) (suc i) = place-low c i
 
 verdict-low : (n : ℕ) (ps : List ℕ) → ((i : ℕ) → get_or ps i 0 ≤ n) → (o : Option Fault) → Within n (verdict ps o)
-verdict-low n ps h none = fine
-verdict-low n ps h (some f) = low (h f.token)
+verdict-low n ps h None = fine
+verdict-low n ps h (Some f) = low (h f.token)
 
 tokens-low : (n : ℕ) (s : Source) → ((i : ℕ) → get_or s.places i 0 ≤ n) → Within n (checked_tokens s)
 unfolding checked_tokens

@@ -1,95 +1,65 @@
--- What the analysis of a text leaves in the lent slices, and what its answer means.
-use Rattle.std.specs.Prelude.{ℕ, ◌+◌, ◌*◌, ◌≤◌, ◌<◌, ◌≡◌, List, length, get_or, take, replicate}
-use Rattle.std.proofs.Math.Option.{none}
+-- What the analysis of a text answers, and what the answer means.
+use Rattle.std.specs.Prelude.{ℕ, ◌+◌, ◌*◌, ◌≤◌, ◌<◌, ◌≡◌, List, length, None, Result, Ok, Err}
 use Rattle.syntax.specs.Tree.{Tree, prog}
 use Rattle.syntax.specs.Ast as A
 use Rattle.syntax.specs.Ast.{Ast}
 use Rattle.syntax.specs.Abstract.{ast}
 use Rattle.syntax.specs.Table.{Holds}
-use Rattle.lexer.specs.Lex.{lexed, tokens}
-use Rattle.lexer.specs.Parts as L
+use Rattle.syntax.specs.Refusals.{number_of}
+use Rattle.syntax.specs.declared.refusal.Refusal.{Refusal}
+use Rattle.lexer.specs.Lex as L
+use Rattle.lexer.specs.Lex.{Token, Lexing, lexed}
 use Rattle.grammar.specs.Parse.{parsed, ok}
-use Rattle.grammar.specs.Text.{Tokens}
 use Rattle.events.specs.Event as E
-use Rattle.events.specs.Stored.{stored}
+use Rattle.events.specs.Event.{Event}
 use Rattle.events.specs.Walk.{Below}
 use Rattle.text_rules.specs.Rules as R
-use Rattle.text_rules.specs.Answers.{stored_heads}
-use Rattle.checker.specs.Check.{Verdict, accepted, refused, Source, source, rules_of, first_broken, verdict}
+use Rattle.text_rules.specs.Rules.{Head}
+use Rattle.checker.specs.Check.{Verdict, accepted, refused, Source, source_of, rules_of, first_broken, verdict}
 use Rattle.checker.specs.Judge.{Meant, Shown}
-use Rattle.checker.specs.Sizes.{TOKENS, NODES, EVENTS, HEADS, SCOPE}
-use Rattle.checker.specs.declared.Judged.{Judged}
-use Rattle.checker.specs.declared.Judged.TheVariants.{Broken, Kept}
-use Rattle.checker.specs.declared.Analysed.{Analysed}
-use Rattle.checker.specs.declared.Analysed.TheVariants.{Refused, Fine}
-use Rattle.checker.specs.declared.Checked.{Checked}
-use Rattle.checker.specs.declared.Checked.TheVariants as C
-
--- check's answer, in document 01's words: accepted, or number and place
-abbrev pub verdict_of : Checked → Verdict
-verdict_of C.Accepted = accepted
-verdict_of (C.Refused n p) = refused n p
+use Rattle.checker.specs.Sizes.{TOKENS}
+use Rattle.checker.specs.declared.Analysis.{Analysis}
+pub use Rattle.checker.specs.Judge.{verdict_of}
 
 -- what is known of the program p where the rules are kept
-pub record Kept' (s : Source) (events heads slots : List ℕ) (p : Ast A.prog) (e h : ℕ) : Type 0 where
-  pub total : e ≡ length (E.events p)
-  pub listed : stored events e ≡ E.events p
-  pub functions : stored_heads heads h ≡ R.heads (E.events p)
+pub record Kept' (s : Source) (events : List Event) (heads : List Head) (slots : List ℕ) (p : Ast A.prog) : Type 0 where
+  pub listed : events ≡ E.events p
+  pub functions : heads ≡ R.heads (E.events p)
   pub means : Meant s p slots
 
--- an accepted text with its tokens: its tree stands at node `root`, its e events, its h functions and each token's meaning stand in the slices.
-pub record Known (s : Source) (nodes events heads slots : List ℕ) (root e h : ℕ) : Type 0 where
+-- an accepted text with its tokens: its tree stands at node `root`, and these are its events, its functions and each token's meaning
+pub record Known (s : Source) (nodes : List ℕ) (root : ℕ) (events : List Event) (heads : List Head) (slots : List ℕ) : Type 0 where
   pub tree : Tree prog
   pub after : ℕ
   pub parses : parsed s.kinds ≡ ok tree after
   pub holds : Holds nodes root (ast tree)
   pub room : 5 * root + 5 ≤ length nodes
   pub few : root < 65536
-  pub kept : Kept' s events heads slots (ast tree) e h
-  pub unbroken : first_broken (rules_of s (ast tree)) ≡ none
+  pub named : length slots ≡ TOKENS
+  pub kept : Kept' s events heads slots (ast tree)
+  pub unbroken : first_broken (rules_of s (ast tree)) ≡ None
 
--- tokens are refused by number 4 or a later one, or the slices hold what is known
-pub data Settles (s : Source) (nodes events heads slots : List ℕ) : Analysed → Verdict → Type 0 where
-  refuses : {n p : ℕ} → Settles s nodes events heads slots (Refused n p) (refused n p)
-  accepts : {n root e h : ℕ} → n ≡ length s.kinds → Known s nodes events heads slots root e h → Settles s nodes events heads slots (Fine n root e h) accepted
-
--- a text is refused as check refuses it, or the slices hold what is known; its n tokens stand in the first places of ks, ps, vs
-pub data Analyses (text ks ps vs nodes events heads slots : List ℕ) : Analysed → Verdict → Type 0 where
-  rejects : {n p : ℕ} → Analyses text ks ps vs nodes events heads slots (Refused n p) (refused n p)
-  has : {n root e h : ℕ} → lexed text ≡ tokens (L.stored n ks ps vs) → Known (source text (take n ks) (take n ps) (take n vs)) nodes events heads slots root e h
-      → Analyses text ks ps vs nodes events heads slots (Fine n root e h) accepted
+-- a text is refused as check refuses it, or what is answered is its tokens and what is known of it
+pub data Analyses (text : List ℕ) : Result Analysis Refusal → Verdict → Type 0 where
+  rejects : {r : Refusal} → Analyses text (Err r) (refused (number_of r.reason) r.place)
+  has : {a : Analysis} {ts : List Token} → lexed text ≡ L.tokens ts → a.source ≡ source_of text ts → Known a.source a.nodes.now a.root a.events.now a.heads.now a.slots.now
+      → Analyses text (Ok a) accepted
 
 -- ---- the steps of the analysis
 
--- the answer by what the rules say
-abbrev pub concluded : List ℕ → ℕ → ℕ → ℕ → Judged → Analysed
-concluded ps n root e (Broken c i) = Refused c (get_or ps i 0)
-concluded ps n root e (Kept h) = Fine n root e h
+-- a text is refused as the lexer refuses it, or what is answered is its tokens
+pub data Reads (text : List ℕ) : Result Source Refusal → Lexing → Type 0 where
+  refuses : {r : Refusal} → Reads text (Err r) (L.refused (number_of r.reason) r.place)
+  has : {ts : List Token} → Reads text (Ok (source_of text ts)) (L.tokens ts)
 
-pub data Inspects (s : Source) (events heads slots : List ℕ) (root : ℕ) (p : Ast A.prog) : Analysed → Verdict → Type 0 where
-  refuses : {c q : ℕ} → Inspects s events heads slots root p (Refused c q) (refused c q)
-  accepts : {e h : ℕ} → first_broken (rules_of s p) ≡ none → Kept' s events heads slots p e h → Inspects s events heads slots root p (Fine (length s.kinds) root e h) accepted
+-- tokens are refused by number 4 or a later one, or the tables hold what is known
+pub data Settles (s : Source) (nodes : List ℕ) (events : List Event) (heads : List Head) (slots : List ℕ) : Result ℕ Refusal → Verdict → Type 0 where
+  refuses : {r : Refusal} → Settles s nodes events heads slots (Err r) (refused (number_of r.reason) r.place)
+  accepts : {root : ℕ} → Known s nodes root events heads slots → Settles s nodes events heads slots (Ok root) accepted
 
-pub record Inspected (s : Source) (nodes events heads slots : List ℕ) (root : ℕ) (r : Analysed) : Type 0 where
-  pub inspects : (p : Ast A.prog) → Holds nodes root p → Below TOKENS p → Shown s.kinds p → Inspects s events heads slots root p r (verdict s.places (first_broken (rules_of s p)))
+pub data Inspects (s : Source) (events : List Event) (heads : List Head) (slots : List ℕ) (p : Ast A.prog) : Result (Unit {0}) Refusal → Verdict → Type 0 where
+  refuses : {r : Refusal} → Inspects s events heads slots p (Err r) (refused (number_of r.reason) r.place)
+  accepts : {u : Unit {0}} → first_broken (rules_of s p) ≡ None → Kept' s events heads slots p → Inspects s events heads slots p (Ok u) accepted
 
--- what is lent for a text's tokens ks: a token list, room for the tree, its events, its functions, its scope and what its names mean, which is nothing yet
-pub record Lent (ks nodes events heads scope slots : List ℕ) : Type 0 where
-  pub tokens : Tokens ks
-  pub few : length ks ≤ TOKENS
-  pub table : length nodes ≡ NODES
-  pub words : length events ≡ EVENTS
-  pub functions : HEADS ≤ length heads
-  pub blocks : SCOPE ≤ length scope
-  pub blank : slots ≡ replicate TOKENS 0
-
--- what is lent for any text
-pub record Slices (ks ps vs nodes events heads scope slots : List ℕ) : Type 0 where
-  pub kinds : length ks ≡ TOKENS
-  pub places : length ps ≡ TOKENS
-  pub values : length vs ≡ TOKENS
-  pub table : length nodes ≡ NODES
-  pub words : length events ≡ EVENTS
-  pub functions : HEADS ≤ length heads
-  pub blocks : SCOPE ≤ length scope
-  pub blank : slots ≡ replicate TOKENS 0
+pub record Inspected (s : Source) (nodes : List ℕ) (root : ℕ) (events : List Event) (heads : List Head) (slots : List ℕ) (r : Result (Unit {0}) Refusal) : Type 0 where
+  pub inspects : (p : Ast A.prog) → Holds nodes root p → Below TOKENS p → Shown s.kinds p → Inspects s events heads slots p r (verdict s.places (first_broken (rules_of s p)))

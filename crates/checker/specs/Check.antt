@@ -1,6 +1,5 @@
 -- Check (document 01, "The three operations and the program"): what it answers for every text, and the program of a text that the grammar accepts.
-use Rattle.std.specs.Prelude.{ℕ, ◌-◌, Bool, List, [], ◌∷◌, map, length, get_or}
-use Rattle.std.proofs.Math.Option.{Option, none, some}
+use Rattle.std.specs.Prelude.{ℕ, ◌-◌, List, [], ◌∷◌, map, length, get_or, Option, None, Some}
 use Rattle.lexer.specs.Lex as L
 use Rattle.lexer.specs.Lex.{Token, lexed}
 use Rattle.syntax.specs.Tree.{Tree, prog}
@@ -10,13 +9,16 @@ use Rattle.syntax.specs.Abstract.{ast}
 use Rattle.grammar.specs.Parse.{parsed, ok, bad}
 use Rattle.events.specs.Event.{events}
 use Rattle.text_rules.specs.Scan.{least}
-use Rattle.text_rules.specs.Spelling.{same_name, is_main}
 use Rattle.text_rules.specs.Rules.{heads, too_deep, miscalls, mainless, open_ends, too_many}
 use Rattle.text_rules.specs.Names.{bad_names, meanings, meant}
 use Rattle.text_rules.specs.Assigned.{unassigned}
 use Rattle.text_rules.specs.Own.{reversed, too_wide}
 use Rattle.text_rules.specs.Resolve.{resolved}
 use Rattle.semantics.specs.Program.{Program}
+-- a text with the kinds, places and values of its tokens, of which the last is the end
+pub use Rattle.syntax.specs.Source.{Source, source}
+-- two tokens of a text spell the same name; a token spells main
+pub use Rattle.text_rules.specs.Spelling.{same_in, main_in}
 
 -- "It answers accepted, or number and place, a byte offset from 0."
 pub data Verdict : Type 0 where
@@ -33,26 +35,10 @@ places ts = map (λ t. t.place) ts
 abbrev pub values : List Token → List ℕ
 values ts = map (λ t. t.value) ts
 
--- a text with the kinds, places and values of its tokens, of which the last is the end
-pub record Source : Type 0 where
-  pub text : List ℕ
-  pub kinds : List ℕ
-  pub places : List ℕ
-  pub values : List ℕ
-
-abbrev pub source : (text kinds places values : List ℕ) → Source
-source text ks ps vs = record { text = text; kinds = ks; places = ps; values = vs }
-
 abbrev pub source_of : List ℕ → List Token → Source
 source_of text ts = source text (kinds ts) (places ts) (values ts)
 
--- two tokens of a text spell the same name; a token spells main; the number of the end's token, which stands at the text's length
-abbrev pub same_in : Source → ℕ → ℕ → Bool
-same_in s = same_name s.text s.places s.values
-
-abbrev pub main_in : Source → ℕ → Bool
-main_in s = is_main s.text s.places s.values
-
+-- the number of the end's token, which stands at the text's length
 abbrev pub end_of : Source → ℕ
 end_of s = length s.kinds - 1
 
@@ -96,17 +82,17 @@ abbrev pub fault : ℕ → ℕ → Fault
 fault n i = record { number = n; token = i }
 
 abbrev pub or_else : ℕ → Option ℕ → Option Fault → Option Fault
-or_else n none later = later
-or_else n (some i) later = some (fault n i)
+or_else n None later = later
+or_else n (Some i) later = Some (fault n i)
 
 -- "each over the whole text before the next, the smallest place within a number winning": the places of tokens ascend with their numbers
 unfoldable pub first_broken : List Rule → Option Fault
-first_broken [] = none
+first_broken [] = None
 first_broken (r ∷ rs) = or_else r.number (least r.broken) (first_broken rs)
 
 abbrev pub verdict : List ℕ → Option Fault → Verdict
-verdict ps none = accepted
-verdict ps (some f) = refused f.number (get_or ps f.token 0)
+verdict ps None = accepted
+verdict ps (Some f) = refused f.number (get_or ps f.token 0)
 
 -- "4 the first token that no program could have there", and then the other rules
 unfoldable pub checked_tokens : Source → Verdict

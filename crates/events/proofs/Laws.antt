@@ -1,51 +1,14 @@
 -- Laws of events in a list.
-use Prim.Native.Nat.{ℕ, zero, suc, ◌+◌, ◌*◌, ◌≤◌, ◌<◌}
-use mathlib.Core.Path.{◌≡◌, refl, sym, ap, ◌∙◌, subst}
+use Prim.Native.Nat.{ℕ, ◌+◌, ◌≤◌, ◌<◌}
+use mathlib.Core.Path.{◌≡◌, sym, ap, ◌∙◌, subst}
 use mathlib.Core.List.{List, [], ◌∷◌, ◌++◌, append-nil, append_assoc}
-use native.Mathlib.Nat.{add-zero, zero-add, suc-add}
 use native.Mathlib.Omega.{arith}
-use lib.ListN.{length, get_or, length-append}
+use lib.ListN.{length, length-append}
 use Rattle.syntax.specs.Ast.{Sort, Ast}
 use Rattle.syntax.specs.Table.{Holds}
 use Rattle.events.specs.Event.{Event, opens, closes, events_at}
-use Rattle.events.specs.Stored.{event_more, event_token, event_words, event_found_at, from}
 use Rattle.events.specs.Walk.{Below, Rooted}
 use Rattle.events.specs.Visit.{level, Located}
-
--- no events; one event and the events after it
-pub from-none : (l : List ℕ) (k : ℕ) → from l k 0 ≡ []
-unfolding from
-from-none l k = refl
-
--- events fall into a front part and the rest
-pub from-split : (l : List ℕ) (k m n : ℕ) → from l k (m + n) ≡ from l k m ++ from l (k + m) n
-unfolding from
-from-split l k zero n = rw (zero-add, add-zero)
-from-split l k (suc m) n =
-    let e : suc k + m ≡ k + suc m = omega arith in
-    ap (λ (x : ℕ). from l k x) (suc-add m n) ∙ ap (λ (r : List Event). event_found_at l k ∷ r) (from-split l (suc k) m n ∙ ap (λ (x : ℕ). from l (suc k) m ++ from l x n) e)
-
--- the last one
-pub from_last : (l : List ℕ) (k m : ℕ) → from l k (m + 1) ≡ from l k m ++ event_found_at l (k + m) ∷ []
-unfolding from
-from_last l k m = from-split l k m 1
-
--- as many as were asked for
-pub from-length : (l : List ℕ) (k m : ℕ) → length (from l k m) ≡ m
-unfolding from
-from-length l k zero = refl
-from-length l k (suc m) = ap suc (from-length l (suc k) m)
-
--- only their own words matter
-pub from-same : (l m : List ℕ) (k n : ℕ) → ((j : ℕ) → j < event_words * (k + n) → get_or m j 0 ≡ get_or l j 0) → from m k n ≡ from l k n
-unfolding from
-from-same l m k zero h = refl
-from-same l m k (suc n) h =
-    let a = h (event_words * k) (omega arith) in
-    let b = h (event_words * k + event_token) (omega arith) in
-    let c = h (event_words * k + event_more) (omega arith) in
-    let r = from-same l m (suc k) n (λ j i. h j (omega arith)) in
-    cc
 
 -- ---- lists that grow
 

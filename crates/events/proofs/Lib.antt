@@ -1,6 +1,5 @@
 -- Theorems.
 pub mod Laws
-pub mod Variants
 pub mod Nodes
 pub mod Counting
 pub mod Leaves

@@ -1,6 +1,5 @@
 -- What the rules of a text speak of.
 pub mod Event
-pub mod Stored
 pub mod Read
 pub mod Walk
 pub mod Visit

@@ -1,16 +1,18 @@
 // The events of a text, in a list.
-ghost use Rattle.std.specs.Prelude.{◌≡◌, ◌<◌, ◌≤◌, List, [], ◌∷◌, ◌++◌, length, map, take};
+ghost use Rattle.std.specs.Prelude.{◌≡◌, ◌<◌, ◌≤◌, List, [], ◌∷◌, ◌++◌, length, map};
 ghost use Rattle.events.specs.Event.{Event as Told};
 ghost use Rattle.events.specs.Read.{as_event};
 
+use arrayvec::ArrayVec;
 use std::marker::Model;
 
 // One event: tokens, but for a depth and a count.
-#[derive(Clone, Copy, PartialEq, Eq, Debug)]
+#[derive(Clone, Copy, PartialEq, Eq, Default, Debug)]
 pub enum Event {
     Function(usize),
     Parameter(usize),
     Thing { depth: usize, token: usize },
+    #[default]
     Opens,
     Closes,
     Declares(usize),
@@ -25,16 +27,13 @@ pub const EVENTS: usize = 4096;
 // Events in their order. A clause sees the list of them.
 #[derive(Drop)]
 pub struct Events {
-    list: [Event; EVENTS],
-    count: usize,
+    list: ArrayVec<Event, EVENTS>,
 }
 
 impl Model for Events {
     ghost Value = { List Told };
 
-    ghost view = { λ t. map as_event (take t.count t.list) };
-
-    ghost invariant = { λ t. (t.count ≤ 4096) × (length t.list ≡ 4096) };
+    ghost view = { λ t. map as_event t.list.items };
 }
 
 impl Events {
@@ -43,8 +42,7 @@ impl Events {
         ensures { result ≡ [] }
     {
         Events {
-            list: [Event::Opens; EVENTS],
-            count: 0,
+            list: ArrayVec::new(),
         }
     }
 
@@ -53,7 +51,7 @@ impl Events {
         ensures events { map as_event result.now ≡ self.now }
         ensures few { length self.now ≤ 4096 }
     {
-        &self.list[..self.count]
+        self.list.as_slice()
     }
 
     // Adds an event behind the others.
@@ -61,14 +59,13 @@ impl Events {
         requires { length self.old < 4096 }
         ensures { self.new ≡ self.old ++ as_event event ∷ [] }
     {
-        self.list[self.count] = event;
-        self.count += 1;
+        self.list.push(event);
     }
 
     // Takes all events out.
     pub fn clear(&mut self)
         ensures { self.new ≡ [] }
     {
-        self.count = 0;
+        self.list.clear();
     }
 }

@@ -9,7 +9,9 @@ use lib.IntN.{ℤ}
 use borrow.Author.Tests.{lt-ltb, le-ltb}
 use Rattle.list.specs.List.{Answer, refused, listed, Left, list}
 use Rattle.list.specs.Parts.{answer_of, leaves}
-use Rattle.list.specs.declared.Listed.{Listed}
+use Rattle.std.specs.Prelude.{Result}
+use Rattle.search.specs.declared.Answered.{Answered}
+use Rattle.syntax.specs.declared.refusal.Refusal.{Refusal}
 use Rattle.list.proofs.Bounds.{Small, small-answer}
 use Rattle.exports.specs.Answers.{Fits, list_words, out, out_with, list_out}
 
@@ -22,7 +24,7 @@ module _ (text : List ℕ) (low high : ℤ) (steps skip budget : ℕ) (rows : Li
   pub list-short : length answer < 5 → out rows scratch answer ≡ list_out text low high steps skip budget rows scratch answer
   list-short h = sym (ap (λ (b : Bool). cond b (out rows scratch answer) (out_with (list text low high steps skip budget rows scratch) answer)) (lt-ltb (length answer) 5 h))
 
-  module _ (r : Listed) (rows' : List ℤ) (scratch' : List ℕ) (e : leaves r rows' scratch' ≡ list text low high steps skip budget rows scratch) where
+  module _ (r : Result Answered Refusal) (rows' : List ℤ) (scratch' : List ℕ) (e : leaves r rows' scratch' ≡ list text low high steps skip budget rows scratch) where
     pub list-fits : budget < 4294967296 → Fits (answer_of r)
     list-fits h = fits-small budget (answer_of r) h (subst (λ (l : Left). Small budget l.answer) (sym e) (small-answer text low high steps skip budget rows scratch))
 

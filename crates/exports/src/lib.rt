@@ -4,13 +4,15 @@
 ghost use Rattle.std.specs.Prelude.{◌≡◌, ◌/◌, ◌≤◌, min, length};
 ghost use Rattle.checker.specs.Check.{checked};
 ghost use Rattle.list.specs.Parts.{answer_of};
+ghost use Rattle.search.specs.Loop.{close_of};
+ghost use Rattle.pages.specs.Parts.{foot_at, foot_of};
 ghost use Rattle.exports.specs.Page.{page_out};
 ghost use Rattle.exports.specs.Write.{styled, write_out};
-ghost use Rattle.exports.specs.Answers.{check_words, both, remarks_out, Fits, five_words, list_words, out, list_out};
+ghost use Rattle.exports.specs.Answers.{check_words, both, remarks_out, ending_word, Fits, five_words, list_words, out, list_out};
 
-use checker::Checked;
-use list::Listed;
-use writer::Written;
+use list::Terms;
+use search::{Answered, Ending};
+use syntax::refusal::Refusal;
 
 // Check: answer[0] is 0 if the text is accepted, else the number of the refusal; answer[1] is the place, 0 if accepted.
 // An answer of fewer than two words is left as it is.
@@ -22,13 +24,14 @@ pub extern "C" fn plans_check(text: &[u8], answer: &mut [u32])
         return;
     }
     match checker::check(text) {
-        Checked::Accepted => {
+        Ok(()) => {
             answer[0] = 0;
             answer[1] = 0;
         }
-        Checked::Refused(number, place) => {
-            answer[0] = number;
-            answer[1] = place as u32;
+        Err(refusal) => {
+            let reason = u32::from(refusal.reason);
+            answer[0] = reason;
+            answer[1] = refusal.place as u32;
         }
     }
 }
@@ -43,12 +46,12 @@ pub extern "C" fn plans_remarks(text: &[u8], offsets: &mut [u16], answer: &mut [
         return;
     }
     match remarks::remarks(text, offsets) {
-        remarks::Answer::Refused(number, place) => {
-            answer[0] = number;
-            answer[1] = place as u32;
+        Err(refusal) => {
+            answer[0] = u32::from(refusal.reason);
+            answer[1] = refusal.place as u32;
             answer[2] = 0;
         }
-        remarks::Answer::Count(count) => {
+        Ok(count) => {
             answer[0] = 0;
             answer[1] = 0;
             answer[2] = count as u32;
@@ -68,17 +71,32 @@ fn put_words(answer: &mut [u32], number: u32, place: u32, ending: u32, rows: u32
     answer[4] = moves;
 }
 
+// The number of an ending.
+fn ending_number(close: Ending) -> u32
+    ensures { result ≡ ending_word (close_of close) }
+{
+    match close {
+        Ending::Whole => 0,
+        Ending::Cuts => 1,
+        Ending::Full => 2,
+        Ending::Spent => 3,
+    }
+}
+
 // What list answers, in words.
-fn put_listed(answer: &mut [u32], listed: Listed)
+fn put_listed(answer: &mut [u32], listed: Result<Answered, Refusal>)
     requires { (5 ≤ length answer.old) × Fits (answer_of listed) }
     ensures { answer.new ≡ list_words (answer_of listed) answer.old }
 {
     match listed {
-        Listed::Refused(number, place) => put_words(answer, number, place as u32, 0, 0, 0),
-        Listed::Whole(rows, moves) => put_words(answer, 0, 0, 0, rows as u32, moves),
-        Listed::Cut(rows, moves) => put_words(answer, 0, 0, 1, rows as u32, moves),
-        Listed::Full(rows, moves) => put_words(answer, 0, 0, 2, rows as u32, moves),
-        Listed::Spent(rows, moves) => put_words(answer, 0, 0, 3, rows as u32, moves),
+        Ok(found) => {
+            let ending = ending_number(found.ending);
+            put_words(answer, 0, 0, ending, found.written as u32, found.moves);
+        }
+        Err(refusal) => {
+            let number = u32::from(refusal.reason);
+            put_words(answer, number, refusal.place as u32, 0, 0, 0);
+        }
     }
 }
 
@@ -101,19 +119,33 @@ pub extern "C" fn plans_list(
     if answer.len() < 5 {
         return;
     }
-    let listed = list::list(text, low, high, steps, skip, budget, rows, scratch);
-    put_listed(answer, listed);
+    let terms = Terms {
+        low,
+        high,
+        steps,
+        skip,
+        budget,
+    };
+    put_listed(answer, list::list(text, terms, rows, scratch));
 }
 
 // How many rows of a slice of so many words stand on a page.
 fn rows_on_page(words: usize) -> usize
     ensures { result ≡ min (words / 10) 58 }
 {
-    let rows = words / 10;
-    if rows < pages::ROWS {
-        rows
-    } else {
-        pages::ROWS
+    (words / 10).min(pages::ROWS)
+}
+
+// The ending with this number, if one has it.
+fn ending_of(number: u32) -> Option<Ending>
+    ensures { foot_of result ≡ foot_at number }
+{
+    match number {
+        0 => Some(Ending::Whole),
+        1 => Some(Ending::Cuts),
+        2 => Some(Ending::Full),
+        3 => Some(Ending::Spent),
+        _ => None,
     }
 }
 
@@ -126,7 +158,8 @@ pub extern "C" fn plans_page(rows: &[i32], page: u32, ending: u32, out: &mut [u8
     if out.len() < pages::PAGE {
         return;
     }
-    pages::put_page(out, 0, page, rows, 0, rows_on_page(rows.len()), ending);
+    let shown = 10 * rows_on_page(rows.len());
+    pages::put_page(out, 0, page, &rows[..shown], ending_of(ending));
 }
 
 // A text in house style: answer[0] and answer[1] as for check, with 20 at 0 if out is too short for the whole; answer[2] the length written, 0 if refused. The text is at the front of out, and the other bytes keep their content; after a refusal all do.
@@ -140,12 +173,12 @@ pub extern "C" fn plans_write(text: &[u8], out: &mut [u8], answer: &mut [u32])
         return;
     }
     match writer::write(text, out) {
-        Written::Refused(number, place) => {
-            answer[0] = number;
-            answer[1] = place as u32;
+        Err(refusal) => {
+            answer[0] = u32::from(refusal.reason);
+            answer[1] = refusal.place as u32;
             answer[2] = 0;
         }
-        Written::Length(length) => {
+        Ok(length) => {
             answer[0] = 0;
             answer[1] = 0;
             answer[2] = length as u32;

@@ -1,7 +1,7 @@
 -- THEOREM of slip 7 on writing again: "up to that length, writing once more alters nothing". The house style of an accepted text is accepted, if it is not too long.
 use Prim.Native.Nat.{ℕ, zero, suc, ◌+◌, ◌-◌, ◌≤◌}
 use mathlib.Core.Path.{◌≡◌, refl, sym, ap, ap₂, ◌∙◌, subst, subst₂}
-use mathlib.Core.Bool.{Bool, true, false}
+use mathlib.Core.Bool.{Bool, true, false, ◌||◌}
 use mathlib.Core.List.{List, [], ◌∷◌, ◌++◌, append-nil}
 use mathlib.Core.Option.{some}
 use native.Mathlib.Omega.{arith}
@@ -16,7 +16,6 @@ use Rattle.syntax.specs.Abstract.{ast}
 use Rattle.lexer.specs.Lex.{all, same, kind_in, kind_of, value_of, Token, none_large, lexed, bytes}
 use Rattle.lexer.specs.Lex as X
 use Rattle.lexer.specs.Parts.{large_as}
-use Rattle.lexer.proofs.Bytes.{large-name, large-number}
 use Rattle.lexer.proofs.Fronts.{size-value}
 use Rattle.lexer.proofs.Theorems.{Small, lexed-tokens, scans-only}
 use Rattle.lexer.proofs.Theorems as Y
@@ -66,13 +65,20 @@ SmallNumber v = v ≤ 2147483647
 abbrev Fits : List ℕ → Type 0
 Fits w = large_as (kind_of w) (value_of w) ≡ false
 
+large-name : (v : ℕ) → large_as k_name v ≡ ltb 16 v
+large-name v = or-false (ltb 16 v)
+  where
+    or-false : (t : Bool) → t || false ≡ t
+    or-false true = refl
+    or-false false = refl
+
 name-fits : (w : List ℕ) → SmallName w → Fits w
 name-fits w h =
     let e : value_of w ≡ length w = size-value w (ap (λ (k : ℕ). eqb k k_number) h.0) in
     ap₂ large_as h.0 e ∙ large-name (length w) ∙ le-ltb 16 (length w) h.1
 
 number_fits : (v : ℕ) → SmallNumber v → Fits (natural v)
-number_fits v h = ap₂ large_as (natural-kind v) (natural-value v) ∙ large-number v ∙ le-ltb 2147483647 v h
+number_fits v h = ap₂ large_as (natural-kind v) (natural-value v) ∙ le-ltb 2147483647 v h
 
 unfoldable AllFit : List Piece → Type 0
 AllFit [] = Unit {0}
@@ -160,7 +166,7 @@ small-name (Y.one {t = t} h s) (suc i) e = small-name s i e
 
 small-number : {ts : List Token} → Small ts → (i : ℕ) → get_or (kinds ts) i 0 ≡ k_number → get_or (values ts) i 0 ≤ 2147483647
 small-number Y.none i e = absurd (omega arith)
-small-number (Y.one {t = t} h s) zero e = ltb-false 2147483647 t.value (sym (large-number t.value) ∙ ap (λ (k : ℕ). large_as k t.value) (sym e) ∙ h)
+small-number (Y.one {t = t} h s) zero e = ltb-false 2147483647 t.value (ap (λ (k : ℕ). large_as k t.value) (sym e) ∙ h)
 small-number (Y.one {t = t} h s) (suc i) e = small-number s i e
 
 -- each name of a tree means what its event says

@@ -3,7 +3,7 @@ use Prim.Native.Nat.{ℕ}
 use mathlib.Core.Path.{◌≡◌, refl, sym, ap, ap₂, ◌∙◌}
 use mathlib.Core.Bool.{Bool, true, false, cond, ◌&&◌, ◌||◌}
 use mathlib.Core.List.{List, [], ◌∷◌, ◌++◌}
-use mathlib.Core.Option.{Option, none, some}
+use Rattle.std.specs.Prelude.{Option, None, Some}
 use native.Mathlib.Omega.{arith}
 use lib.Dec.{eqb, ltb}
 use lib.ListN.{length}
@@ -57,8 +57,8 @@ module _ (spell spell' : ℕ → List ℕ) (hs ks : List Head) (means means' : �
   pair-means s t e f a (E.used {i = i} {j = j} h) x y m = E.used (found (sought (sm spell spell') s.blocks i) refl m)
     where
       found : (o : Option ℕ) → sought (sm spell spell') s.blocks i ≡ o → unless_found o i ≡ [] → means i ≡ means' j
-      found none q m = absurd (let z : ◌≡◌ {A = ℕ} 0 1 = cc in omega arith)
-      found (some n) q m = x n q ∙ sym (y n (sym (sought-alike spell spell' h a.blocks) ∙ q))
+      found None q m = absurd (let z : ◌≡◌ {A = ℕ} 0 1 = cc in omega arith)
+      found (Some n) q m = x n q ∙ sym (y n (sym (sought-alike spell spell' h a.blocks) ∙ q))
   pair-means s t e f a (E.called h q) x y m = E.called tt q
   pair-means s t e f a (E.ended q) x y m = E.ended q
 

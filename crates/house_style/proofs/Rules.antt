@@ -3,7 +3,7 @@ use Prim.Native.Nat.{ℕ, suc, ◌+◌}
 use mathlib.Core.Path.{◌≡◌, refl, sym, ap, ap₂, ◌∙◌, subst}
 use mathlib.Core.Bool.{Bool, true, false, not, cond, ◌||◌}
 use mathlib.Core.List.{List, [], ◌∷◌, ◌++◌, map, map-append}
-use mathlib.Core.Option.{Option, none, some}
+use Rattle.std.specs.Prelude.{Option, None, Some}
 use native.Mathlib.Omega.{arith}
 use lib.Dec.{eqb, leb, ltb}
 use lib.ListN.{length, length-append}
@@ -140,16 +140,16 @@ cond-alike : {A : Type 0} {b c : Bool} {x y u w : A} → b ≡ c → x ≡ u →
 cond-alike {A} {c = c} {x = x} {y = y} {u = u} p q r = ap (λ (t : Bool). cond t x y) p ∙ ap (λ (t : A). cond c t y) q ∙ ap (λ (t : A). cond c u t) r
 
 found_alike : (o p : Option ℕ) (i j : ℕ) → o ≡ p → length (if_found o i) ≡ length (if_found p j)
-found_alike none none i j e = refl
-found_alike (some m) (some n) i j e = refl
-found_alike none (some n) i j e = absurd (let z : ◌≡◌ {A = ℕ} 0 1 = cc in omega arith)
-found_alike (some m) none i j e = absurd (let z : ◌≡◌ {A = ℕ} 0 1 = cc in omega arith)
+found_alike None None i j e = refl
+found_alike (Some m) (Some n) i j e = refl
+found_alike None (Some n) i j e = absurd (let z : ◌≡◌ {A = ℕ} 0 1 = cc in omega arith)
+found_alike (Some m) None i j e = absurd (let z : ◌≡◌ {A = ℕ} 0 1 = cc in omega arith)
 
 missing-alike : (o p : Option ℕ) (i j : ℕ) → o ≡ p → length (unless_found o i) ≡ length (unless_found p j)
-missing-alike none none i j e = refl
-missing-alike (some m) (some n) i j e = refl
-missing-alike none (some n) i j e = absurd (let z : ◌≡◌ {A = ℕ} 0 1 = cc in omega arith)
-missing-alike (some m) none i j e = absurd (let z : ◌≡◌ {A = ℕ} 0 1 = cc in omega arith)
+missing-alike None None i j e = refl
+missing-alike (Some m) (Some n) i j e = refl
+missing-alike None (Some n) i j e = absurd (let z : ◌≡◌ {A = ℕ} 0 1 = cc in omega arith)
+missing-alike (Some m) None i j e = absurd (let z : ◌≡◌ {A = ℕ} 0 1 = cc in omega arith)
 
 module _ (spell spell' : ℕ → List ℕ) where
   abbrev pub sm : ℕ → ℕ → Bool
@@ -178,12 +178,12 @@ module _ (spell spell' : ℕ → List ℕ) where
   in-block : {i j : ℕ} {b c : List Declared} → Al i j → Row b c → in_block sm b i ≡ in_block sm' c j
   unfolding in_block
   in-block h nil = refl
-  in-block h (one p q r) = cond-alike (ap₂ same p h) (ap some q) (in-block h r)
+  in-block h (one p q r) = cond-alike (ap₂ same p h) (ap Some q) (in-block h r)
 
   pub sought-alike : {i j : ℕ} {bs cs : List (List Declared)} → Al i j → Rows bs cs → sought sm bs i ≡ sought sm' cs j
   unfolding sought
   sought-alike h empty = refl
-  sought-alike h (row r rs) = ap₂ (λ (o p : Option ℕ). elim o [ none ↦ p | some n ↦ some n ]) (in-block h r) (sought-alike h rs)
+  sought-alike h (row r rs) = ap₂ (λ (o p : Option ℕ). elim o [ None ↦ p | Some n ↦ Some n ]) (in-block h r) (sought-alike h rs)
 
   added-alike : {i j m n : ℕ} {bs cs : List (List Declared)} → Al i j → m ≡ n → Rows bs cs → Rows (added i m bs) (added j n cs)
   unfolding added
@@ -234,12 +234,12 @@ module _ (spell spell' : ℕ → List ℕ) where
   function_alike : {i j : ℕ} {hs ks : List Head} → Al i j → Heads hs ks → function_of sm hs i ≡ function_of sm' ks j
   unfolding function_of
   function_alike h no-heads = refl
-  function_alike h (head p q a) = cond-alike (ap₂ same p h) refl (ap (λ (o : Option ℕ). elim o [ none ↦ none | some n ↦ some (suc n) ]) (function_alike h a))
+  function_alike h (head p q a) = cond-alike (ap₂ same p h) refl (ap (λ (o : Option ℕ). elim o [ None ↦ None | Some n ↦ Some (suc n) ]) (function_alike h a))
 
   arity-alike : {i j : ℕ} {hs ks : List Head} → Al i j → Heads hs ks → arity_of sm hs i ≡ arity_of sm' ks j
   unfolding arity_of
   arity-alike h no-heads = refl
-  arity-alike h (head p q a) = cond-alike (ap₂ same p h) (ap some q) (arity-alike h a)
+  arity-alike h (head p q a) = cond-alike (ap₂ same p h) (ap Some q) (arity-alike h a)
 
   module _ (hs ks : List Head) (a : Heads hs ks) where
     calls-none : (e f : Event) → Pair Al Al e f → length (uncalled sm hs e) ≡ length (uncalled sm' ks f)
@@ -259,10 +259,10 @@ module _ (spell spell' : ℕ → List ℕ) where
 
     wrong-alike : (o p : Option ℕ) (i j m n : ℕ) → o ≡ p → m ≡ n → length (wrong o i m) ≡ length (wrong p j n)
     unfolding wrong
-    wrong-alike none none i j m n e f = refl
-    wrong-alike (some x) (some y) i j m n e f = let z : x ≡ y = cc in when-alike _ _ i j (ap₂ (λ (u w : ℕ). not (eqb u w)) z f)
-    wrong-alike none (some y) i j m n e f = absurd (let z : ◌≡◌ {A = ℕ} 0 1 = cc in omega arith)
-    wrong-alike (some x) none i j m n e f = absurd (let z : ◌≡◌ {A = ℕ} 0 1 = cc in omega arith)
+    wrong-alike None None i j m n e f = refl
+    wrong-alike (Some x) (Some y) i j m n e f = let z : x ≡ y = cc in when-alike _ _ i j (ap₂ (λ (u w : ℕ). not (eqb u w)) z f)
+    wrong-alike None (Some y) i j m n e f = absurd (let z : ◌≡◌ {A = ℕ} 0 1 = cc in omega arith)
+    wrong-alike (Some x) None i j m n e f = absurd (let z : ◌≡◌ {A = ℕ} 0 1 = cc in omega arith)
 
     calls-wrong : (e f : Event) → Pair Al Al e f → length (miscounted sm hs e) ≡ length (miscounted sm' ks f)
     unfolding miscounted

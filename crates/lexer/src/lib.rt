@@ -61,6 +61,7 @@ impl Class {
 }
 
 // The kind of a single mark.
+#[tactic(auto, unfolding(crate::specs::Lex::kind_in, crate::specs::Lex::same))]
 fn single(b: u8) -> Option<TokenKind>
     ensures { MarkIs (b ∷ []) result }
 {
@@ -82,6 +83,7 @@ fn single(b: u8) -> Option<TokenKind>
 }
 
 // The kind of a mark of two bytes.
+#[tactic(auto, unfolding(crate::specs::Lex::kind_in, crate::specs::Lex::same))]
 fn pair(b: u8, c: u8) -> Option<TokenKind>
     ensures { MarkIs (b ∷ c ∷ []) result }
 {
@@ -105,6 +107,7 @@ pub fn same_bytes(a: &[u8], b: &[u8]) -> bool
 }
 
 // The kind of a word: a reserved one, or a name.
+#[tactic(auto, unfolding(crate::specs::Lex::kind_in))]
 fn word_kind(word: &[u8]) -> TokenKind
     ensures { kind_number result ≡ kind_in words k_name word.now }
 {

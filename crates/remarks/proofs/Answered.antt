@@ -1,4 +1,5 @@
 -- What remarks answers fits a word: the place of a refusal, and the count.
+use Rattle.std.specs.Prelude.{Ok, Err}
 use Prim.Native.Nat.{ℕ, ◌≤◌}
 use native.Mathlib.Omega.{arith}
 use mathlib.Core.Path.{◌≡◌, refl, sym, subst}
@@ -6,11 +7,11 @@ use mathlib.Core.Bool.{Bool, true, false, cond}
 use mathlib.Core.List.{List}
 use lib.ListN.{length}
 use lib.Dec.{ltb}
+use Rattle.syntax.specs.declared.refusal.Refusal.{Refusal}
 use Rattle.checker.specs.Check as C
 use Rattle.checker.specs.Check.{Verdict, accepted, checked}
 use Rattle.checker.proofs.Small.{Within, low, checked-low}
 use Rattle.remarks.specs.Remarks.{Reply, refused, counted, offsets_of, Left, answering, remarks_of, leaves}
-use Rattle.remarks.specs.declared.Answer.TheVariants.{Refused, Count}
 use Rattle.remarks.proofs.Exactly.{few-offsets}
 
 abbrev Small : Reply → Type 0
@@ -29,8 +30,8 @@ small text lent = go (ltb (length lent) 16)
     go true = omega arith
     go false = as-check (checked text) refl (checked-low text)
 
-pub low-remark : (text before : List ℕ) {after : List ℕ} {c p : ℕ} → leaves (Refused c p) after ≡ remarks_of text before → p ≤ 2048
-low-remark text before e = subst (λ (l : Left). Small l.reply) (sym e) (small text before)
+pub low-remark : (text before : List ℕ) {after : List ℕ} (r : Refusal) → leaves (Err r) after ≡ remarks_of text before → r.place ≤ 2048
+low-remark text before r e = subst (λ (l : Left). Small l.reply) (sym e) (small text before)
 
-pub low_count : (text before : List ℕ) {after : List ℕ} {k : ℕ} → leaves (Count k) after ≡ remarks_of text before → k ≤ 16
+pub low_count : (text before : List ℕ) {after : List ℕ} {k : ℕ} → leaves (Ok k) after ≡ remarks_of text before → k ≤ 16
 low_count text before e = subst (λ (l : Left). Small l.reply) (sym e) (small text before)

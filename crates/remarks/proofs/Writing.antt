@@ -5,19 +5,19 @@ use mathlib.Core.Bool.{Bool, true, false, not}
 use mathlib.Core.List.Memᴰ.{head as first}
 use mathlib.Core.List.Memᴰ.{not-nil as nowhere}
 use mathlib.Core.List.Memᴰ.{tail as later}
-use mathlib.Core.List.{List, [], ◌∷◌, ◌++◌, append-nil, append_assoc}
+use mathlib.Core.List.{List, [], ◌∷◌, ◌++◌, append-nil, append_assoc, map}
 use native.Mathlib.Omega.{arith}
 use native.Mathlib.Numerals.{add-one}
 use native.Mathlib.Nat.{add-zero, add-suc, suc-add}
-use lib.ListN.{length, get_or, set, drop, length-set, length-append}
+use lib.ListN.{length, get_or, set, drop, drop_of_length-le, get_or-map, length-set, length-append}
 use lib.Seq.{drop-cons, set_at}
 use Rattle.semantics.specs.Demand.{◌∈◌}
 use Rattle.text_rules.specs.Rules.{Head}
-use Rattle.text_rules.specs.Answers.{head_at, stored_heads}
-use Rattle.text_rules.proofs.Functions.{left-more, left-none, left-all}
-use Rattle.text_rules.proofs.Functions as F
+use Rattle.text_rules.specs.Answers.{as_head}
+use Rattle.text_rules.specs.declared.heads.Head as C
 use Rattle.remarks.specs.Remarks.{Call, chained, offsets_from}
-use Rattle.remarks.specs.Steps.{unmarked, Marks, offset_in, WroteOffsets}
+use Rattle.remarks.specs.Words.{name_offset}
+use Rattle.remarks.specs.Steps.{unmarked, Marks, WroteOffsets}
 use Rattle.remarks.proofs.Marking.{clash}
 use Rattle.remarks.proofs.Chains.{unmarked-so}
 use Rattle.remarks.proofs.Rising.{Rises, none, more, names}
@@ -109,35 +109,47 @@ module _ (told : ℕ → Bool) (ps : List ℕ) where
 
 -- ---- how they are written
 
--- the first g of h functions are gone through: what was written for them, k offsets, and what is still to be written
-pub record Written (ps heads : List ℕ) (h : ℕ) (l before after : List ℕ) (k g : ℕ) : Type 0 where
-  pub inside : g ≤ h
+-- past the last function
+abbrev nobody : C.Head
+nobody = record { name = 0; arity = 0 }
+
+pub name-told : (ps : List ℕ) (xs : List C.Head) (g : ℕ) → name_offset ps (map as_head xs) g ≡ get_or ps (get_or xs g nobody).name 0
+name-told ps xs g = ap (λ (i : ℕ). get_or ps i 0) (get_or-map (λ (h : Head). h.name) (map as_head xs) g (as_head nobody) ∙ ap (λ (h : Head). h.name) (get_or-map as_head xs g nobody))
+
+-- what is left of the functions from function g on
+abbrev left : List C.Head → ℕ → List Head
+left xs g = map as_head (drop g xs)
+
+left-more : (xs : List C.Head) (g : ℕ) → g < length xs → left xs g ≡ as_head (get_or xs g nobody) ∷ left xs (g + 1)
+left-more xs g h = rw (drop-cons xs g nobody h, add-one)
+
+-- the first g functions are gone through: what was written for them, k offsets, and what is still to be written
+pub record Written (ps : List ℕ) (xs : List C.Head) (l before after : List ℕ) (k g : ℕ) : Type 0 where
   pub few : k ≤ g
   pub size : length after ≡ length before
   pub front : List ℕ
-  pub rest : front ++ offsets_from (unmarked l) ps g (F.left heads h g) ≡ offsets_from (unmarked l) ps 0 (stored_heads heads h)
+  pub rest : front ++ offsets_from (unmarked l) ps g (left xs g) ≡ offsets_from (unmarked l) ps 0 (map as_head xs)
   pub wrote : WroteOffsets front before after k
 
-module _ (ps heads : List ℕ) (h : ℕ) (l : List ℕ) where
-  pub written_start : (before : List ℕ) → Written ps heads h l before before 0 0
-  written_start before =
-      record { inside = omega arith; few = omega arith; size = refl; front = []; rest = ap (offsets_from (unmarked l) ps 0) (left-all heads h); wrote = record { counts = refl; words = refl } }
+module _ (ps : List ℕ) (xs : List C.Head) (l : List ℕ) where
+  pub written_start : (before : List ℕ) → Written ps xs l before before 0 0
+  written_start before = record { few = omega arith; size = refl; front = []; rest = refl; wrote = record { counts = refl; words = refl } }
 
-  passed_over : (g : ℕ) → g < h → unmarked l g ≡ false → offsets_from (unmarked l) ps g (F.left heads h g) ≡ offsets_from (unmarked l) ps (g + 1) (F.left heads h (g + 1))
+  passed_over : (g : ℕ) → g < length xs → unmarked l g ≡ false → offsets_from (unmarked l) ps g (left xs g) ≡ offsets_from (unmarked l) ps (g + 1) (left xs (g + 1))
   passed_over g lt e =
-      ap (offsets_from (unmarked l) ps g) (left-more heads h g lt)
-      ∙ opened (unmarked l) ps g (head_at heads g) (F.left heads h (g + 1)) e
-      ∙ ap (λ (i : ℕ). offsets_from (unmarked l) ps i (F.left heads h (g + 1))) (sym (add-one g))
+      ap (offsets_from (unmarked l) ps g) (left-more xs g lt)
+      ∙ opened (unmarked l) ps g (as_head (get_or xs g nobody)) (left xs (g + 1)) e
+      ∙ ap (λ (i : ℕ). offsets_from (unmarked l) ps i (left xs (g + 1))) (sym (add-one g))
 
-  put-down : (g : ℕ) → g < h → unmarked l g ≡ true → offsets_from (unmarked l) ps g (F.left heads h g) ≡ offset_in ps heads g ∷ offsets_from (unmarked l) ps (g + 1) (F.left heads h (g + 1))
+  put-down : (g : ℕ) → g < length xs → unmarked l g ≡ true → offsets_from (unmarked l) ps g (left xs g) ≡ get_or ps (get_or xs g nobody).name 0 ∷ offsets_from (unmarked l) ps (g + 1) (left xs (g + 1))
   put-down g lt e =
-      ap (offsets_from (unmarked l) ps g) (left-more heads h g lt)
-      ∙ opened (unmarked l) ps g (head_at heads g) (F.left heads h (g + 1)) e
-      ∙ ap (λ (i : ℕ). offset_in ps heads g ∷ offsets_from (unmarked l) ps i (F.left heads h (g + 1))) (sym (add-one g))
+      ap (offsets_from (unmarked l) ps g) (left-more xs g lt)
+      ∙ opened (unmarked l) ps g (as_head (get_or xs g nobody)) (left xs (g + 1)) e
+      ∙ ap (λ (i : ℕ). get_or ps (get_or xs g nobody).name 0 ∷ offsets_from (unmarked l) ps i (left xs (g + 1))) (sym (add-one g))
 
-pub written-pass : {ps heads l before after : List ℕ} {h k g : ℕ} → Written ps heads h l before after k g → g < h → unmarked l g ≡ false → Written ps heads h l before after k (g + 1)
-written-pass {ps} {heads} {l} {before} {after} {h} {k} {g} w lt e =
-    record { inside = omega arith; few = omega (arith, w.few); size = w.size; front = w.front; rest = ap (λ (xs : List ℕ). w.front ++ xs) (sym (passed_over ps heads h l g lt e)) ∙ w.rest; wrote = w.wrote }
+pub written-pass : {ps l before after : List ℕ} {xs : List C.Head} {k g : ℕ} → Written ps xs l before after k g → g < length xs → unmarked l g ≡ false → Written ps xs l before after k (g + 1)
+written-pass {ps} {l} {before} {after} {xs} {k} {g} w lt e =
+    record { few = omega (arith, w.few); size = w.size; front = w.front; rest = ap (λ (z : List ℕ). w.front ++ z) (sym (passed_over ps xs l g lt e)) ∙ w.rest; wrote = w.wrote }
 
 -- one word more
 one_more : {front before after : List ℕ} {k : ℕ} (o : ℕ) → WroteOffsets front before after k → k < length before → WroteOffsets (front ++ o ∷ []) before (set after k o) (k + 1)
@@ -153,27 +165,25 @@ one_more {front} {before} {after} {k} o w room =
           ∙ ap (λ (i : ℕ). (front ++ o ∷ []) ++ drop i before) (sym n);
     }
 
-pub written-add : {ps heads l before after after' : List ℕ} {h k g : ℕ} → Written ps heads h l before after k g → g < h → unmarked l g ≡ true → k < length before
-    → after' ≡ set after k (offset_in ps heads g) → Written ps heads h l before after' (k + 1) (g + 1)
-written-add {ps} {heads} {l} {before} {after} {after'} {h} {k} {g} w lt e room q =
-    let o = offset_in ps heads g in
+pub written-add : {ps l before after after' : List ℕ} {xs : List C.Head} {k g o : ℕ} → Written ps xs l before after k g → g < length xs → unmarked l g ≡ true → k < length before
+    → o ≡ get_or ps (get_or xs g nobody).name 0 → after' ≡ set after k o → Written ps xs l before after' (k + 1) (g + 1)
+written-add {ps} {l} {before} {after} {after'} {xs} {k} {g} {o} w lt e room p q =
     record {
-      inside = omega arith;
       few = omega (arith, w.few);
       size = ap length q ∙ length-set after k o ∙ w.size;
       front = w.front ++ o ∷ [];
       rest =
-          append_assoc w.front (o ∷ []) (offsets_from (unmarked l) ps (g + 1) (F.left heads h (g + 1)))
-          ∙ ap (λ (xs : List ℕ). w.front ++ xs) (sym (put-down ps heads h l g lt e))
+          append_assoc w.front (o ∷ []) (offsets_from (unmarked l) ps (g + 1) (left xs (g + 1)))
+          ∙ ap (λ (z : List ℕ). w.front ++ z) (ap (λ (i : ℕ). i ∷ offsets_from (unmarked l) ps (g + 1) (left xs (g + 1))) p ∙ sym (put-down ps xs l g lt e))
           ∙ w.rest;
       wrote = subst (λ (x : List ℕ). WroteOffsets (w.front ++ o ∷ []) before x (k + 1)) (sym q) (one_more o w.wrote room);
     }
 
-pub written-end : {ps heads l before after : List ℕ} {h k g : ℕ} → Written ps heads h l before after k g → h ≤ g → WroteOffsets (offsets_from (unmarked l) ps 0 (stored_heads heads h)) before after k
+pub written-end : {ps l before after : List ℕ} {xs : List C.Head} {k g : ℕ} → Written ps xs l before after k g → length xs ≤ g → WroteOffsets (offsets_from (unmarked l) ps 0 (map as_head xs)) before after k
 unfolding offsets_from
-written-end {ps} {heads} {l} {before} {after} {h} {k} {g} w le =
+written-end {ps} {l} {before} {after} {xs} {k} {g} w le =
     subst (λ (os : List ℕ). WroteOffsets os before after k)
-    (sym (append-nil w.front) ∙ ap (λ (xs : List ℕ). w.front ++ xs) (sym (ap (offsets_from (unmarked l) ps g) (left-none heads h g le))) ∙ w.rest)
+    (sym (append-nil w.front) ∙ ap (λ (z : List ℕ). w.front ++ z) (sym (ap (λ (z : List C.Head). offsets_from (unmarked l) ps g (map as_head z)) (drop_of_length-le xs {i = g} le))) ∙ w.rest)
     w.wrote
 
 -- what is not marked is what no chain of calls leads to

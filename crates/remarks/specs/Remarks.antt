@@ -1,11 +1,12 @@
 -- Remarks (document 01, with slip 4 of document 02): what it answers, and every word of the lent slice at exit, for every text and every slice. Words says the same without computing it, and proofs/Exactly that the two agree.
-use Rattle.std.specs.Prelude.{ℕ, zero, suc, ◌-◌, Bool, true, false, cond, not, ◌&&◌, ◌||◌, List, [], ◌∷◌, ◌++◌, length, get_or, drop, eqb, ltb}
-use Rattle.std.proofs.Math.Option.{Option, none, some}
+use Rattle.std.specs.Prelude.{ℕ, zero, suc, ◌-◌, Bool, true, false, cond, not, ◌&&◌, ◌||◌, List, [], ◌∷◌, ◌++◌, length, get_or, drop, eqb, ltb, Option, None, Some, Result, Ok, Err}
 use Rattle.lexer.specs.Lex as L
 use Rattle.lexer.specs.Lex.{lexed}
 use Rattle.syntax.specs.Ast as A
 use Rattle.syntax.specs.Ast.{Ast}
 use Rattle.syntax.specs.Abstract.{ast}
+use Rattle.syntax.specs.Refusals.{number_of}
+use Rattle.syntax.specs.declared.refusal.Refusal.{Refusal}
 use Rattle.grammar.specs.Parse.{parsed, ok, bad}
 use Rattle.events.specs.Event.{Event, events, function, parameter, thing, opens, closes, declares, uses, calls, ends}
 use Rattle.text_rules.specs.Scan.{scan}
@@ -13,8 +14,6 @@ use Rattle.text_rules.specs.Rules.{Head, heads, function_of}
 use Rattle.text_rules.specs.Resolve.{main_of}
 use Rattle.checker.specs.Check as C
 use Rattle.checker.specs.Check.{Verdict, accepted, checked, kinds, Source, source_of, same_in, main_in}
-use Rattle.remarks.specs.declared.Answer.{Answer}
-use Rattle.remarks.specs.declared.Answer.TheVariants.{Refused, Count}
 
 -- ---- the calls in a text
 
@@ -37,8 +36,8 @@ begun n (ends i b) = n
 
 -- the call of the function that is found, by the last of n functions that have begun
 abbrev pub call_to : ℕ → Option ℕ → List Call
-call_to n none = []
-call_to n (some g) = record { caller = n - 1; callee = g } ∷ []
+call_to n None = []
+call_to n (Some g) = record { caller = n - 1; callee = g } ∷ []
 
 module _ (same : ℕ → ℕ → Bool) where
   -- the call that one event is, if it is one, where n of the functions hs have begun
@@ -115,10 +114,10 @@ unfoldable pub remarks_of : (text lent : List ℕ) → Left
 remarks_of text lent = answering (offsets_of text) lent (verdict text lent)
 
 -- the answer of the code, in document 01's words: number and place; or the count
-abbrev pub reply_of : Answer → Reply
-reply_of (Refused n p) = refused n p
-reply_of (Count n) = counted n
+abbrev pub reply_of : Result ℕ Refusal → Reply
+reply_of (Err r) = refused (number_of r.reason) r.place
+reply_of (Ok n) = counted n
 
 -- the answer of the code, with the words of the slice at exit
-abbrev pub leaves : Answer → List ℕ → Left
+abbrev pub leaves : Result ℕ Refusal → List ℕ → Left
 leaves r words = left (reply_of r) words

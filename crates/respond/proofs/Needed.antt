@@ -4,7 +4,6 @@ use native.Mathlib.Omega.{arith}
 use mathlib.Core.Path.{◌≡◌, refl, sym, ap, ◌∙◌}
 use mathlib.Core.Bool.{Bool, true, false, ◌&&◌, ◌||◌}
 use mathlib.Core.List.{List, ◌++◌}
-use mathlib.Core.Option.{Option, none, some}
 use lib.ListN.{length, take, drop, length-drop, length-append, take-append-drop}
 use lib.Seq.{take_all, length-take-le}
 use lib.IntN.{ℤ}
@@ -16,18 +15,17 @@ use Rattle.checker.proofs.Long.{long-text}
 use Rattle.semantics.specs.Search.{Answer}
 use Rattle.list.specs.List.{ground, list, answering}
 use Rattle.lines.specs.declared.Job.{Job}
-use Rattle.lines.specs.declared.JobLine.{JobLine}
-use Rattle.lines.specs.declared.JobLine.TheVariants.{Bad, Good}
+use Rattle.std.specs.Prelude.{Option, None, Some, is_some}
 use Rattle.lines.specs.JobLine.{place, line_job, line_settled}
 use Rattle.lines.proofs.Reach.{line-settled}
 use Rattle.lines.proofs.Good.{good-holds}
-use Rattle.respond.specs.Output.{text_of, row_words, scratch_words, listing, by_list, answered, in_lines, on_pages, output, posted, is_some, job_enough, enough_input}
+use Rattle.respond.specs.Output.{text_of, row_words, scratch_words, listing, by_list, answered, in_lines, on_pages, output, posted, job_enough, enough_input}
 use Rattle.respond.proofs.Printed.{bad-answer, good-answer, ground-answer}
 
 -- of a text that check refuses, list uses no more than that
 same-refusal : (rows : List ℤ) (scratch : List ℕ) (a b : Answer) (n p : ℕ) (g : Option ℕ) → answering rows scratch a g (C.refused n p) ≡ answering rows scratch b g (C.refused n p)
-same-refusal rows scratch a b n p (some k) = refl
-same-refusal rows scratch a b n p none = refl
+same-refusal rows scratch a b n p (Some k) = refl
+same-refusal rows scratch a b n p None = refl
 
 module _ (t u : List ℕ) (low high : ℤ) (steps skip budget : ℕ) (rows : List ℤ) (scratch : List ℕ) (n p : ℕ) where
   same-list : checked t ≡ C.refused n p → checked u ≡ C.refused n p → list t low high steps skip budget rows scratch ≡ list u low high steps skip budget rows scratch
@@ -50,14 +48,14 @@ module _ (l r : List ℕ) where
       (long-text (text_of l j) (omega (arith, k, length-drop j.text l)))
 
   module _ (h : line_settled l ≡ true) where
-    by-job : (j : Job) → line_job l ≡ Good j → (g : Option ℕ) → ground 16384 j.low j.high j.steps ≡ g → (b : Bool) → ltb (j.text + 2048) (length l) ≡ b → is_some g || b ≡ true → answered (l ++ r) ≡ answered l
-    by-job j e (some n) q b p k = ground-answer (l ++ r) j (line-settled l r h ∙ e) n q ∙ sym (ground-answer l j e n q)
-    by-job j e none q true p k = good-answer (l ++ r) j (line-settled l r h ∙ e) ∙ ap by_list (same-listing j (ltb-true (j.text + 2048) (length l) p)) ∙ sym (good-answer l j e)
-    by-job j e none q false p k = absurd (let z : ◌≡◌ {A = ℕ} 0 1 = cc in omega arith)
+    by-job : (j : Job) → line_job l ≡ Some j → (g : Option ℕ) → ground 16384 j.low j.high j.steps ≡ g → (b : Bool) → ltb (j.text + 2048) (length l) ≡ b → is_some g || b ≡ true → answered (l ++ r) ≡ answered l
+    by-job j e (Some n) q b p k = ground-answer (l ++ r) j (line-settled l r h ∙ e) n q ∙ sym (ground-answer l j e n q)
+    by-job j e None q true p k = good-answer (l ++ r) j (line-settled l r h ∙ e) ∙ ap by_list (same-listing j (ltb-true (j.text + 2048) (length l) p)) ∙ sym (good-answer l j e)
+    by-job j e None q false p k = absurd (let z : ◌≡◌ {A = ℕ} 0 1 = cc in omega arith)
 
-    by-line : (a : JobLine) → line_job l ≡ a → job_enough (length l) a ≡ true → answered (l ++ r) ≡ answered l
-    by-line Bad e k = bad-answer (l ++ r) (line-settled l r h ∙ e) ∙ sym (bad-answer l e)
-    by-line (Good j) e k = by-job j e (ground 16384 j.low j.high j.steps) refl (ltb (j.text + 2048) (length l)) refl k
+    by-line : (a : Option Job) → line_job l ≡ a → job_enough (length l) a ≡ true → answered (l ++ r) ≡ answered l
+    by-line None e k = bad-answer (l ++ r) (line-settled l r h ∙ e) ∙ sym (bad-answer l e)
+    by-line (Some j) e k = by-job j e (ground 16384 j.low j.high j.steps) refl (ltb (j.text + 2048) (length l)) refl k
 
 -- THEOREM. Where the programs stop to read, nothing that follows changes the answer,
 pub enough-input : (l r : List ℕ) → enough_input l ≡ true → answered (l ++ r) ≡ answered l
@@ -79,7 +77,7 @@ module _ (l : List ℕ) where
   unfolding enough_input
   enough-not e = sym (ap (λ (b : Bool). b && job_enough (length l) (line_job l)) e)
 
-  pub enough-line : (a : JobLine) → line_settled l ≡ true → line_job l ≡ a → job_enough (length l) a ≡ enough_input l
+  pub enough-line : (a : Option Job) → line_settled l ≡ true → line_job l ≡ a → job_enough (length l) a ≡ enough_input l
   unfolding enough_input
   enough-line a e f = sym (ap (λ (b : Bool). b && job_enough (length l) (line_job l)) e ∙ ap (job_enough (length l)) f)
 
@@ -92,9 +90,9 @@ long-enough l h = sym (enough-line l (line_job l) (ap (λ (b : Bool). b || ltb (
     or-true true = refl
     or-true false = refl
 
-    go : (a : JobLine) → line_job l ≡ a → job_enough (length l) a ≡ true
-    go Bad e = refl
-    go (Good j) e =
+    go : (a : Option Job) → line_job l ≡ a → job_enough (length l) a ≡ true
+    go None e = refl
+    go (Some j) e =
         ap (λ (b : Bool). is_some (ground 16384 j.low j.high j.steps) || b) (lt-ltb (j.text + 2048) (length l) (omega (arith, h, (good-holds l j e).near)))
         ∙ or-true (is_some (ground 16384 j.low j.high j.steps))
 

@@ -2,9 +2,7 @@
 use Prim.Native.Nat.{ℕ, ◌*◌, ◌/◌, ◌≤◌}
 use native.Mathlib.Omega.{arith}
 use mathlib.Core.Path.{◌≡◌, refl, sym, ap, ap₂, ◌∙◌, subst}
-use mathlib.Core.Bool.{Bool, true, false}
 use mathlib.Core.List.{List, ◌++◌}
-use mathlib.Core.Option.{Option, none, some}
 use lib.ListN.{length, drop, length-replicate}
 use lib.IntN.{ℤ, pos}
 use Rattle.checker.specs.Check as C
@@ -20,7 +18,9 @@ use Rattle.list.specs.List.{Answer, Left, ground, list, refuses, answering}
 use Rattle.list.specs.Promise.{answer_with, Keeps}
 use Rattle.list.proofs.Promises.{keeps}
 use Rattle.lines.specs.declared.Job.{Job}
-use Rattle.lines.specs.declared.JobLine.TheVariants.{Bad, Good}
+use Rattle.std.specs.Prelude.{Option, None, Some}
+use Rattle.respond.specs.declared.Layout.{Layout}
+use Rattle.respond.specs.declared.Layout.TheVariants.{Lines, Sheet}
 use Rattle.lines.specs.JobLine.{line_job}
 use Rattle.lines.specs.Print.{refusal, row_lines, last_line}
 use Rattle.lines.proofs.Good.{good-holds}
@@ -38,9 +38,9 @@ use Rattle.respond.proofs.Rows.{few-written, rows_back}
 module _ (text : List ℕ) (low high : ℤ) (steps skip budget : ℕ) (rows : List ℤ) (scratch : List ℕ) where
   small_by : length rows / 10 ≤ 1000 → (g : Option ℕ) (v : Verdict) → Within 2048 v → Small (answering rows scratch (Z.listed in_use (S.job_of text low high steps) skip (S.places rows) budget) g v).answer
   unfolding Z.listed
-  small_by h (some n) v w = record { few = omega arith; near = omega arith }
-  small_by h none (C.refused n p) (at_most k) = record { few = omega arith; near = k }
-  small_by h none C.accepted w = record { few = omega (arith, (few-rows Z.whole (Z.search in_use (S.job_of text low high steps)) skip (length rows / 10) budget).0); near = omega arith }
+  small_by h (Some n) v w = record { few = omega arith; near = omega arith }
+  small_by h None (C.refused n p) (at_most k) = record { few = omega arith; near = k }
+  small_by h None C.accepted w = record { few = omega (arith, (few-rows Z.whole (Z.search in_use (S.job_of text low high steps)) skip (length rows / 10) budget).0); near = omega arith }
 
   small : length rows / 10 ≤ 1000 → Small (list text low high steps skip budget rows scratch).answer
   unfolding list
@@ -62,15 +62,15 @@ found text low high steps = Z.listed in_use (S.job_of text low high steps) 0 (S.
 
 -- ---- each refusal is one line, and no page
 
-pub bad-answer : (input : List ℕ) → line_job input ≡ Bad → answered input ≡ bad_line
+pub bad-answer : (input : List ℕ) → line_job input ≡ None → answered input ≡ bad_line
 unfolding answered
 bad-answer input e = ap (answered_for input) e
 
-pub good-answer : (input : List ℕ) (j : Job) → line_job input ≡ Good j → answered input ≡ by_list (listing (text_of input j) j.low j.high j.steps)
+pub good-answer : (input : List ℕ) (j : Job) → line_job input ≡ Some j → answered input ≡ by_list (listing (text_of input j) j.low j.high j.steps)
 unfolding answered
 good-answer input j e = ap (answered_for input) e
 
-pub bad-line : (input : List ℕ) → line_job input ≡ Bad → (output input ≡ refusal 16 0) × (posted input ≡ refusal 16 0)
+pub bad-line : (input : List ℕ) → line_job input ≡ None → (output input ≡ refusal 16 0) × (posted input ≡ refusal 16 0)
 unfolding output posted
 bad-line input e = (ap in_lines (bad-answer input e), ap on_pages (bad-answer input e))
 
@@ -78,7 +78,7 @@ refused-lines : (input : List ℕ) (n p : ℕ) → answered input ≡ by_list (r
 unfolding output posted shown laid_out
 refused-lines input n p e = (ap in_lines e, ap on_pages e)
 
-module _ (input : List ℕ) (j : Job) (good : line_job input ≡ Good j) where
+module _ (input : List ℕ) (j : Job) (good : line_job input ≡ Some j) where
   listing-is : (g : Option ℕ) (v : Verdict) → ground 16384 j.low j.high j.steps ≡ g → checked (text_of input j) ≡ v
       → listing (text_of input j) j.low j.high j.steps ≡ answering row_words scratch_words (found (text_of input j) j.low j.high j.steps) g v
   unfolding listing list
@@ -86,19 +86,19 @@ module _ (input : List ℕ) (j : Job) (good : line_job input ≡ Good j) where
       ap₂ (answering row_words scratch_words (found (text_of input j) j.low j.high j.steps))
       (ap (λ (n : ℕ). ground n j.low j.high j.steps) words ∙ e) f
 
-  pub ground-answer : (n : ℕ) → ground 16384 j.low j.high j.steps ≡ some n → answered input ≡ by_list (refuses row_words scratch_words n 0)
-  ground-answer n e = good-answer input j good ∙ ap by_list (listing-is (some n) (checked (text_of input j)) e refl)
+  pub ground-answer : (n : ℕ) → ground 16384 j.low j.high j.steps ≡ Some n → answered input ≡ by_list (refuses row_words scratch_words n 0)
+  ground-answer n e = good-answer input j good ∙ ap by_list (listing-is (Some n) (checked (text_of input j)) e refl)
 
   -- by one of list's own grounds, or as check
-  pub ground-line : (n : ℕ) → ground 16384 j.low j.high j.steps ≡ some n → (output input ≡ refusal n 0) × (posted input ≡ refusal n 0)
+  pub ground-line : (n : ℕ) → ground 16384 j.low j.high j.steps ≡ Some n → (output input ≡ refusal n 0) × (posted input ≡ refusal n 0)
   ground-line n e = refused-lines input n 0 (ground-answer n e)
 
-  pub check-line : (n p : ℕ) → ground 16384 j.low j.high j.steps ≡ none → checked (text_of input j) ≡ C.refused n p → (output input ≡ refusal n p) × (posted input ≡ refusal n p)
-  check-line n p e f = refused-lines input n p (good-answer input j good ∙ ap by_list (listing-is none (C.refused n p) e f))
+  pub check-line : (n p : ℕ) → ground 16384 j.low j.high j.steps ≡ None → checked (text_of input j) ≡ C.refused n p → (output input ≡ refusal n p) × (posted input ≡ refusal n p)
+  check-line n p e f = refused-lines input n p (good-answer input j good ∙ ap by_list (listing-is None (C.refused n p) e f))
 
   -- ---- else the rows of the plan list, or of its front part, with the last line or on a sheet
 
-  module _ (allowed : ground 16384 j.low j.high j.steps ≡ none) (accepted : checked (text_of input j) ≡ C.accepted) where
+  module _ (allowed : ground 16384 j.low j.high j.steps ≡ None) (accepted : checked (text_of input j) ≡ C.accepted) where
     kept : Keeps (text_of input j) j.low j.high j.steps 0 1000000 row_words scratch_words (listing (text_of input j) j.low j.high j.steps)
     unfolding listing
     kept =
@@ -147,26 +147,25 @@ module _ (text : List ℕ) (low low' high high' : ℤ) (steps : ℕ) (e : low' �
     pub small-answer : Small a
     small-answer = subst (λ (l : Left). Small l.answer) (sym left_by) (listing-small text low high steps)
 
-    pub same_lines : (b : Bool) → printed_of b a rows ≡ printed_for b (by_list (listing text low high steps))
+    pub same_lines : (b : Layout) → printed_of b a rows ≡ printed_for b (by_list (listing text low high steps))
     same_lines b = ap (λ (l : Left). printed_for b (by_list l)) left_by
 
 -- what is printed of a good job is what is printed for the input
-pub job-lines : (b : Bool) (input : List ℕ) (j : Job) (text : List ℕ) (low high : ℤ) → line_job input ≡ Good j → text ≡ text_of input j → low ≡ j.low → high ≡ j.high
-    → printed_for b (by_list (listing text low high j.steps)) ≡ printed_for b (answered input)
-job-lines b input j text low high good t e g =
-    ap (λ (l : List ℕ). printed_for b (by_list (listing l low high j.steps))) t
-    ∙ ap₂ (λ (x y : ℤ). printed_for b (by_list (listing (text_of input j) x y j.steps))) e g
+pub job-lines : (b : Layout) (input : List ℕ) (j : Job) (text : List ℕ) → line_job input ≡ Some j → text ≡ text_of input j
+    → printed_for b (by_list (listing text j.low j.high j.steps)) ≡ printed_for b (answered input)
+job-lines b input j text good t =
+    ap (λ (l : List ℕ). printed_for b (by_list (listing l j.low j.high j.steps))) t
     ∙ sym (ap (printed_for b) (good-answer input j good))
 
 -- as the two programs' functions find it
-same-form : (a : Answered) → (printed_for false a ≡ in_lines a) × (printed_for true a ≡ on_pages a)
+same-form : (a : Answered) → (printed_for Lines a ≡ in_lines a) × (printed_for Sheet a ≡ on_pages a)
 same-form bad_line = (refl, refl)
 same-form (by_list l) = (refl, refl)
 
-pub as-output : (input : List ℕ) → printed_for false (answered input) ≡ output input
+pub as-output : (input : List ℕ) → printed_for Lines (answered input) ≡ output input
 unfolding output
 as-output input = (same-form (answered input)).0
 
-pub as-posted : (input : List ℕ) → printed_for true (answered input) ≡ posted input
+pub as-posted : (input : List ℕ) → printed_for Sheet (answered input) ≡ posted input
 unfolding posted
 as-posted input = (same-form (answered input)).1

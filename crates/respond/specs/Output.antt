@@ -1,9 +1,6 @@
 -- The programs (document 01, "The program"; document 02, slip 3): all that they print, for every input. The input is the list of its bytes.
-use Rattle.std.specs.Prelude.{ℕ, ◌+◌, Bool, true, false, ◌&&◌, ◌||◌, List, ◌++◌, ltb, length, drop, replicate, ℤ, pos}
-use Rattle.std.proofs.Math.Option.{Option, none, some}
+use Rattle.std.specs.Prelude.{ℕ, ◌+◌, Bool, true, ◌&&◌, ◌||◌, List, ◌++◌, ltb, length, drop, replicate, ℤ, pos, Option, None, Some, is_some}
 use Rattle.lines.specs.declared.Job.{Job}
-use Rattle.lines.specs.declared.JobLine.{JobLine}
-use Rattle.lines.specs.declared.JobLine.TheVariants.{Bad, Good}
 use Rattle.lines.specs.JobLine.{line_job, line_settled}
 use Rattle.lines.specs.Print.{refusal, row_lines, last_line}
 use Rattle.lines.specs.Written.{rows_from}
@@ -30,9 +27,9 @@ pub data Answered : Type 0 where
   bad_line : Answered
   by_list : Left → Answered
 
-abbrev pub answered_for : List ℕ → JobLine → Answered
-answered_for input Bad = bad_line
-answered_for input (Good j) = by_list (listing (text_of input j) j.low j.high j.steps)
+abbrev pub answered_for : List ℕ → Option Job → Answered
+answered_for input None = bad_line
+answered_for input (Some j) = by_list (listing (text_of input j) j.low j.high j.steps)
 
 unfoldable pub answered : List ℕ → Answered
 answered input = answered_for input (line_job input)
@@ -68,14 +65,10 @@ posted input = on_pages (answered input)
 
 -- ---- how much input the programs need: input that never ends is read no further than the answer needs
 
-abbrev pub is_some : Option ℕ → Bool
-is_some none = false
-is_some (some n) = true
-
 -- a bad job line, a job that is refused whatever its text, or a text that is too long already, of these many bytes of input
-abbrev pub job_enough : ℕ → JobLine → Bool
-job_enough n Bad = true
-job_enough n (Good j) = is_some (ground 16384 j.low j.high j.steps) || ltb (j.text + 2048) n
+abbrev pub job_enough : ℕ → Option Job → Bool
+job_enough n None = true
+job_enough n (Some j) = is_some (ground 16384 j.low j.high j.steps) || ltb (j.text + 2048) n
 
 unfoldable pub enough_input : List ℕ → Bool
 enough_input input = line_settled input && job_enough (length input) (line_job input)

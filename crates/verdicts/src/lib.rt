@@ -4,8 +4,6 @@
 ghost use Rattle.printing.specs.Written.{Wrote};
 ghost use Rattle.verdicts.specs.Line.{line_of};
 
-use remarks::Answer;
-
 // `accepted`, sixteen offsets of at most 12 bytes with their blanks, and LF. A refusal is shorter.
 pub const LINE: usize = 201;
 
@@ -15,7 +13,10 @@ pub fn verdict(text: &[u8], out: &mut [u8; LINE]) -> usize
 {
     let mut offsets = [0u16; 16];
     match remarks::remarks(text, &mut offsets) {
-        Answer::Refused(number, place) => lines::put_refusal(out, 0, number, place as u32),
-        Answer::Count(count) => lines::put_acceptance(out, 0, &offsets, count),
+        Ok(count) => lines::put_acceptance(out, 0, &offsets[..count]),
+        Err(refusal) => {
+            let number = u32::from(refusal.reason);
+            lines::put_refusal(out, 0, number, refusal.place as u32)
+        }
     }
 }

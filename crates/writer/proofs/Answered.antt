@@ -19,8 +19,7 @@ use Rattle.lines.specs.Print.{refusal}
 use Rattle.lines.proofs.Sizes.{refusal-length}
 use Rattle.house_style.specs.Read.{written}
 use Rattle.house_style.proofs.Theorems.{writes-within}
-use Rattle.writer.specs.Write.{Answer, refused, length-of, Left, left, if_short, into, answering, wrote, printed, answer_of}
-use Rattle.writer.specs.declared.Written.TheVariants.{Refused, Length}
+use Rattle.writer.specs.Write.{Answer, refused, length-of, Left, left, if_short, into, answering, wrote, printed}
 
 -- the house style of an accepted text has 131,072 bytes at most
 pub written_low : (text : List ℕ) → checked text ≡ accepted → length (written text) ≤ 131072
@@ -45,10 +44,10 @@ small text lent = go (checked text) refl (checked-low text)
     go (C.refused n p) e (low h) = h
     go accepted e w = into-small (written text) lent (written_low text e)
 
-pub low-place : (text before : List ℕ) {after : List ℕ} {c p : ℕ} → left (answer_of (Refused c p)) after ≡ wrote text before → p ≤ 2048
+pub low-place : (text before : List ℕ) {after : List ℕ} {c p : ℕ} → left (refused c p) after ≡ wrote text before → p ≤ 2048
 low-place text before e = subst (λ (l : Left). Small l.answer) (sym e) (small text before)
 
-pub low-length : (text before : List ℕ) {after : List ℕ} {n : ℕ} → left (answer_of (Length n)) after ≡ wrote text before → n ≤ 131072
+pub low-length : (text before : List ℕ) {after : List ℕ} {n : ℕ} → left (length-of n) after ≡ wrote text before → n ≤ 131072
 low-length text before e = subst (λ (l : Left). Small l.answer) (sym e) (small text before)
 
 -- ---- with room for any text
@@ -57,7 +56,7 @@ module _ (text before : List ℕ) (room : 131072 ≤ length before) where
   into-whole : checked text ≡ accepted → into (written text) before ≡ left (length-of (length (written text))) (sets before 0 (written text))
   into-whole a = rw (le-ltb (length before) (length (written text)) (omega (arith, room, written_low text a)))
 
-  pub printed-refused : {after last : List ℕ} {c p next : ℕ} → left (answer_of (Refused c p)) after ≡ wrote text before → c < 4294967296 → Put after 0 (refusal c p) last next → Wrote before (printed text) last next
+  printed-refused : {after last : List ℕ} {c p next : ℕ} → left (refused c p) after ≡ wrote text before → c < 4294967296 → Put after 0 (refusal c p) last next → Wrote before (printed text) last next
   unfolding wrote printed
   printed-refused {after} {last} {c} {p} {next} e h w = go (checked text) refl e
     where
@@ -72,7 +71,11 @@ module _ (text before : List ℕ) (room : 131072 ≤ length before) where
           let y : refused c p ≡ length-of (length (written text)) = ap (λ (l : Left). l.answer) (z ∙ into-whole a) in
           absurd (let q : ◌≡◌ {A = ℕ} 0 1 = cc in omega arith)
 
-  pub printed-whole : {after : List ℕ} {n : ℕ} → left (answer_of (Length n)) after ≡ wrote text before → Wrote before (printed text) after n
+  -- the same of the refusal's number k
+  pub printed-number : {after last : List ℕ} {k c p next : ℕ} → k ≡ c → left (refused c p) after ≡ wrote text before → k < 4294967296 → Put after 0 (refusal k p) last next → Wrote before (printed text) last next
+  printed-number {after} {p = p} n e = printed-refused (ap (λ (j : ℕ). left (refused j p) after) n ∙ e)
+
+  pub printed-whole : {after : List ℕ} {n : ℕ} → left (length-of n) after ≡ wrote text before → Wrote before (printed text) after n
   unfolding wrote printed
   printed-whole {after} {n} e = go (checked text) refl e
     where

@@ -10,7 +10,25 @@ use Rattle.printing.specs.Written.{blanks}
 use Rattle.house_style.specs.Named.{Named}
 use Rattle.house_style.specs.House.{Piece, flat, indent, within, laid, the}
 use Rattle.house_style.proofs.Adding.{Adds, flat_append, flat-laid}
-use Rattle.writer.specs.Parts.{if_so}
+use Rattle.printing.proofs.Puts.{and_then, put_as}
+use Rattle.syntax.specs.Ast.{Ast}
+use Rattle.syntax.specs.Source.{Source}
+use Rattle.syntax.specs.Table.{Holds}
+use Rattle.writer.specs.Parts.{Puts, Lays, Lines, shown_in, line_bytes, if_so}
+use Rattle.writer.specs.declared.Pen.{Pen}
+
+-- one part, then another; a part under another name; a tree, and a line
+pub puts-then : {o m w : Pen} {a b : List ℕ} → Puts o m a → Puts m w b → Puts o w (a ++ b)
+puts-then x y = record { same = y.same ∙ x.same; put = and_then x.put y.put }
+
+pub puts-as : {o w : Pen} {a b : List ℕ} → a ≡ b → Puts o w a → Puts o w b
+puts-as e x = record { same = x.same; put = put_as e x.put }
+
+pub lays-puts : {s : Source} {l : List ℕ} {i n : ℕ} {o w : Pen} {u : Sort} → Lays s l i n o w → (t : Ast u) → Holds l i t → Puts o w (shown_in s n t)
+lays-puts x t h = record { same = x.same; put = x.is t h }
+
+pub lines-puts : {s : Source} {l : List ℕ} {i d : ℕ} {head tail : List ℕ} {o w : Pen} {u : Sort} → Lines s l i d head tail o w → (t : Ast u) → Holds l i t → Puts o w (line_bytes d head (shown_in s 0 t) tail)
+lines-puts x t h = record { same = x.same; put = x.is t h }
 
 pub indent-blanks : (d : ℕ) → indent d ≡ blanks (2 * d)
 unfolding indent

@@ -8,7 +8,9 @@ use lib.Dec.{ltb}
 use Rattle.syntax.specs.Ast.{Sort, Ast, bit, low_first, low_number, high_number}
 use Rattle.syntax.specs.Table.{At, Holds, n_call, n_bracket, n_more_args, n_empty, n_declare_own, n_assign, n_eval, n_return, n_block, n_if_else, n_while, n_more_stmts, n_braced, n_no_params, n_more_params, n_function, n_more_funs, at-number, at-negative, at_name, at_call, at_bracket, at-times, at-plus, at-minus, at_no_args, at-more-args, at-always, at-never, at-compare, at_both, at-either, at-empty, at-declare, at-declare-free, at-declare-own, at-assign, at-eval, at_block, at-if-else, at-while, at_return, at-fail, at-no-stmts, at-more-stmts, at-braced, at-no-params, at-more-params, at-function, at-no-funs, at-more-funs}
 use Rattle.syntax.specs.Fetch.{Fetched}
-use Rattle.syntax.specs.declared.Node.{Node}
+use Rattle.syntax.specs.NodeKinds.{node_number}
+use Rattle.syntax.specs.declared.node.Node.{Node}
+use Rattle.syntax.specs.declared.node.NodeKind.TheVariants as kind
 use Rattle.lexer.specs.Lex.{bytes}
 use Rattle.events.specs.Visit.{level}
 use Rattle.events.proofs.Nodes.{Joint, times, plus, minus, compare, both, either, at-kind}
@@ -59,7 +61,7 @@ at_level (at-no-funs r) = refl
 at_level (at-more-funs r p q x y) = refl
 
 pub level-of : {l : List ℕ} {s u : Sort} {i v : ℕ} {n : Node} {x : Ast u} {t : Ast s} → Fetched l i n → Holds l i x → level u ≡ v → Holds l i t → level s ≡ v
-level-of {n = n} f h e g = at_level (at-kind n.kind f refl g) ∙ sym (at_level (at-kind n.kind f refl h)) ∙ e
+level-of {n = n} f h e g = at_level (at-kind (node_number n.kind) f refl g) ∙ sym (at_level (at-kind (node_number n.kind) f refl h)) ∙ e
 
 module _ (spell : ℕ → List ℕ) (value : ℕ → ℕ) where
   pub leaf-at : {l : List ℕ} {s : Sort} {i k : ℕ} {m : Node} {t : Ast s} → level s ≡ 0 → Fetched l i m → At l s i k t → (k ≡ n_call → ⊥) → (k ≡ n_bracket → ⊥) → (k ≡ n_more_args → ⊥) → (Joint k → ⊥)
@@ -213,5 +215,5 @@ module _ (spell : ℕ → List ℕ) (value : ℕ → ℕ) where
             ap (λ (w : List ℕ). indent d ++ (bytes "int " ++ (spell (j + 1) ++ (bytes " free " ++ w)))) (own-bytes d j a b) ∙ e;
       }
 
-  pub own-node : {l : List ℕ} {s : Sort} {i : ℕ} {n : Node} {t : Ast s} → Fetched l i n → n.kind ≡ n_declare_own → Holds l i t → Own n t
-  own-node f e h = own_at f (at-kind n_declare_own f e h)
+  pub own-node : {l : List ℕ} {s : Sort} {i : ℕ} {n : Node} {t : Ast s} → Fetched l i n → n.kind ≡ kind.DeclareOwn → Holds l i t → Own n t
+  own-node f e h = own_at f (at-kind n_declare_own f (ap node_number e) h)

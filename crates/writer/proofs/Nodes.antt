@@ -7,7 +7,9 @@ use native.Mathlib.Omega.{arith}
 use Rattle.syntax.specs.Ast.{Sort, Ast, expr, args, cond, stmt, stmts, body, params, fun, prog}
 use Rattle.syntax.specs.Table.{At, Holds, n_call, n_bracket, n_more_args, n_assign, n_eval, n_return, n_block, n_if_else, n_while, n_more_stmts, n_braced, n_more_params, n_function, n_more_funs, at_call, at_bracket, at_no_args, at-more-args, at-assign, at-eval, at_return, at_block, at-if-else, at-while, at-more-stmts, at-braced, at-no-params, at-more-params, at-function, at-more-funs}
 use Rattle.syntax.specs.Fetch.{Fetched}
-use Rattle.syntax.specs.declared.Node.{Node}
+use Rattle.syntax.specs.NodeKinds.{node_number}
+use Rattle.syntax.specs.declared.node.Node.{Node}
+use Rattle.syntax.specs.declared.node.NodeKind.TheVariants as kind
 use Rattle.lexer.specs.Lex.{bytes}
 use Rattle.events.specs.Walk.{Below}
 use Rattle.events.specs.Visit.{level}
@@ -89,8 +91,8 @@ module _ (spell : ℕ → List ℕ) (value : ℕ → ℕ) where
   call_at {n = n} f (at_call {x = x} r p c) = one (f.first ∙ r.first) p c (λ b. b.1)
       (λ m. ap (λ (z : ℕ). spell z ++ 40 ∷ flat (laid 0 (bare x) (the ")" ∷ []))) (sym (f.token ∙ r.token)) ∙ ap (λ (w : List ℕ). spell n.token ++ 40 ∷ w) (flat-laid 0 (bare x) (the ")" ∷ [])))
 
-  pub call-node : {l : List ℕ} {s : Sort} {i : ℕ} {n : Node} {t : Ast s} → Fetched l i n → n.kind ≡ n_call → Holds l i t → Call l i n t
-  call-node f e h = call_at f (at-kind n_call f e h)
+  pub call-node : {l : List ℕ} {s : Sort} {i : ℕ} {n : Node} {t : Ast s} → Fetched l i n → n.kind ≡ kind.Call → Holds l i t → Call l i n t
+  call-node f e h = call_at f (at-kind n_call f (ap node_number e) h)
 
   abbrev Bracket : (l : List ℕ) {s : Sort} (i : ℕ) (n : Node) (t : Ast s) → Type 0
   Bracket l i n t = One l i n.first t expr (λ m x. sh m x)
@@ -99,14 +101,14 @@ module _ (spell : ℕ → List ℕ) (value : ℕ → ℕ) where
   unfolding strip Below
   bracket-at f (at_bracket r p c) = one (f.first ∙ r.first) p c (λ b. b.1) (λ m. refl)
 
-  pub bracket-node : {l : List ℕ} {s : Sort} {i : ℕ} {n : Node} {t : Ast s} → Fetched l i n → n.kind ≡ n_bracket → Holds l i t → Bracket l i n t
-  bracket-node f e h = bracket-at f (at-kind n_bracket f e h)
+  pub bracket-node : {l : List ℕ} {s : Sort} {i : ℕ} {n : Node} {t : Ast s} → Fetched l i n → n.kind ≡ kind.Bracket → Holds l i t → Bracket l i n t
+  bracket-node f e h = bracket-at f (at-kind n_bracket f (ap node_number e) h)
 
   -- the arguments before one more are those at a node m
   abbrev Arguments : (l : List ℕ) {s : Sort} (i : ℕ) (n m : Node) (t : Ast s) → Type 0
-  Arguments l i n m t = Two l i n.first n.second t args expr (λ r x y. sh 0 x ++ (comma_after m.kind ++ sh 0 y))
+  Arguments l i n m t = Two l i n.first n.second t args expr (λ r x y. sh 0 x ++ (comma_after (node_number m.kind) ++ sh 0 y))
 
-  comma-args : {l : List ℕ} {a k : ℕ} {m : Node} {x : Ast args} (y : Ast expr) → Fetched l a m → At l args a k x → flat (laid 0 (N.more_args (bare x) (bare y)) []) ≡ sh 0 x ++ (comma_after m.kind ++ sh 0 y)
+  comma-args : {l : List ℕ} {a k : ℕ} {m : Node} {x : Ast args} (y : Ast expr) → Fetched l a m → At l args a k x → flat (laid 0 (N.more_args (bare x) (bare y)) []) ≡ sh 0 x ++ (comma_after (node_number m.kind) ++ sh 0 y)
   unfolding strip laid flat
   comma-args y f (at_no_args r) = ap (λ (k : ℕ). comma_after k ++ sh 0 y) (sym (f.kind ∙ r.kind))
   comma-args y f (at-more-args {x = u} {y = v} r p q c d) = flat-laid 0 (N.more_args (bare u) (bare v)) (the "," ∷ blank ∷ laid 0 (bare y) []) ∙ ap (λ (k : ℕ). flat (laid 0 (N.more_args (bare u) (bare v)) []) ++ (comma_after k ++ sh 0 y)) (sym (f.kind ∙ r.kind))
@@ -115,8 +117,8 @@ module _ (spell : ℕ → List ℕ) (value : ℕ → ℕ) where
   unfolding strip laid Below
   arguments-at f g (at-more-args {x = x} {y = y} r p q c d) = two (f.first ∙ r.first) p c (f.second ∙ r.second) q d (λ b. b) (λ k. comma-args {x = x} y g (moved spell value (f.first ∙ r.first) c).at)
 
-  pub arguments-node : {l : List ℕ} {s : Sort} {i : ℕ} {n m : Node} {t : Ast s} → Fetched l i n → Fetched l n.first m → n.kind ≡ n_more_args → Holds l i t → Arguments l i n m t
-  arguments-node f g e h = arguments-at f g (at-kind n_more_args f e h)
+  pub arguments-node : {l : List ℕ} {s : Sort} {i : ℕ} {n m : Node} {t : Ast s} → Fetched l i n → Fetched l n.first m → n.kind ≡ kind.MoreArgs → Holds l i t → Arguments l i n m t
+  arguments-node f g e h = arguments-at f g (at-kind n_more_args f (ap node_number e) h)
 
   -- what the first child of such a node is, before it is fetched
   abbrev First : (l : List ℕ) {s : Sort} (i : ℕ) (n : Node) (t : Ast s) (s₁ : Sort) → Type 0
@@ -126,8 +128,8 @@ module _ (spell : ℕ → List ℕ) (value : ℕ → ℕ) where
   unfolding Below
   arguments-first-at f (at-more-args r p q c d) = one (f.first ∙ r.first) p c (λ b. b.0) (λ m. refl)
 
-  pub arguments-first : {l : List ℕ} {s : Sort} {i : ℕ} {n : Node} {t : Ast s} → Fetched l i n → n.kind ≡ n_more_args → Holds l i t → First l i n t args
-  arguments-first f e h = arguments-first-at f (at-kind n_more_args f e h)
+  pub arguments-first : {l : List ℕ} {s : Sort} {i : ℕ} {n : Node} {t : Ast s} → Fetched l i n → n.kind ≡ kind.MoreArgs → Holds l i t → First l i n t args
+  arguments-first f e h = arguments-first-at f (at-kind n_more_args f (ap node_number e) h)
 
   -- ---- statements
 
@@ -144,8 +146,8 @@ module _ (spell : ℕ → List ℕ) (value : ℕ → ℕ) where
   assign-at {n = n} f (at-assign {x = x} r p c) = one (f.first ∙ r.first) p c (λ b. b.1)
       (λ d. ap (λ (z : ℕ). indent d ++ (spell z ++ (bytes " = " ++ flat (laid 0 (bare x) (the ";" ∷ newline ∷ []))))) (sym (f.token ∙ r.token)) ∙ ap (λ (w : List ℕ). indent d ++ (spell n.token ++ (bytes " = " ++ w))) (ended x))
 
-  pub assign-node : {l : List ℕ} {s : Sort} {i : ℕ} {n : Node} {t : Ast s} → Fetched l i n → n.kind ≡ n_assign → Holds l i t → Assign l i n t
-  assign-node f e h = assign-at f (at-kind n_assign f e h)
+  pub assign-node : {l : List ℕ} {s : Sort} {i : ℕ} {n : Node} {t : Ast s} → Fetched l i n → n.kind ≡ kind.Assign → Holds l i t → Assign l i n t
+  assign-node f e h = assign-at f (at-kind n_assign f (ap node_number e) h)
 
   abbrev Eval : (l : List ℕ) {s : Sort} (i : ℕ) (n : Node) (t : Ast s) → Type 0
   Eval l i n t = One l i n.first t expr (λ d x. line_bytes d [] (sh 0 x) (bytes ";\n"))
@@ -154,8 +156,8 @@ module _ (spell : ℕ → List ℕ) (value : ℕ → ℕ) where
   unfolding strip laid flat Below
   eval-at f (at-eval {x = x} r p c) = one (f.first ∙ r.first) p c (λ b. b) (λ d. ap (λ (w : List ℕ). indent d ++ w) (ended x))
 
-  pub eval-node : {l : List ℕ} {s : Sort} {i : ℕ} {n : Node} {t : Ast s} → Fetched l i n → n.kind ≡ n_eval → Holds l i t → Eval l i n t
-  eval-node f e h = eval-at f (at-kind n_eval f e h)
+  pub eval-node : {l : List ℕ} {s : Sort} {i : ℕ} {n : Node} {t : Ast s} → Fetched l i n → n.kind ≡ kind.Eval → Holds l i t → Eval l i n t
+  eval-node f e h = eval-at f (at-kind n_eval f (ap node_number e) h)
 
   abbrev Return : (l : List ℕ) {s : Sort} (i : ℕ) (n : Node) (t : Ast s) → Type 0
   Return l i n t = One l i n.first t expr (λ d x. line_bytes d (bytes "return ") (sh 0 x) (bytes ";\n"))
@@ -164,8 +166,8 @@ module _ (spell : ℕ → List ℕ) (value : ℕ → ℕ) where
   unfolding strip laid flat Below
   return-at f (at_return {x = x} r p c) = one (f.first ∙ r.first) p c (λ b. b.1) (λ d. ap (λ (w : List ℕ). indent d ++ (bytes "return " ++ w)) (ended x))
 
-  pub return-node : {l : List ℕ} {s : Sort} {i : ℕ} {n : Node} {t : Ast s} → Fetched l i n → n.kind ≡ n_return → Holds l i t → Return l i n t
-  return-node f e h = return-at f (at-kind n_return f e h)
+  pub return-node : {l : List ℕ} {s : Sort} {i : ℕ} {n : Node} {t : Ast s} → Fetched l i n → n.kind ≡ kind.Return → Holds l i t → Return l i n t
+  return-node f e h = return-at f (at-kind n_return f (ap node_number e) h)
 
   abbrev Block : (l : List ℕ) {s : Sort} (i : ℕ) (n : Node) (t : Ast s) → Type 0
   Block l i n t = One l i n.first t body (λ d x. sh d x)
@@ -174,8 +176,8 @@ module _ (spell : ℕ → List ℕ) (value : ℕ → ℕ) where
   unfolding strip laid Below
   block_at f (at_block r p c) = one (f.first ∙ r.first) p c (λ b. b.1) (λ d. refl)
 
-  pub block-node : {l : List ℕ} {s : Sort} {i : ℕ} {n : Node} {t : Ast s} → Fetched l i n → n.kind ≡ n_block → Holds l i t → Block l i n t
-  block-node f e h = block_at f (at-kind n_block f e h)
+  pub block-node : {l : List ℕ} {s : Sort} {i : ℕ} {n : Node} {t : Ast s} → Fetched l i n → n.kind ≡ kind.Block → Holds l i t → Block l i n t
+  block-node f e h = block_at f (at-kind n_block f (ap node_number e) h)
 
   abbrev Braced : (l : List ℕ) {s : Sort} (i : ℕ) (n : Node) (t : Ast s) → Type 0
   Braced l i n t = One l i n.first t stmts (λ d x. (indent d ++ bytes "{\n") ++ (sh (d + 1) x ++ (indent d ++ bytes "}\n")))
@@ -187,8 +189,8 @@ module _ (spell : ℕ → List ℕ) (value : ℕ → ℕ) where
       ∙ sym (append_assoc (indent d) (bytes "{\n") (sh (suc d) x ++ (indent d ++ bytes "}\n")))
       ∙ ap (λ (m : ℕ). (indent d ++ bytes "{\n") ++ (sh m x ++ (indent d ++ bytes "}\n"))) (sym (add-one d)))
 
-  pub braced-node : {l : List ℕ} {s : Sort} {i : ℕ} {n : Node} {t : Ast s} → Fetched l i n → n.kind ≡ n_braced → Holds l i t → Braced l i n t
-  braced-node f e h = braced-at f (at-kind n_braced f e h)
+  pub braced-node : {l : List ℕ} {s : Sort} {i : ℕ} {n : Node} {t : Ast s} → Fetched l i n → n.kind ≡ kind.Braced → Holds l i t → Braced l i n t
+  braced-node f e h = braced-at f (at-kind n_braced f (ap node_number e) h)
 
   abbrev While : (l : List ℕ) {s : Sort} (i : ℕ) (n : Node) (t : Ast s) → Type 0
   While l i n t = Two l i n.first n.second t cond stmt (λ d x y. line_bytes d (bytes "while (") (sh 0 x) (bytes ")\n") ++ sh (d + 1) y)
@@ -200,8 +202,8 @@ module _ (spell : ℕ → List ℕ) (value : ℕ → ℕ) where
       ∙ sym (line-then d (bytes "while (") (sh 0 x) (bytes ")\n") (sh (suc d) y))
       ∙ ap (λ (m : ℕ). line_bytes d (bytes "while (") (sh 0 x) (bytes ")\n") ++ sh m y) (sym (add-one d)))
 
-  pub while-node : {l : List ℕ} {s : Sort} {i : ℕ} {n : Node} {t : Ast s} → Fetched l i n → n.kind ≡ n_while → Holds l i t → While l i n t
-  while-node f e h = while-at f (at-kind n_while f e h)
+  pub while-node : {l : List ℕ} {s : Sort} {i : ℕ} {n : Node} {t : Ast s} → Fetched l i n → n.kind ≡ kind.While → Holds l i t → While l i n t
+  while-node f e h = while-at f (at-kind n_while f (ap node_number e) h)
 
   abbrev IfElse : (l : List ℕ) {s : Sort} (i : ℕ) (n : Node) (t : Ast s) → Type 0
   IfElse l i n t = Three l i n.first n.second n.third t cond stmt stmt (λ d x y z. line_bytes d (bytes "if (") (sh 0 x) (bytes ")\n") ++ (sh (d + 1) y ++ ((indent d ++ bytes "else\n") ++ sh (d + 1) z)))
@@ -233,8 +235,8 @@ module _ (spell : ℕ → List ℕ) (value : ℕ → ℕ) where
     is = λ d. if-bytes d x y z;
   }
 
-  pub if-node : {l : List ℕ} {s : Sort} {i : ℕ} {n : Node} {t : Ast s} → Fetched l i n → n.kind ≡ n_if_else → Holds l i t → IfElse l i n t
-  if-node f e h = if-at f (at-kind n_if_else f e h)
+  pub if-node : {l : List ℕ} {s : Sort} {i : ℕ} {n : Node} {t : Ast s} → Fetched l i n → n.kind ≡ kind.IfElse → Holds l i t → IfElse l i n t
+  if-node f e h = if-at f (at-kind n_if_else f (ap node_number e) h)
 
   abbrev Statements : (l : List ℕ) {s : Sort} (i : ℕ) (n : Node) (t : Ast s) → Type 0
   Statements l i n t = Two l i n.first n.second t stmts stmt (λ d x y. sh d x ++ sh d y)
@@ -243,16 +245,16 @@ module _ (spell : ℕ → List ℕ) (value : ℕ → ℕ) where
   unfolding strip laid Below
   statements-at f (at-more-stmts {x = x} {y = y} r p q c e) = two (f.first ∙ r.first) p c (f.second ∙ r.second) q e (λ b. b) (λ d. flat-laid d (bare x) (laid d (bare y) []))
 
-  pub statements-node : {l : List ℕ} {s : Sort} {i : ℕ} {n : Node} {t : Ast s} → Fetched l i n → n.kind ≡ n_more_stmts → Holds l i t → Statements l i n t
-  statements-node f e h = statements-at f (at-kind n_more_stmts f e h)
+  pub statements-node : {l : List ℕ} {s : Sort} {i : ℕ} {n : Node} {t : Ast s} → Fetched l i n → n.kind ≡ kind.MoreStmts → Holds l i t → Statements l i n t
+  statements-node f e h = statements-at f (at-kind n_more_stmts f (ap node_number e) h)
 
   -- ---- programs
 
   -- the parameters before one more are those at a node m
   abbrev Parameters : (l : List ℕ) {s : Sort} (i : ℕ) (n m : Node) (t : Ast s) → Type 0
-  Parameters l i n m t = One l i n.first t params (λ r x. sh 0 x ++ (comma_after m.kind ++ (bytes "int " ++ spell n.token)))
+  Parameters l i n m t = One l i n.first t params (λ r x. sh 0 x ++ (comma_after (node_number m.kind) ++ (bytes "int " ++ spell n.token)))
 
-  comma-params : {l : List ℕ} {a k : ℕ} {m : Node} {x : Ast params} (w : List ℕ) → Fetched l a m → At l params a k x → flat (laid 0 (N.more_params (bare x) w) []) ≡ sh 0 x ++ (comma_after m.kind ++ (bytes "int " ++ w))
+  comma-params : {l : List ℕ} {a k : ℕ} {m : Node} {x : Ast params} (w : List ℕ) → Fetched l a m → At l params a k x → flat (laid 0 (N.more_params (bare x) w) []) ≡ sh 0 x ++ (comma_after (node_number m.kind) ++ (bytes "int " ++ w))
   unfolding strip laid flat
   comma-params w f (at-no-params r) = ap (λ (z : List ℕ). bytes "int " ++ z) (append-nil w) ∙ ap (λ (k : ℕ). comma_after k ++ (bytes "int " ++ w)) (sym (f.kind ∙ r.kind))
   comma-params w f (at-more-params {t = j} {x = u} r p c) =
@@ -262,17 +264,17 @@ module _ (spell : ℕ → List ℕ) (value : ℕ → ℕ) where
   parameters-at : {l : List ℕ} {s : Sort} {i : ℕ} {n m : Node} {t : Ast s} → Fetched l i n → Fetched l n.first m → At l s i n_more_params t → Parameters l i n m t
   unfolding strip laid Below
   parameters-at {m = m} f g (at-more-params {t = j} {x = x} r p c) = one (f.first ∙ r.first) p c (λ b. b.0)
-      (λ k. comma-params {x = x} (spell j) g (moved spell value (f.first ∙ r.first) c).at ∙ ap (λ (z : ℕ). sh 0 x ++ (comma_after m.kind ++ (bytes "int " ++ spell z))) (sym (f.token ∙ r.token)))
+      (λ k. comma-params {x = x} (spell j) g (moved spell value (f.first ∙ r.first) c).at ∙ ap (λ (z : ℕ). sh 0 x ++ (comma_after (node_number m.kind) ++ (bytes "int " ++ spell z))) (sym (f.token ∙ r.token)))
 
-  pub parameters-node : {l : List ℕ} {s : Sort} {i : ℕ} {n m : Node} {t : Ast s} → Fetched l i n → Fetched l n.first m → n.kind ≡ n_more_params → Holds l i t → Parameters l i n m t
-  parameters-node f g e h = parameters-at f g (at-kind n_more_params f e h)
+  pub parameters-node : {l : List ℕ} {s : Sort} {i : ℕ} {n m : Node} {t : Ast s} → Fetched l i n → Fetched l n.first m → n.kind ≡ kind.MoreParams → Holds l i t → Parameters l i n m t
+  parameters-node f g e h = parameters-at f g (at-kind n_more_params f (ap node_number e) h)
 
   parameters-first-at : {l : List ℕ} {s : Sort} {i : ℕ} {n : Node} {t : Ast s} → Fetched l i n → At l s i n_more_params t → First l i n t params
   unfolding Below
   parameters-first-at f (at-more-params r p c) = one (f.first ∙ r.first) p c (λ b. b.0) (λ m. refl)
 
-  pub parameters-first : {l : List ℕ} {s : Sort} {i : ℕ} {n : Node} {t : Ast s} → Fetched l i n → n.kind ≡ n_more_params → Holds l i t → First l i n t params
-  parameters-first f e h = parameters-first-at f (at-kind n_more_params f e h)
+  pub parameters-first : {l : List ℕ} {s : Sort} {i : ℕ} {n : Node} {t : Ast s} → Fetched l i n → n.kind ≡ kind.MoreParams → Holds l i t → First l i n t params
+  parameters-first f e h = parameters-first-at f (at-kind n_more_params f (ap node_number e) h)
 
   abbrev Function : (l : List ℕ) {s : Sort} (i : ℕ) (n : Node) (t : Ast s) → Type 0
   Function l i n t = Two l i n.first n.second t params body (λ d x y. (bytes "int " ++ spell n.token) ++ (bytes "(" ++ (sh 0 x ++ (bytes ")\n" ++ sh 0 y))))
@@ -283,8 +285,8 @@ module _ (spell : ℕ → List ℕ) (value : ℕ → ℕ) where
       (λ d. ap (λ (z : ℕ). bytes "int " ++ (spell z ++ (bytes "(" ++ flat (laid 0 (bare x) (the ")" ∷ newline ∷ laid 0 (bare y) []))))) (sym (f.token ∙ r.token))
       ∙ ap (λ (w : List ℕ). bytes "int " ++ (spell n.token ++ (bytes "(" ++ w))) (flat-laid 0 (bare x) (the ")" ∷ newline ∷ laid 0 (bare y) [])))
 
-  pub function-node : {l : List ℕ} {s : Sort} {i : ℕ} {n : Node} {t : Ast s} → Fetched l i n → n.kind ≡ n_function → Holds l i t → Function l i n t
-  function-node f e h = function-at f (at-kind n_function f e h)
+  pub function-node : {l : List ℕ} {s : Sort} {i : ℕ} {n : Node} {t : Ast s} → Fetched l i n → n.kind ≡ kind.Function → Holds l i t → Function l i n t
+  function-node f e h = function-at f (at-kind n_function f (ap node_number e) h)
 
   abbrev Functions : (l : List ℕ) {s : Sort} (i : ℕ) (n : Node) (t : Ast s) → Type 0
   Functions l i n t = Two l i n.first n.second t prog fun (λ d x y. sh 0 x ++ sh 0 y)
@@ -293,5 +295,5 @@ module _ (spell : ℕ → List ℕ) (value : ℕ → ℕ) where
   unfolding strip laid Below
   functions-at f (at-more-funs {x = x} {y = y} r p q c e) = two (f.first ∙ r.first) p c (f.second ∙ r.second) q e (λ b. b) (λ d. flat-laid 0 (bare x) (laid 0 (bare y) []))
 
-  pub functions-node : {l : List ℕ} {s : Sort} {i : ℕ} {n : Node} {t : Ast s} → Fetched l i n → n.kind ≡ n_more_funs → Holds l i t → Functions l i n t
-  functions-node f e h = functions-at f (at-kind n_more_funs f e h)
+  pub functions-node : {l : List ℕ} {s : Sort} {i : ℕ} {n : Node} {t : Ast s} → Fetched l i n → n.kind ≡ kind.MoreFuns → Holds l i t → Functions l i n t
+  functions-node f e h = functions-at f (at-kind n_more_funs f (ap node_number e) h)

@@ -9,7 +9,8 @@ use Rattle.syntax.specs.Tree.{product, Cmp, less, less_eq, greater, greater_eq, 
 use Rattle.syntax.specs.Ast.{Sort, Ast}
 use Rattle.syntax.specs.Table.{At, Row, Holds, cmp_number, at-times, at-plus, at-minus, at-compare, at_both, at-either}
 use Rattle.syntax.specs.Fetch.{Fetched}
-use Rattle.syntax.specs.declared.Node.{Node}
+use Rattle.syntax.specs.NodeKinds.{node_number}
+use Rattle.syntax.specs.declared.node.Node.{Node}
 use Rattle.lexer.specs.Lex.{bytes}
 use Rattle.events.specs.Walk.{Below}
 use Rattle.events.specs.Visit.{level}
@@ -88,5 +89,5 @@ module _ (spell : ℕ → List ℕ) (value : ℕ → ℕ) where
   sides-at both f (at_both {x = x} {y = y} r p q c e) = joined x y refl f r p q c e (λ b. b) (λ n. plainly x y (bytes " && ") _ refl)
   sides-at either f (at-either {x = x} {y = y} r p q c e) = joined x y refl f r p q c e (λ b. b) (λ n. plainly x y (bytes " || ") _ refl)
 
-  pub sides : {l : List ℕ} {s : Sort} {i : ℕ} {n : Node} {t : Ast s} → Joint n.kind → Fetched l i n → Holds l i t → Sides l i n.first n.second n.kind n.third t
-  sides {n = n} j f h = sides-at j f (at-kind n.kind f refl h)
+  pub sides : {l : List ℕ} {s : Sort} {i : ℕ} {n : Node} {t : Ast s} → Joint (node_number n.kind) → Fetched l i n → Holds l i t → Sides l i n.first n.second (node_number n.kind) n.third t
+  sides {n = n} j f h = sides-at j f (at-kind (node_number n.kind) f refl h)

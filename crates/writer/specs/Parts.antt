@@ -1,15 +1,18 @@
 -- What the functions of the writer promise each other, of a node of the table.
-use Rattle.std.specs.Prelude.{ℕ, ◌+◌, ◌<◌, ◌≡◌, Bool, false, cond, List, [], ◌++◌, eqb, ltb, length}
+use Rattle.std.specs.Prelude.{ℕ, ◌+◌, ◌<◌, ◌≡◌, Bool, false, cond, List, [], ◌++◌, eqb, ltb, length, get_or}
 use Rattle.syntax.specs.Ast.{Sort, Ast, prog}
+use Rattle.syntax.specs.Source.{Source}
 use Rattle.syntax.specs.Table.{Holds, n_number, n_negative, n_name, n_times, n_plus, n_minus, n_more_args, n_always, n_never, n_both, n_either, n_empty, n_declare, n_declare_free, n_fail, n_more_params}
 use Rattle.lexer.specs.Lex.{bytes}
 use Rattle.events.specs.Walk.{Below, Rooted}
 use Rattle.events.specs.Visit.{level}
+use Rattle.text_rules.specs.Spelling.{spelled_in}
 use Rattle.printing.specs.Decimal.{natural}
 use Rattle.printing.specs.Written.{most, Put}
 use Rattle.house_style.specs.Named.{strip}
 use Rattle.house_style.specs.House.{flat, indent, laid}
 use Rattle.writer.specs.Write.{Answer, left, into}
+use Rattle.writer.specs.declared.Pen.{Pen}
 
 -- a line of the depth d: its indent, a head, what stands in it, a tail
 abbrev pub line_bytes : ℕ → (head within tail : List ℕ) → List ℕ
@@ -22,17 +25,32 @@ pub record Part (v : ℕ) (l : List ℕ) (i : ℕ) : Type 0 where
   pub part : level sort ≡ v
   pub tokens : Below 65536 rooted.tree
 
+-- a pen puts bytes, into the slice that it was lent
+pub record Puts (o w : Pen) (bs : List ℕ) : Type 0 where
+  pub same : w.out.ghost_name ≡ o.out.ghost_name
+  pub put : Put o.out.now o.at bs w.out.now w.at
+
+-- the value of a token
+abbrev pub value_in : Source → ℕ → ℕ
+value_in s i = get_or s.values i 0
+
+-- the bytes of the tree t of a text, n being its rank or its depth
+abbrev pub shown_in : {s : Sort} → Source → ℕ → Ast s → List ℕ
+shown_in s n t = flat (laid n (strip (spelled_in s) (value_in s) t) [])
+
 -- the bytes of the tree at node i are put, n being its rank or its depth
-pub record Lays (spell : ℕ → List ℕ) (value : ℕ → ℕ) (l : List ℕ) (i n : ℕ) (before : List ℕ) (at : ℕ) (after : List ℕ) (r : ℕ) : Type 0 where
-  pub is : {s : Sort} (t : Ast s) → Holds l i t → Put before at (flat (laid n (strip spell value t) [])) after r
+pub record Lays (s : Source) (l : List ℕ) (i n : ℕ) (o w : Pen) : Type 0 where
+  pub same : w.out.ghost_name ≡ o.out.ghost_name
+  pub is : {u : Sort} (t : Ast u) → Holds l i t → Put o.out.now o.at (shown_in s n t) w.out.now w.at
 
 -- a line of the depth d: a head, the tree at node i and a tail
-pub record Lines (spell : ℕ → List ℕ) (value : ℕ → ℕ) (l : List ℕ) (i d : ℕ) (head tail before : List ℕ) (at : ℕ) (after : List ℕ) (r : ℕ) : Type 0 where
-  pub is : {s : Sort} (t : Ast s) → Holds l i t → Put before at (line_bytes d head (flat (laid 0 (strip spell value t) [])) tail) after r
+pub record Lines (s : Source) (l : List ℕ) (i d : ℕ) (head tail : List ℕ) (o w : Pen) : Type 0 where
+  pub same : w.out.ghost_name ≡ o.out.ghost_name
+  pub is : {u : Sort} (t : Ast u) → Holds l i t → Put o.out.now o.at (line_bytes d head (shown_in s 0 t) tail) w.out.now w.at
 
 -- the program at node i is put whole, or refused with 20 and nothing put
-pub record Fills (spell : ℕ → List ℕ) (value : ℕ → ℕ) (l : List ℕ) (i : ℕ) (before : List ℕ) (a : Answer) (after : List ℕ) : Type 0 where
-  pub is : (t : Ast prog) → Holds l i t → length (flat (laid 0 (strip spell value t) [])) < most → left a after ≡ into (flat (laid 0 (strip spell value t) [])) before
+pub record Fills (s : Source) (l : List ℕ) (i : ℕ) (before : List ℕ) (a : Answer) (after : List ℕ) : Type 0 where
+  pub is : (t : Ast prog) → Holds l i t → length (shown_in s 0 t) < most → left a after ≡ into (shown_in s 0 t) before
 
 -- whether an operation of the kind k stands in brackets at a place of the rank n, and the ranks of its sides
 abbrev pub bracketed : ℕ → ℕ → Bool

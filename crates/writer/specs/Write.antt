@@ -1,12 +1,12 @@
 -- What the writer answers, and what it leaves in the slice that it is lent (document 02, slip 7), for every text and every slice.
-use Rattle.std.specs.Prelude.{ℕ, Bool, true, false, List, length, ltb}
+use Rattle.std.specs.Prelude.{ℕ, Bool, true, false, List, length, ltb, Result, Ok, Err}
 use Rattle.std.proofs.lemmas.List.Edits.{sets}
+use Rattle.syntax.specs.Refusals.{number_of}
+use Rattle.syntax.specs.declared.refusal.Refusal.{Refusal}
 use Rattle.checker.specs.Check as C
 use Rattle.checker.specs.Check.{checked}
 use Rattle.house_style.specs.Read.{written}
 use Rattle.lines.specs.Print.{refusal}
-use Rattle.writer.specs.declared.Written.{Written}
-use Rattle.writer.specs.declared.Written.TheVariants.{Refused, Length}
 
 -- the answer, a refusal's number and place or a length; and the bytes of the slice
 pub data Answer : Type 0 where
@@ -37,9 +37,9 @@ unfoldable pub wrote : List ℕ → List ℕ → Left
 wrote text lent = answering (written text) lent (checked text)
 
 -- the paper's number and values for each case of the answer
-abbrev pub answer_of : Written → Answer
-answer_of (Refused n p) = refused n p
-answer_of (Length n) = length-of n
+abbrev pub answer_of : Result ℕ Refusal → Answer
+answer_of (Err r) = refused (number_of r.reason) r.place
+answer_of (Ok n) = length-of n
 
 -- what the program `house` prints for a text: its house style, or `refused N at P`
 unfoldable pub printed : List ℕ → List ℕ

@@ -1,523 +1,376 @@
 // The writer (document 02, slip 7): a text in house style, into a slice that is lent.
 #![tactic(auto)]
 
-ghost use Rattle.std.specs.Prelude.{List, [], ◌∷◌, ◌++◌, ◌≡◌, ℕ, ◌+◌, ◌*◌, ◌≤◌, ◌<◌, length, get_or};
-ghost use Rattle.text_rules.specs.Spelling.{spelled};
-ghost use Rattle.printing.specs.Written.{Put, Wrote};
-ghost use Rattle.checker.specs.Analysis.{Slices};
+ghost use Rattle.std.specs.Prelude.{List, [], ◌∷◌, ◌++◌, ◌≡◌, ℕ, ◌+◌, ◌*◌, ◌≤◌, ◌<◌};
+ghost use Rattle.syntax.specs.NodeKinds.{node_number};
+ghost use Rattle.text_rules.specs.Spelling.{spelled_in};
+ghost use Rattle.printing.specs.Decimal.{natural};
+ghost use Rattle.printing.specs.Written.{Wrote};
 ghost use Rattle.house_style.specs.House.{indent};
 ghost use Rattle.writer.specs.Write.{left, answer_of, wrote, printed};
 ghost use Rattle.lexer.specs.Lex.{bytes};
-ghost use Rattle.writer.specs.Parts.{Part, Lays, Lines, Fills, bracketed, left_rank, right_rank, if_so, comparison_sign, sign_of, leaf_bytes, comma_after, end_bytes, pair_bytes, declared_bytes, plain_bytes};
+ghost use Rattle.writer.specs.Parts.{Puts, Part, Lays, Lines, Fills, value_in, bracketed, left_rank, right_rank, if_so, comparison_sign, sign_of, leaf_bytes, comma_after, end_bytes, pair_bytes, declared_bytes, plain_bytes};
 
-use checker::{Analysed, sizes};
+use checker::Analysis;
+use checker::tables::Tables;
 use printing::{put_blanks, put_byte, put_bytes, put_natural};
-use syntax::{fetch, kind};
+use syntax::node::NodeKind;
+use syntax::refusal::{Reason, Refusal};
+use syntax::source::Source;
 use text_rules::spelling::spelling;
 
-// What the writer answers: a refusal's number and place, or the length written.
-#[derive(Drop)]
-pub enum Written {
-    Refused(u32, usize),
-    Length(usize),
-}
-
-// The word at i, 0 past the end.
-fn number(s: &[u32], i: usize) -> u32
-    ensures { result ≡ get_or s.now i 0 }
-{
-    if i < s.len() {
-        return s[i];
-    }
-    0
-}
-
-// The name at token i.
-fn put_name(
-    text: &[u8],
-    places: &[u32],
-    values: &[u32],
-    i: usize,
-    out: &mut [u8],
-    at: usize,
-) -> usize
-    ensures { Put out.old at (spelled text.now places.now values.now i) out.new result }
-{
-    let name = spelling(text, places, values, i);
-    put_bytes(out, at, name)
-}
-
-// Two blanks for each depth.
-fn put_margin(out: &mut [u8], at: usize, depth: usize) -> usize
-    requires { depth < 4294967296 }
-    ensures { Put out.old at (indent depth) out.new result }
-{
-    put_blanks(out, at, 2 * depth)
-}
-
-// A mark, if it is needed.
-fn put_mark(out: &mut [u8], at: usize, needed: bool, mark: u8) -> usize
-    ensures { Put out.old at (if_so needed (mark ∷ [])) out.new result }
-{
-    if needed {
-        return put_byte(out, at, mark);
-    }
-    at
-}
-
 // Whether an operation of this kind stands in brackets at a place of this rank.
-fn is_bracketed(k: u32, rank: usize) -> bool
-    ensures { result ≡ bracketed k rank }
+fn is_bracketed(k: NodeKind, rank: usize) -> bool
+    ensures { result ≡ bracketed (node_number k) rank }
 {
     match k {
-        kind::TIMES => 1 < rank,
-        kind::PLUS => 0 < rank,
-        kind::MINUS => 0 < rank,
+        NodeKind::Times => 1 < rank,
+        NodeKind::Plus | NodeKind::Minus => 0 < rank,
         _ => false,
     }
 }
 
 // The rank of the left side of an operation of this kind.
-fn left_rank(k: u32) -> usize
-    ensures { result ≡ left_rank k }
+fn left_rank(k: NodeKind) -> usize
+    ensures { result ≡ left_rank (node_number k) }
 {
     match k {
-        kind::TIMES => 1,
+        NodeKind::Times => 1,
         _ => 0,
     }
 }
 
 // The rank of its right side.
-fn right_rank(k: u32) -> usize
-    ensures { result ≡ right_rank k }
+fn right_rank(k: NodeKind) -> usize
+    ensures { result ≡ right_rank (node_number k) }
 {
     match k {
-        kind::TIMES => 2,
-        kind::PLUS => 1,
-        kind::MINUS => 1,
+        NodeKind::Times => 2,
+        NodeKind::Plus | NodeKind::Minus => 1,
         _ => 0,
     }
 }
 
-// The sign of the comparison with the number o, with its blanks.
-fn put_comparison(out: &mut [u8], at: usize, o: usize) -> usize
-    ensures { Put out.old at (comparison_sign o) out.new result }
-{
-    match o {
-        0 => put_bytes(out, at, b" < "),
-        1 => put_bytes(out, at, b" <= "),
-        2 => put_bytes(out, at, b" > "),
-        3 => put_bytes(out, at, b" >= "),
-        4 => put_bytes(out, at, b" == "),
-        _ => put_bytes(out, at, b" != "),
-    }
-}
-
-// The sign of an operation of this kind, or of the comparison with the number o, with its blanks.
-fn put_sign(out: &mut [u8], at: usize, k: u32, o: usize) -> usize
-    ensures { Put out.old at (sign_of k o) out.new result }
-{
-    match k {
-        kind::TIMES => put_bytes(out, at, b" * "),
-        kind::PLUS => put_bytes(out, at, b" + "),
-        kind::MINUS => put_bytes(out, at, b" - "),
-        kind::BOTH => put_bytes(out, at, b" && "),
-        kind::EITHER => put_bytes(out, at, b" || "),
-        _ => put_comparison(out, at, o),
-    }
-}
-
-// A number, a name, `true` or `false` at a token; of any other kind nothing.
-fn put_leaf(
-    text: &[u8],
-    places: &[u32],
-    values: &[u32],
-    k: u32,
-    token: usize,
-    out: &mut [u8],
+// A pen over a slice that is lent: it stands behind the bytes that it put. What lies past the slice's end is counted and not put.
+#[derive(Drop)]
+struct Pen<'a> {
+    out: &'a mut [u8],
     at: usize,
-) -> usize
-    requires { token < 4294967296 }
-    ensures { Put out.old at (leaf_bytes (spelled text.now places.now values.now) (λ i. get_or values.now i 0) k token) out.new result }
-{
-    match k {
-        kind::NUMBER => put_natural(out, at, number(values, token)),
-        kind::NEGATIVE => {
-            let p = put_byte(out, at, b'-');
-            put_natural(out, p, number(values, token + 1))
+}
+
+impl Pen<'_> {
+    // A byte.
+    fn byte(&mut self, b: u8)
+        ensures { Puts self.old self.new (b ∷ []) }
+    {
+        self.at = put_byte(self.out, self.at, b);
+    }
+
+    // The bytes of a word.
+    fn bytes(&mut self, word: &[u8])
+        ensures { Puts self.old self.new word.now }
+    {
+        self.at = put_bytes(self.out, self.at, word);
+    }
+
+    // A number in decimal.
+    fn natural(&mut self, n: u32)
+        ensures { Puts self.old self.new (natural n) }
+    {
+        self.at = put_natural(self.out, self.at, n);
+    }
+
+    // Two blanks for each depth.
+    fn margin(&mut self, depth: usize)
+        requires { depth < 4294967296 }
+        ensures { Puts self.old self.new (indent depth) }
+    {
+        self.at = put_blanks(self.out, self.at, 2 * depth);
+    }
+
+    // The name at token i.
+    fn name(&mut self, source: &Source, i: usize)
+        ensures { Puts self.old self.new (spelled_in source.now i) }
+    {
+        self.bytes(spelling(source, i));
+    }
+
+    // A mark, if it is needed.
+    fn mark(&mut self, needed: bool, mark: &[u8])
+        ensures { Puts self.old self.new (if_so needed mark.now) }
+    {
+        self.bytes(if needed { mark } else { b"" });
+    }
+
+    // The sign of the comparison with the number o, with its blanks.
+    fn comparison(&mut self, o: usize)
+        ensures { Puts self.old self.new (comparison_sign o) }
+    {
+        match o {
+            0 => self.bytes(b" < "),
+            1 => self.bytes(b" <= "),
+            2 => self.bytes(b" > "),
+            3 => self.bytes(b" >= "),
+            4 => self.bytes(b" == "),
+            _ => self.bytes(b" != "),
         }
-        kind::NAME => put_name(text, places, values, token, out, at),
-        kind::ALWAYS => put_bytes(out, at, b"true"),
-        kind::NEVER => put_bytes(out, at, b"false"),
-        _ => at,
+    }
+
+    // The sign of an operation of this kind, or of the comparison with the number o, with its blanks.
+    fn sign(&mut self, k: NodeKind, o: usize)
+        ensures { Puts self.old self.new (sign_of (node_number k) o) }
+    {
+        match k {
+            NodeKind::Times => self.bytes(b" * "),
+            NodeKind::Plus => self.bytes(b" + "),
+            NodeKind::Minus => self.bytes(b" - "),
+            NodeKind::Both => self.bytes(b" && "),
+            NodeKind::Either => self.bytes(b" || "),
+            _ => self.comparison(o),
+        }
+    }
+
+    // A number, a name, `true` or `false` at a token; of any other kind nothing.
+    fn leaf(&mut self, source: &Source, k: NodeKind, token: usize)
+        requires { token < 4294967296 }
+        ensures { Puts self.old self.new (leaf_bytes (spelled_in source.now) (value_in source.now) (node_number k) token) }
+    {
+        match k {
+            NodeKind::Number => self.natural(source.value(token)),
+            NodeKind::Negative => {
+                self.byte(b'-');
+                self.natural(source.value(token + 1));
+            }
+            NodeKind::Name => self.name(source, token),
+            NodeKind::Always => self.bytes(b"true"),
+            NodeKind::Never => self.bytes(b"false"),
+            _ => self.bytes(b""),
+        }
+    }
+
+    // What stands behind arguments or parameters whose node has this kind, before one more.
+    fn comma(&mut self, k: NodeKind)
+        ensures { Puts self.old self.new (comma_after (node_number k)) }
+    {
+        match k {
+            NodeKind::MoreArgs | NodeKind::MoreParams => self.bytes(b", "),
+            _ => self.bytes(b""),
+        }
+    }
+
+    // An expression, arguments or a condition, at a place of a rank.
+    fn expression(&mut self, analysis: &Analysis, i: usize, rank: usize)
+        requires { Part 0 analysis.now.nodes.now i }
+        ensures { Lays analysis.now.source analysis.now.nodes.now i rank self.old self.new }
+    {
+        let node = analysis.nodes.node(i);
+        match node.kind {
+            NodeKind::Call => {
+                self.name(&analysis.source, node.token);
+                self.byte(b'(');
+                self.expression(analysis, node.first, 0);
+                self.byte(b')');
+            }
+            NodeKind::Bracket => self.expression(analysis, node.first, rank),
+            NodeKind::MoreArgs => {
+                let before = analysis.nodes.node(node.first);
+                self.expression(analysis, node.first, 0);
+                self.comma(before.kind);
+                self.expression(analysis, node.second, 0);
+            }
+            NodeKind::Times
+            | NodeKind::Plus
+            | NodeKind::Minus
+            | NodeKind::Compare
+            | NodeKind::Both
+            | NodeKind::Either => {
+                let needed = is_bracketed(node.kind, rank);
+                self.mark(needed, b"(");
+                self.expression(analysis, node.first, left_rank(node.kind));
+                self.sign(node.kind, node.third);
+                self.expression(analysis, node.second, right_rank(node.kind));
+                self.mark(needed, b")");
+            }
+            _ => self.leaf(&analysis.source, node.kind, node.token),
+        }
+    }
+
+    // A margin and words.
+    fn words(&mut self, depth: usize, words: &[u8])
+        requires { depth < 4294967296 }
+        ensures { Puts self.old self.new (indent depth ++ words.now) }
+    {
+        self.margin(depth);
+        self.bytes(words);
+    }
+
+    // A line: a margin, a head, the expression or condition at node i, and a tail.
+    fn line(&mut self, analysis: &Analysis, i: usize, depth: usize, head: &[u8], tail: &[u8])
+        requires { Part 0 analysis.now.nodes.now i × (depth < 4294967296) }
+        ensures { Lines analysis.now.source analysis.now.nodes.now i depth head.now tail.now self.old self.new }
+    {
+        self.margin(depth);
+        self.bytes(head);
+        self.expression(analysis, i, 0);
+        self.bytes(tail);
+    }
+
+    // `int` and the name at token i.
+    fn typed(&mut self, source: &Source, i: usize)
+        ensures { Puts self.old self.new (bytes "int " ++ spelled_in source.now i) }
+    {
+        self.bytes(b"int ");
+        self.name(source, i);
+    }
+
+    // A declaration at a token, with what stands behind its name.
+    fn declared(&mut self, source: &Source, token: usize, depth: usize, tail: &[u8])
+        requires { (token < 4294967296) × (depth < 4294967296) }
+        ensures { Puts self.old self.new (declared_bytes (spelled_in source.now) depth token tail.now) }
+    {
+        self.margin(depth);
+        self.typed(source, token + 1);
+        self.bytes(tail);
+    }
+
+    // The end of a pair whose first token is i, which has a minus unless `minus` is 0.
+    fn end(&mut self, source: &Source, i: usize, minus: usize)
+        requires { i < 4294967296 }
+        ensures { Puts self.old self.new (end_bytes (value_in source.now) i minus) }
+    {
+        if minus == 0 {
+            self.natural(source.value(i));
+        } else {
+            self.byte(b'-');
+            self.natural(source.value(i + 1));
+        }
+    }
+
+    // The pair whose low end has the first token t, and the end of its declaration.
+    fn pair(&mut self, source: &Source, t: usize, low: usize, high: usize)
+        requires { (t < 131072) × (low < 2) }
+        ensures { Puts self.old self.new (pair_bytes (value_in source.now) t low high) }
+    {
+        self.end(source, t, low);
+        self.bytes(b" .. ");
+        self.end(source, t + low + 2, high);
+        self.bytes(b";\n");
+    }
+
+    // A statement of a kind that holds no other part, at a token; of any other kind nothing.
+    fn plain(&mut self, source: &Source, k: NodeKind, token: usize, depth: usize)
+        requires { (token < 4294967296) × (depth < 4294967296) }
+        ensures { Puts self.old self.new (plain_bytes (spelled_in source.now) depth (node_number k) token) }
+    {
+        match k {
+            NodeKind::Empty => self.words(depth, b";\n"),
+            NodeKind::Fail => self.words(depth, b"fail;\n"),
+            NodeKind::Declare => self.declared(source, token, depth, b";\n"),
+            NodeKind::DeclareFree => self.declared(source, token, depth, b" free;\n"),
+            _ => self.bytes(b""),
+        }
+    }
+
+    // A statement, statements, or these in braces, at a depth.
+    fn statement(&mut self, analysis: &Analysis, i: usize, depth: usize)
+        requires { Part 1 analysis.now.nodes.now i × (depth + i < 131072) }
+        ensures { Lays analysis.now.source analysis.now.nodes.now i depth self.old self.new }
+    {
+        let node = analysis.nodes.node(i);
+        match node.kind {
+            NodeKind::DeclareOwn => {
+                self.declared(&analysis.source, node.token, depth, b" free ");
+                self.pair(&analysis.source, node.token + 3, node.first, node.second);
+            }
+            NodeKind::Assign => {
+                self.margin(depth);
+                self.name(&analysis.source, node.token);
+                self.line(analysis, node.first, 0, b" = ", b";\n");
+            }
+            NodeKind::Eval => self.line(analysis, node.first, depth, b"", b";\n"),
+            NodeKind::Return => self.line(analysis, node.first, depth, b"return ", b";\n"),
+            NodeKind::Block => self.statement(analysis, node.first, depth),
+            NodeKind::IfElse => {
+                self.line(analysis, node.first, depth, b"if (", b")\n");
+                self.statement(analysis, node.second, depth + 1);
+                self.words(depth, b"else\n");
+                self.statement(analysis, node.third, depth + 1);
+            }
+            NodeKind::While => {
+                self.line(analysis, node.first, depth, b"while (", b")\n");
+                self.statement(analysis, node.second, depth + 1);
+            }
+            NodeKind::MoreStmts => {
+                self.statement(analysis, node.first, depth);
+                self.statement(analysis, node.second, depth);
+            }
+            NodeKind::Braced => {
+                self.words(depth, b"{\n");
+                self.statement(analysis, node.first, depth + 1);
+                self.words(depth, b"}\n");
+            }
+            _ => self.plain(&analysis.source, node.kind, node.token, depth),
+        }
+    }
+
+    // Functions, a function or parameters.
+    fn program(&mut self, analysis: &Analysis, i: usize)
+        requires { Part 2 analysis.now.nodes.now i }
+        ensures { Lays analysis.now.source analysis.now.nodes.now i 0 self.old self.new }
+    {
+        let node = analysis.nodes.node(i);
+        match node.kind {
+            NodeKind::MoreParams => {
+                let before = analysis.nodes.node(node.first);
+                self.program(analysis, node.first);
+                self.comma(before.kind);
+                self.typed(&analysis.source, node.token);
+            }
+            NodeKind::Function => {
+                self.typed(&analysis.source, node.token);
+                self.byte(b'(');
+                self.program(analysis, node.first);
+                self.bytes(b")\n");
+                self.statement(analysis, node.second, 0);
+            }
+            NodeKind::MoreFuns => {
+                self.program(analysis, node.first);
+                self.program(analysis, node.second);
+            }
+            _ => self.bytes(b""),
+        }
     }
 }
 
-// What stands behind arguments or parameters whose node has this kind, before one more.
-fn put_comma(out: &mut [u8], at: usize, k: u32) -> usize
-    ensures { Put out.old at (comma_after k) out.new result }
+// The analysed program, if the slice has room for all of it: measured first, then put.
+fn put_whole(analysis: &Analysis, out: &mut [u8]) -> Result<usize, Refusal>
+    requires { Part 2 analysis.now.nodes.now analysis.now.root }
+    ensures { Fills analysis.now.source analysis.now.nodes.now analysis.now.root out.old (answer_of result) out.new }
 {
-    match k {
-        kind::MORE_ARGS => put_bytes(out, at, b", "),
-        kind::MORE_PARAMS => put_bytes(out, at, b", "),
-        _ => at,
+    let mut unread = [0; 1];
+    let mut measure = Pen {
+        out: &mut unread,
+        at: 0,
+    };
+    measure.program(analysis, analysis.root);
+    if out.len() < measure.at {
+        return Err(Refusal {
+            reason: Reason::ShortOutput,
+            place: 0,
+        });
     }
+    let mut pen = Pen { out, at: 0 };
+    pen.program(analysis, analysis.root);
+    Ok(pen.at)
 }
 
-// An expression, arguments or a condition, at a place of a rank.
-fn expression(
-    text: &[u8],
-    places: &[u32],
-    values: &[u32],
-    nodes: &[u32],
-    i: usize,
-    rank: usize,
-    out: &mut [u8],
-    at: usize,
-) -> usize
-    requires { Part 0 nodes.now i }
-    ensures { Lays (spelled text.now places.now values.now) (λ j. get_or values.now j 0)
-        nodes.now i rank out.old at out.new result }
-{
-    let node = fetch(nodes, i);
-    let k = node.kind;
-    match k {
-        kind::CALL => {
-            let p = put_name(text, places, values, node.token, out, at);
-            let p = put_byte(out, p, b'(');
-            let p = expression(text, places, values, nodes, node.first, 0, out, p);
-            put_byte(out, p, b')')
-        }
-        kind::BRACKET => expression(text, places, values, nodes, node.first, rank, out, at),
-        kind::MORE_ARGS => {
-            let before = fetch(nodes, node.first);
-            let p = expression(text, places, values, nodes, node.first, 0, out, at);
-            let p = put_comma(out, p, before.kind);
-            expression(text, places, values, nodes, node.second, 0, out, p)
-        }
-        kind::TIMES | kind::PLUS | kind::MINUS | kind::COMPARE | kind::BOTH | kind::EITHER => {
-            let needed = is_bracketed(k, rank);
-            let p = put_mark(out, at, needed, b'(');
-            let p = expression(
-                text,
-                places,
-                values,
-                nodes,
-                node.first,
-                left_rank(k),
-                out,
-                p,
-            );
-            let p = put_sign(out, p, k, node.third);
-            let p = expression(
-                text,
-                places,
-                values,
-                nodes,
-                node.second,
-                right_rank(k),
-                out,
-                p,
-            );
-            put_mark(out, p, needed, b')')
-        }
-        _ => put_leaf(text, places, values, k, node.token, out, at),
-    }
-}
-
-// A margin and words.
-fn put_words(out: &mut [u8], at: usize, depth: usize, words: &[u8]) -> usize
-    requires { depth < 4294967296 }
-    ensures { Put out.old at (indent depth ++ words.now) out.new result }
-{
-    let p = put_margin(out, at, depth);
-    put_bytes(out, p, words)
-}
-
-// A line: a margin, a head, the expression or condition at node i, and a tail.
-fn put_line(
-    text: &[u8],
-    places: &[u32],
-    values: &[u32],
-    nodes: &[u32],
-    i: usize,
-    depth: usize,
-    head: &[u8],
-    tail: &[u8],
-    out: &mut [u8],
-    at: usize,
-) -> usize
-    requires { Part 0 nodes.now i × (depth < 4294967296) }
-    ensures { Lines (spelled text.now places.now values.now) (λ j. get_or values.now j 0)
-        nodes.now i depth head.now tail.now out.old at out.new result }
-{
-    let p = put_margin(out, at, depth);
-    let p = put_bytes(out, p, head);
-    let p = expression(text, places, values, nodes, i, 0, out, p);
-    put_bytes(out, p, tail)
-}
-
-// `int` and the name at token i.
-fn put_typed(
-    text: &[u8],
-    places: &[u32],
-    values: &[u32],
-    i: usize,
-    out: &mut [u8],
-    at: usize,
-) -> usize
-    ensures { Put out.old at (bytes "int " ++ spelled text.now places.now values.now i) out.new result }
-{
-    let p = put_bytes(out, at, b"int ");
-    put_name(text, places, values, i, out, p)
-}
-
-// A declaration at a token, with what stands behind its name.
-fn put_declared(
-    text: &[u8],
-    places: &[u32],
-    values: &[u32],
-    token: usize,
-    depth: usize,
-    tail: &[u8],
-    out: &mut [u8],
-    at: usize,
-) -> usize
-    requires { (token < 4294967296) × (depth < 4294967296) }
-    ensures { Put out.old at (declared_bytes (spelled text.now places.now values.now) depth token tail.now) out.new result }
-{
-    let p = put_margin(out, at, depth);
-    let p = put_typed(text, places, values, token + 1, out, p);
-    put_bytes(out, p, tail)
-}
-
-// The end of a pair whose first token is i, which has a minus unless `minus` is 0.
-fn put_end(values: &[u32], i: usize, minus: usize, out: &mut [u8], at: usize) -> usize
-    requires { i < 4294967296 }
-    ensures { Put out.old at (end_bytes (λ j. get_or values.now j 0) i minus) out.new result }
-{
-    if minus == 0 {
-        return put_natural(out, at, number(values, i));
-    }
-    let p = put_byte(out, at, b'-');
-    put_natural(out, p, number(values, i + 1))
-}
-
-// The pair whose low end has the first token t, and the end of its declaration.
-fn put_pair(values: &[u32], t: usize, low: usize, high: usize, out: &mut [u8], at: usize) -> usize
-    requires { (t < 131072) × (low < 2) }
-    ensures { Put out.old at (pair_bytes (λ j. get_or values.now j 0) t low high) out.new result }
-{
-    let p = put_end(values, t, low, out, at);
-    let p = put_bytes(out, p, b" .. ");
-    let p = put_end(values, t + low + 2, high, out, p);
-    put_bytes(out, p, b";\n")
-}
-
-// A statement of a kind that holds no other part, at a token; of any other kind nothing.
-fn put_plain(
-    text: &[u8],
-    places: &[u32],
-    values: &[u32],
-    k: u32,
-    token: usize,
-    depth: usize,
-    out: &mut [u8],
-    at: usize,
-) -> usize
-    requires { (token < 4294967296) × (depth < 4294967296) }
-    ensures { Put out.old at (plain_bytes (spelled text.now places.now values.now) depth k token) out.new result }
-{
-    match k {
-        kind::EMPTY => put_words(out, at, depth, b";\n"),
-        kind::FAIL => put_words(out, at, depth, b"fail;\n"),
-        kind::DECLARE => put_declared(text, places, values, token, depth, b";\n", out, at),
-        kind::DECLARE_FREE => {
-            put_declared(text, places, values, token, depth, b" free;\n", out, at)
-        }
-        _ => at,
-    }
-}
-
-// A statement, statements, or these in braces, at a depth.
-fn statement(
-    text: &[u8],
-    places: &[u32],
-    values: &[u32],
-    nodes: &[u32],
-    i: usize,
-    depth: usize,
-    out: &mut [u8],
-    at: usize,
-) -> usize
-    requires { Part 1 nodes.now i × (depth + i < 131072) }
-    ensures { Lays (spelled text.now places.now values.now) (λ j. get_or values.now j 0)
-        nodes.now i depth out.old at out.new result }
-{
-    let node = fetch(nodes, i);
-    let k = node.kind;
-    match k {
-        kind::DECLARE_OWN => {
-            let p = put_declared(text, places, values, node.token, depth, b" free ", out, at);
-            put_pair(values, node.token + 3, node.first, node.second, out, p)
-        }
-        kind::ASSIGN => {
-            let p = put_margin(out, at, depth);
-            let p = put_name(text, places, values, node.token, out, p);
-            put_line(
-                text, places, values, nodes, node.first, 0, b" = ", b";\n", out, p,
-            )
-        }
-        kind::EVAL => put_line(
-            text, places, values, nodes, node.first, depth, b"", b";\n", out, at,
-        ),
-        kind::RETURN => {
-            put_line(
-                text, places, values, nodes, node.first, depth, b"return ", b";\n", out, at,
-            )
-        }
-        kind::BLOCK => statement(text, places, values, nodes, node.first, depth, out, at),
-        kind::IF_ELSE => {
-            let p = put_line(
-                text, places, values, nodes, node.first, depth, b"if (", b")\n", out, at,
-            );
-            let p = statement(text, places, values, nodes, node.second, depth + 1, out, p);
-            let p = put_words(out, p, depth, b"else\n");
-            statement(text, places, values, nodes, node.third, depth + 1, out, p)
-        }
-        kind::WHILE => {
-            let p = put_line(
-                text, places, values, nodes, node.first, depth, b"while (", b")\n", out, at,
-            );
-            statement(text, places, values, nodes, node.second, depth + 1, out, p)
-        }
-        kind::MORE_STMTS => {
-            let p = statement(text, places, values, nodes, node.first, depth, out, at);
-            statement(text, places, values, nodes, node.second, depth, out, p)
-        }
-        kind::BRACED => {
-            let p = put_words(out, at, depth, b"{\n");
-            let p = statement(text, places, values, nodes, node.first, depth + 1, out, p);
-            put_words(out, p, depth, b"}\n")
-        }
-        _ => put_plain(text, places, values, k, node.token, depth, out, at),
-    }
-}
-
-// Functions, a function or parameters.
-fn program(
-    text: &[u8],
-    places: &[u32],
-    values: &[u32],
-    nodes: &[u32],
-    i: usize,
-    out: &mut [u8],
-    at: usize,
-) -> usize
-    requires { Part 2 nodes.now i }
-    ensures { Lays (spelled text.now places.now values.now) (λ j. get_or values.now j 0)
-        nodes.now i 0 out.old at out.new result }
-{
-    let node = fetch(nodes, i);
-    let k = node.kind;
-    match k {
-        kind::MORE_PARAMS => {
-            let before = fetch(nodes, node.first);
-            let p = program(text, places, values, nodes, node.first, out, at);
-            let p = put_comma(out, p, before.kind);
-            put_typed(text, places, values, node.token, out, p)
-        }
-        kind::FUNCTION => {
-            let p = put_typed(text, places, values, node.token, out, at);
-            let p = put_byte(out, p, b'(');
-            let p = program(text, places, values, nodes, node.first, out, p);
-            let p = put_bytes(out, p, b")\n");
-            statement(text, places, values, nodes, node.second, 0, out, p)
-        }
-        kind::MORE_FUNS => {
-            let p = program(text, places, values, nodes, node.first, out, at);
-            program(text, places, values, nodes, node.second, out, p)
-        }
-        _ => at,
-    }
-}
-
-// The program at node `root`, if the slice has room for all of it: measured first, then put.
-fn put_whole(
-    text: &[u8],
-    places: &[u32],
-    values: &[u32],
-    nodes: &[u32],
-    root: usize,
-    out: &mut [u8],
-) -> Written
-    requires { Part 2 nodes.now root }
-    ensures { Fills (spelled text.now places.now values.now) (λ j. get_or values.now j 0)
-        nodes.now root out.old (answer_of result) out.new }
-{
-    let mut unread = [0u8; 1];
-    let length = program(text, places, values, nodes, root, &mut unread, 0);
-    if out.len() < length {
-        return Written::Refused(20, 0);
-    }
-    let written = program(text, places, values, nodes, root, out, 0);
-    Written::Length(written)
-}
-
-// The house style of a text, with slices lent for its analysis.
-fn write_analysed(
-    text: &[u8],
-    kinds: &mut [u8],
-    places: &mut [u32],
-    values: &mut [u32],
-    nodes: &mut [u32],
-    events: &mut [u32],
-    heads: &mut [u32],
-    scope: &mut [u32],
-    slots: &mut [u32],
-    out: &mut [u8],
-) -> Written
-    requires { Slices kinds.old places.old values.old nodes.old events.old heads.old scope.old slots.old }
+// The house style of a text, at the front of out, and its length; or a refusal, as check's, or one of short output if out is too short for the whole. Then nothing is written.
+pub fn write(text: &[u8], out: &mut [u8]) -> Result<usize, Refusal>
     ensures { left (answer_of result) out.new ≡ wrote text.now out.old }
 {
-    let analysed = checker::analyse(
-        text, kinds, places, values, nodes, events, heads, scope, slots,
-    );
-    match analysed {
-        Analysed::Refused(number, place) => Written::Refused(number, place),
-        Analysed::Fine {
-            tokens,
-            root,
-            events: _,
-            functions: _,
-        } => put_whole(text, &places[..tokens], &values[..tokens], nodes, root, out),
-    }
-}
-
-// The house style of a text, at the front of out, and its length; or a refusal, as check's, or 20 if out is too short for the whole. Then nothing is written.
-pub fn write(text: &[u8], out: &mut [u8]) -> Written
-    ensures { left (answer_of result) out.new ≡ wrote text.now out.old }
-{
-    let mut kinds = [0u8; sizes::TOKENS];
-    let mut places = [0u32; sizes::TOKENS];
-    let mut values = [0u32; sizes::TOKENS];
-    let mut nodes = [0u32; sizes::NODES];
-    let mut events = [0u32; sizes::EVENTS];
-    let mut heads = [0u32; sizes::HEADS];
-    let mut scope = [0u32; sizes::SCOPE];
-    let mut slots = [0u32; sizes::TOKENS];
-    write_analysed(
-        text,
-        &mut kinds,
-        &mut places,
-        &mut values,
-        &mut nodes,
-        &mut events,
-        &mut heads,
-        &mut scope,
-        &mut slots,
-        out,
-    )
+    let mut tables = Tables::new();
+    let analysis = checker::analyse(text, &mut tables)?;
+    put_whole(&analysis, out)
 }
 
 // Enough bytes for the house style of any text: 64 for each of its bytes.
@@ -528,7 +381,10 @@ pub fn print(text: &[u8], out: &mut [u8; ROOM]) -> usize
     ensures { Wrote out.old (printed text.now) out.new result }
 {
     match write(text, out) {
-        Written::Refused(number, place) => lines::put_refusal(out, 0, number, place as u32),
-        Written::Length(length) => length,
+        Ok(length) => length,
+        Err(refusal) => {
+            let number = u32::from(refusal.reason);
+            lines::put_refusal(out, 0, number, refusal.place as u32)
+        }
     }
 }

@@ -7,10 +7,10 @@ pub returns-then-answer-lt2 : goal.returns-then-answer-lt2
 returns-then-answer-lt2 c = rw (lt-ltb _ _ c.if-answer-lt2.true)
 
 pub overflow_cast-answer : goal.overflow_cast-answer
-overflow_cast-answer c = omega (arith, low-place _ _ _ (rw c.in-Refused.is at c.check.ensures))
+overflow_cast-answer c = omega (arith, low-place _ _ _ (rw c.in-Err.is at c.check.ensures))
 
-pub returns-in-Accepted : goal.returns-in-Accepted
-returns-in-Accepted c = rw (le-ltb _ _ c.if-answer-lt2.false, ← (rw c.in-Accepted.is at c.check.ensures))
+pub returns-in-Ok : goal.returns-in-Ok
+returns-in-Ok c = rw (le-ltb _ _ c.if-answer-lt2.false, ← (rw c.in-Ok.is at c.check.ensures))
 
-pub returns-in-Refused : goal.returns-in-Refused
-returns-in-Refused c = rw (le-ltb _ _ c.if-answer-lt2.false, ← (rw c.in-Refused.is at c.check.ensures))
+pub returns-in-Err : goal.returns-in-Err
+returns-in-Err c = rw (le-ltb _ _ c.if-answer-lt2.false, c.from-reason.ensures, ← (rw c.in-Err.is at c.check.ensures))

@@ -8,10 +8,6 @@ use Rattle.lexer.proofs.Bytes.{class-digit, same-class}
 use Rattle.lexer.proofs.Numbers.{byte-digit, byte-skipped}
 use Rattle.lexer.proofs.with_byte.Goals as goal
 
-pub with_digit-requires : goal.with_digit-requires
-with_digit-requires c =
-    (c.requires, class-digit c.args.b (omega (arith, c.ranges.b)) ∙ eq-eqb (class_of c.args.b) 4 (sym c.of.ensures ∙ ap class_number c.in-Digit.is))
-
 pub returns-in-Digit : goal.returns-in-Digit
 returns-in-Digit c =
     let d = class-digit c.args.b (omega (arith, c.ranges.b)) ∙ eq-eqb (class_of c.args.b) 4 (sym c.of.ensures ∙ ap class_number c.in-Digit.is) in

@@ -3,7 +3,7 @@ use mathlib.Core.Path.{◌≡◌}
 use native.Mathlib.Omega.{arith}
 use native.Mathlib.Decide.{dec_lt}
 use lib.ListN.{get_or, replicate, get_or-replicate, get_or-eq_default}
-use Rattle.remarks.proofs.Marking.{stored-below}
+use Rattle.remarks.proofs.Marking.{callee-below}
 use Rattle.remarks.proofs.Writing.{unreached}
 use Rattle.remarks.proofs.list.Goals as goal
 
@@ -15,11 +15,6 @@ zero-words g = go (dec_lt g 16)
     go (yes h) = get_or-replicate 16 g 0 0 h
     go (no h) = get_or-eq_default {A = ℕ} (replicate 16 0) 0 {n = g} (omega (arith, h))
 
-pub reach-requires : goal.reach-requires
-reach-requires c = (c.requires.0.listed, c.requires.0.stored, c.requires.0.few, omega (arith, c.main_number-main.ensures, c.requires.0.main, c.requires.0.few), zero-words)
-
-pub write-requires : goal.write-requires
-write-requires c = (c.requires.0.stored, omega (arith, c.requires.0.few, c.requires.1), c.requires.0.fits)
-
 pub returns : goal.returns
-returns c = unreached _ _ _ (stored-below _ _ _ _ _) c.requires.0.main (rw c.main_number-main.ensures at c.reach.ensures) c.write.ensures
+returns c =
+    unreached _ _ _ (callee-below _ _ 0 _) c.requires.0.main (rw c.main_number-main.ensures at c.reach.ensures) (rw c.as_slice.ensures.heads at c.write.ensures)

@@ -2,7 +2,7 @@ use Prim.Native.Nat.{ℕ}
 use mathlib.Core.Path.{◌≡◌, refl}
 use mathlib.Core.Bool.{Bool}
 use mathlib.Core.List.{List}
-use mathlib.Core.Option.{none}
+use Rattle.std.specs.Prelude.{None}
 use Rattle.events.specs.declared.event.Event.{Event}
 use Rattle.events.specs.declared.event.Event.TheVariants.{Function, Parameter, Thing, Opens, Closes, Declares, Uses, Calls, Ends}
 use Rattle.text_rules.specs.Rules.{Head}
@@ -12,7 +12,7 @@ use Rattle.remarks.specs.Steps.{fresh}
 use Rattle.remarks.proofs.newly_called.Goals as goal
 
 -- Only a call calls.
-other : (same : ℕ → ℕ → Bool) (hs : List Head) (l : List ℕ) (f : ℕ) (x : Event) → ((i n : ℕ) → x ≡ Calls i n → ⊥) → none ≡ fresh l (called_by same hs f (as_event x))
+other : (same : ℕ → ℕ → Bool) (hs : List Head) (l : List ℕ) (f : ℕ) (x : Event) → ((i n : ℕ) → x ≡ Calls i n → ⊥) → None ≡ fresh l (called_by same hs f (as_event x))
 unfolding called_by fresh
 other same hs l f (Function i) h = refl
 other same hs l f (Parameter i) h = refl

@@ -1,27 +1,18 @@
 use native.Mathlib.Omega.{arith}
-use mathlib.Core.Path.{refl, ◌∙◌}
-use borrow.Author.Rules.{rules}
-use Rattle.remarks.proofs.Telling.{fifteen, enough}
+use mathlib.Core.Path.{◌∙◌}
+use Rattle.checker.proofs.Passing.{passed}
+use Rattle.remarks.proofs.Telling.{refused-so, fair-so, counted-so, fifteen, enough}
 use Rattle.remarks.proofs.remarks.Goals as goal
 
 -- 15, or as check.
 pub returns-then-offsets-lt16 : goal.returns-then-offsets-lt16
 returns-then-offsets-lt16 c = fifteen _ _ (omega (arith, c.if-offsets-lt16.true))
 
-pub remark-requires : goal.remark-requires
-remark-requires c = (
-  record {
-    kinds = search rules;
-    places = search rules;
-    values = search rules;
-    table = search rules;
-    words = search rules;
-    functions = search rules;
-    blocks = search rules;
-    blank = refl;
-  },
-  search rules,
-)
+pub returns-in_err-analysis : goal.returns-in_err-analysis
+returns-in_err-analysis c = rw (passed _ c.from_residual.ensures.1) (refused-so c.in_err-analysis.ensures ∙ enough _ _ (omega (arith, c.if-offsets-lt16.false)))
+
+pub list-requires : goal.list-requires
+list-requires c = (fair-so c.in_ok-analysis.ensures, omega (arith, c.if-offsets-lt16.false))
 
 pub returns : goal.returns
-returns c = c.remark.ensures ∙ enough _ _ (omega (arith, c.if-offsets-lt16.false))
+returns c = counted-so c.in_ok-analysis.ensures c.list.ensures ∙ enough _ _ (omega (arith, c.if-offsets-lt16.false))

@@ -1,13 +1,13 @@
-use borrow.Author.Rules.{rules}
+use Rattle.std.proofs.Common.{rules}
 use native.Mathlib.Omega.{arith}
-use Rattle.writer.proofs.Answered.{low-place, printed-refused, printed-whole}
+use Rattle.writer.proofs.Answered.{low-place, printed-number, printed-whole}
 use Rattle.writer.proofs.print.Goals as goal
 
-pub overflow_cast-place : goal.overflow_cast-place
-overflow_cast-place c = omega (arith, low-place _ _ (rw c.in-Refused.is at c.write.ensures))
+pub overflow_cast-refusal : goal.overflow_cast-refusal
+overflow_cast-refusal c = omega (arith, low-place _ _ c.in-Err.ensures)
 
-pub returns-in-Refused : goal.returns-in-Refused
-returns-in-Refused c = printed-refused _ _ (search rules) (rw c.in-Refused.is at c.write.ensures) (search rules) c.put_refusal.ensures
+pub returns-in-Err : goal.returns-in-Err
+returns-in-Err c = printed-number _ _ (search rules) c.from-number.ensures c.in-Err.ensures (search rules) c.put_refusal.ensures
 
-pub returns-in-Length : goal.returns-in-Length
-returns-in-Length c = printed-whole _ _ (search rules) (rw c.in-Length.is at c.write.ensures)
+pub returns-in-Ok : goal.returns-in-Ok
+returns-in-Ok c = printed-whole _ _ (search rules) c.in-Ok.ensures

@@ -1,7 +1,6 @@
 use Prim.Native.Nat.{ℕ, ◌+◌}
 use mathlib.Core.Path.{refl, sym, ap, ◌∙◌}
 use native.Mathlib.Omega.{arith}
-use lib.ListN.{length, length-map}
 use Rattle.events.specs.Event.{Event, function, parameter, thing, opens, closes, declares, uses, calls, ends}
 use Rattle.text_rules.specs.Scan.{least}
 use Rattle.text_rules.specs.Rules.{Tally, counted, over, too_many}
@@ -23,11 +22,6 @@ within_more i t (ends x b) w = omega arith
 
 pub loop-event-init : goal.loop-event-init
 loop-event-init c = (omega arith, ahead-start counted over _ _)
-
-pub count-tally-requires : goal.count-tally-requires
-count-tally-requires c =
-    let e = simp length-map at (ap length c.as_slice-event-items.ensures.events) in
-    omega (arith, e, c.loop-event.invariant.0, c.loop-event-test.true, c.as_slice-event-items.ensures.few)
 
 pub loop-event-preserved : goal.loop-event-preserved
 loop-event-preserved c =

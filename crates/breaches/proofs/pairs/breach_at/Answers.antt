@@ -1,10 +1,9 @@
 use mathlib.Core.Path.{ap}
-use native.Mathlib.Omega.{arith}
 use mir.Facts.{to_z-of_z}
 use Rattle.syntax.specs.TokenKinds.{kind_number}
 use Rattle.syntax.proofs.SameKinds.{same-token}
 use Rattle.breaches.specs.Pairs.{wide_rule}
-use Rattle.breaches.proofs.OwnPairs.{bit-small, not_free, plain-free, breach-found, breach-none}
+use Rattle.breaches.proofs.OwnPairs.{not_free, plain-free, breach-found, breach-none}
 use Rattle.breaches.proofs.pairs.breach_at.Goals as goal
 
 pub returns-in_default : goal.returns-in_default
@@ -14,12 +13,6 @@ returns-in_default c =
 pub returns-in-Semi : goal.returns-in-Semi
 returns-in-Semi c =
     plain-free c.args.source.now.kinds c.args.source.now.values (wide_rule c.args.rule) c.args.i c.kind.ensures (ap kind_number c.in-Free.is) _ c.kind-2.ensures (ap kind_number c.in-Semi.is)
-
-pub overflow_add-after : goal.overflow_add-after
-overflow_add-after c = omega (arith, c.number_token-number.ensures, bit-small c.is_minus-minus.result)
-
-pub number_token-requires : goal.number_token-requires
-number_token-requires c = omega (arith, c.number_token-number.ensures, bit-small c.is_minus-minus.result)
 
 pub returns-then-breaks : goal.returns-then-breaks
 returns-then-breaks c =

@@ -1,17 +1,10 @@
 use Prim.Native.Nat.{◌+◌}
 use mathlib.Core.Path.{ap, ◌∙◌}
-use native.Mathlib.Omega.{arith}
-use lib.ListN.{length, length-map}
 use Rattle.events.specs.declared.event.Event.TheVariants.{Function}
 use Rattle.text_rules.specs.Rules as R
 use Rattle.text_rules.proofs.Collects.{arity-is, gathered-add, gathered-pass, gathered-end}
 use Rattle.text_rules.proofs.heads.collect_heads.Goals.{in-Function, in_default}
 use Rattle.text_rules.proofs.heads.collect_heads.Goals as goal
-
-pub push-requires : goal.push-requires
-push-requires c =
-    let e = simp length-map at (ap length c.as_slice-list.ensures.events) in
-    omega (arith, e, c.as_slice-list.ensures.few, c.loop-i.invariant.0, c.loop-i-test.true)
 
 pub loop-i-preserved : goal.loop-i-preserved
 loop-i-preserved c =

@@ -1,4 +1,0 @@
-use Rattle.writer.proofs.+program.Given as goal
-
-abbrev pub decreases-program : goal.decreases-program
-decreases-program l = l.i

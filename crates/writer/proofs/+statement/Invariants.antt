@@ -1,4 +1,0 @@
-use Rattle.writer.proofs.+statement.Given as goal
-
-abbrev pub decreases-statement : goal.decreases-statement
-decreases-statement l = l.i
