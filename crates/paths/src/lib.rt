@@ -83,10 +83,8 @@ impl Point {
         ensures { result ≡ declaring self run }
     {
         Point {
-            run,
-            steps: self.steps - 1,
             windows: self.windows + 1,
-            ..self
+            ..self.spend(run)
         }
     }
 }

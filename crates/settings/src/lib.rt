@@ -429,6 +429,7 @@ fn seek(mem: &mut [u32], plan: Plan, tests: usize, k: usize, most: u32) -> Sough
     ensures { Seeking mem.old mem.new plan.upto tests k most result × Steady mem.old mem.new }
 {
     let mut left = most;
+    // A budget, and no count: a sweep makes more than one move of it.
     while 0 < left {
         work(mem, 0, plan.first, k);
         match sweep(mem, plan, tests, k, left) {

@@ -156,6 +156,7 @@ fn drop_after(mem: &[u32], s: Stack, i: usize) -> Stack
     ensures { Dropped mem.now s i result }
 {
     let mut w = s.height;
+    // From checkpoint to checkpoint: the step is as long as each one is.
     while checkpoints::NUMBERS <= w {
         let p = checkpoints::point_at(mem, w - checkpoints::NUMBERS);
         if p.choices <= i {
