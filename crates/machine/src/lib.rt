@@ -26,6 +26,12 @@ pub enum Value {
     Open(usize),
 }
 
+// What stands in a cell of the memory: the struct that holds a value there, as the form named for this place asks.
+#[derive(Clone, Copy, PartialEq, Eq, Debug)]
+pub struct Cell {
+    pub value: Value,
+}
+
 // The machine's state, beside the memory: the entry to be worked next, the flag, where the temporaries of the function that runs begin and end, how many functions wait for it, and how many nodes there are.
 #[derive(Clone, Copy)]
 pub struct Run {
@@ -104,24 +110,25 @@ pub struct Both {
     pub top: usize,
 }
 
-// The value in the cell at a word.
-fn load(mem: &[u32], at: usize) -> Value
+// The cell at a word.
+fn load(mem: &[u32], at: usize) -> Cell
     requires { at + 1 < length mem.now }
-    ensures { Holds mem.now at result }
+    ensures { Holds mem.now at result.value }
 {
-    if mem[at] == 0 {
+    let value = if mem[at] == 0 {
         Value::Known(ints::signed(mem[at + 1]))
     } else {
         Value::Open(mem[at + 1] as usize)
-    }
+    };
+    Cell { value }
 }
 
-// Writes a value into a cell.
-fn put(mem: &mut [u32], at: usize, v: Value)
-    requires { (at + 1 < length mem.old) × Sized v }
-    ensures { Put mem.old mem.new at (cell_of v) }
+// Writes a cell.
+fn put(mem: &mut [u32], at: usize, cell: Cell)
+    requires { (at + 1 < length mem.old) × Sized cell.value }
+    ensures { Put mem.old mem.new at (cell_of cell.value) }
 {
-    match v {
+    match cell.value {
         Value::Known(z) => {
             mem[at] = 0;
             mem[at + 1] = ints::word(z);
@@ -197,7 +204,7 @@ fn pop(mem: &[u32], run: Run) -> Took
         };
     }
     Took {
-        value: load(mem, layout::TEMPORARIES + layout::STRIDE * (run.top - 1)),
+        value: load(mem, layout::TEMPORARIES + layout::STRIDE * (run.top - 1)).value,
         top: run.top - 1,
     }
 }
@@ -207,7 +214,7 @@ fn variable(mem: &[u32], run: Run, a: Address) -> Value
     requires { Ready mem.now run × (a.0 < frame_cells) }
     ensures { Holds mem.now (variable_place run.depth a.0) result }
 {
-    load(mem, layout::FRAME * run.depth + layout::CELL * a.0)
+    load(mem, layout::FRAME * run.depth + layout::CELL * a.0).value
 }
 
 // The operand that ends just before entry j.
@@ -255,7 +262,7 @@ fn operate(mem: &mut [u32], run: Run, op: Operation, p: Both) -> Run
     put(
         mem,
         layout::TEMPORARIES + layout::STRIDE * p.top,
-        made.value,
+        Cell { value: made.value },
     );
     Run {
         pc: run.pc + 1,
@@ -271,7 +278,11 @@ fn store(code: &Code, mem: &mut [u32], run: Run, a: Address) -> Run
     ensures { Goes Doing.silent 0 (acts code.now mem.old run (storeS (slot a.0))) mem.old run.nodes mem.new result }
 {
     let t = take(code, mem, run, run.pc);
-    put(mem, layout::FRAME * run.depth + layout::CELL * a.0, t.value);
+    put(
+        mem,
+        layout::FRAME * run.depth + layout::CELL * a.0,
+        Cell { value: t.value },
+    );
     Run {
         pc: run.pc + 1,
         top: t.top,
@@ -288,7 +299,9 @@ fn ask(mem: &mut [u32], run: Run, a: Address, k: u32) -> Run
     put(
         mem,
         layout::FRAME * run.depth + layout::CELL * a.0,
-        Value::Open(run.nodes),
+        Cell {
+            value: Value::Open(run.nodes),
+        },
     );
     Run {
         pc: run.pc + 1,
@@ -334,7 +347,7 @@ fn leave(code: &Code, mem: &mut [u32], run: Run) -> Run
     put(
         mem,
         layout::TEMPORARIES + layout::STRIDE * run.base,
-        t.value,
+        Cell { value: t.value },
     );
     Run {
         pc,
@@ -351,7 +364,13 @@ fn blank(mem: &mut [u32], at: usize)
     ensures { Blank mem.old mem.new at frame_cells }
 {
     for i in 0..layout::CELLS {
-        put(mem, at + layout::CELL * i, Value::Known(0));
+        put(
+            mem,
+            at + layout::CELL * i,
+            Cell {
+                value: Value::Known(0),
+            },
+        );
     }
 }
 
@@ -384,7 +403,7 @@ fn gather(code: &Code, mem: &mut [u32], run: Run, n: usize) -> usize
         j = e.saturating_sub(d);
         top = t.top;
         if k < layout::CELLS {
-            put(mem, at + layout::CELL * k, t.value);
+            put(mem, at + layout::CELL * k, Cell { value: t.value });
         }
     }
     top

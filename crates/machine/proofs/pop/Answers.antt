@@ -5,5 +5,5 @@ pub returns-then-run : goal.returns-then-run
 returns-then-run c = popped-none c.args.mem.now c.args.run c.if-run.true
 
 pub returns : goal.returns
-returns c = popped-one c.args.mem.now c.args.run c.load.result
+returns c = popped-one c.args.mem.now c.args.run c.load.result.value
     c.requires c.if-run.false c.load.ensures
