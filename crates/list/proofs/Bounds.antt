@@ -1,7 +1,7 @@
 -- What list answers is small: the place of a refusal is at most 2,048, and each row written was a move.
 use Prim.Native.Nat.{ℕ, ◌≤◌, ◌/◌}
 use mathlib.Core.List.{List}
-use mathlib.Core.Option.{Option, none, some}
+use Rattle.std.specs.Prelude.{Option, None, Some}
 use native.Mathlib.Omega.{arith}
 use lib.ListN.{length}
 use lib.IntN.{ℤ}
@@ -23,9 +23,9 @@ unfolding list S.listed
 small-answer text low high steps skip budget rows scratch = go (ground (length scratch) low high steps) (checked text) (checked-low text)
   where
     go : (g : Option ℕ) (v : Verdict) → Within 2048 v → Small budget (answering rows scratch (S.listed in_use (job_of text low high steps) skip (places rows) budget) g v).answer
-    go (some n) v w = omega arith
-    go none (C.refused n p) w = place w
+    go (Some n) v w = omega arith
+    go None (C.refused n p) w = place w
       where
         place : Within 2048 (C.refused n p) → p ≤ 2048
         place (W.low h) = h
-    go none C.accepted w = (few-rows S.whole (S.search in_use (job_of text low high steps)) skip (length rows / 10) budget).1
+    go None C.accepted w = (few-rows S.whole (S.search in_use (job_of text low high steps)) skip (length rows / 10) budget).1

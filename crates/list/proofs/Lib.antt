@@ -3,7 +3,6 @@ pub mod Sure
 pub mod Promises
 pub mod Examples
 pub mod Grounds
-pub mod Cleared
 pub mod Values
 pub mod Building
 pub mod Searching

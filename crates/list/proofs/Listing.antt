@@ -3,13 +3,16 @@ use Prim.Native.Nat.{ℕ, ◌≤◌}
 use mathlib.Core.Path.{◌≡◌, refl, sym, ap, ◌∙◌}
 use mathlib.Core.Bool.{Bool, true, false, cond, ◌||◌}
 use mathlib.Core.List.{List}
-use mathlib.Core.Option.{Option, none, some}
+use Rattle.std.specs.Prelude.{Option, None, Some, Ok, Err}
 use native.Mathlib.Omega.{arith}
 use lib.ListN.{length}
 use lib.Dec.{ltb, eqb}
 use lib.IntN.{ℤ, pos, negsuc}
 use lib.Signed.{le_z, lt_z}
 use borrow.Author.Tests.{ltb-false, le-leb}
+use Rattle.syntax.specs.Refusals.{number_of}
+use Rattle.syntax.specs.declared.refusal.Reason.{Reason}
+use Rattle.syntax.specs.declared.refusal.Refusal.{Refusal}
 use Rattle.checker.specs.Check.{Verdict, checked}
 use Rattle.semantics.specs.Run.{numbers}
 use Rattle.semantics.specs.Search as S
@@ -19,8 +22,6 @@ use Rattle.list.specs.Parts.{leaves}
 use Rattle.list.specs.Code.{Codes, Translates, refuses, has, Searches}
 use Rattle.list.proofs.Values.{neither}
 use Rattle.list.proofs.Sure.{never_stuck}
-use Rattle.list.specs.declared.Listed.TheVariants as L
-use Rattle.list.specs.declared.Coded.TheVariants.{Refused, Entries}
 
 -- ---- without a ground
 
@@ -30,7 +31,7 @@ pub record Groundless (words : ℕ) (low high : ℤ) (steps : ℕ) : Type 0 wher
   pub window : le_z low high ≡ true
   pub limit : steps ≤ 1000
 
-past : (b : Bool) (n : ℕ) (o : Option ℕ) → cond b (some n) o ≡ none → (b ≡ false) × (o ≡ none)
+past : (b : Bool) (n : ℕ) (o : Option ℕ) → cond b (Some n) o ≡ None → (b ≡ false) × (o ≡ None)
 past true n o e = let z : ◌≡◌ {A = ℕ} 0 1 = cc in absurd (omega arith)
 past false n o e = (refl, e)
 
@@ -40,7 +41,7 @@ le_of (pos a) (negsuc b) e = absurd (let z : ◌≡◌ {A = ℕ} 0 1 = cc in ome
 le_of (negsuc a) (pos b) e = refl
 le_of (negsuc a) (negsuc b) e = le-leb b a (ltb-false a b e)
 
-pub groundless : (words : ℕ) (low high : ℤ) (steps : ℕ) → none ≡ ground words low high steps → Groundless words low high steps
+pub groundless : (words : ℕ) (low high : ℤ) (steps : ℕ) → None ≡ ground words low high steps → Groundless words low high steps
 unfolding ground
 groundless words low high steps e =
     let a = past (ltb words 16384) 11 _ (sym e) in
@@ -61,28 +62,28 @@ module _ (text : List ℕ) (low high : ℤ) (steps skip budget : ℕ) (rows : Li
   by = answering rows scratch (S.listed in_use (job_of text low high steps) skip (places rows) budget)
 
   -- 11 to 14
-  pub list-grounded : (n : ℕ) → some n ≡ ground (length scratch) low high steps → leaves (L.Refused n 0) rows scratch ≡ list text low high steps skip budget rows scratch
+  pub list-grounded : (r : Reason) → Some (number_of r) ≡ ground (length scratch) low high steps → leaves (Err (record { reason = r; place = 0 })) rows scratch ≡ list text low high steps skip budget rows scratch
   unfolding list
-  list-grounded n e = ap (λ (g : Option ℕ). by g (checked text)) e
+  list-grounded r e = ap (λ (g : Option ℕ). by g (checked text)) e
 
   -- "then as check"
-  module _ (free : none ≡ ground (length scratch) low high steps) where
-    list-checked : (v : Verdict) → v ≡ checked text → by none v ≡ list text low high steps skip budget rows scratch
+  module _ (free : None ≡ ground (length scratch) low high steps) where
+    list-checked : (v : Verdict) → v ≡ checked text → by None v ≡ list text low high steps skip budget rows scratch
     unfolding list
-    list-checked v e = ap (by none) e ∙ ap (λ (g : Option ℕ). by g (checked text)) free
+    list-checked v e = ap (by None) e ∙ ap (λ (g : Option ℕ). by g (checked text)) free
 
-    pub list-refused : {code : List ℕ} {n p : ℕ} → Translates text code (Refused n p) (checked text) → leaves (L.Refused n p) rows scratch ≡ list text low high steps skip budget rows scratch
-    list-refused {code} {n} {p} t = go (checked text) refl t
+    pub list-refused : {code : List ℕ} {r : Refusal} → Translates text code (Err r) (checked text) → leaves (Err r) rows scratch ≡ list text low high steps skip budget rows scratch
+    list-refused {code} {r} t = go (checked text) refl t
       where
-        go : (v : Verdict) → v ≡ checked text → Translates text code (Refused n p) v → leaves (L.Refused n p) rows scratch ≡ list text low high steps skip budget rows scratch
+        go : (v : Verdict) → v ≡ checked text → Translates text code (Err r) v → leaves (Err r) rows scratch ≡ list text low high steps skip budget rows scratch
         go v e refuses = list-checked v e
 
     -- "Else scratch is left all zero, with rows written, moves made and an ending"
-    pub list-searched : {code : List ℕ} {n : ℕ} {left : Left} → Translates text code (Entries n) (checked text) → Searches code n low high steps skip budget rows scratch left → left ≡ list text low high steps skip budget rows scratch
+    pub list-searched : {code : List ℕ} {n : ℕ} {left : Left} → Translates text code (Ok n) (checked text) → Searches code n low high steps skip budget rows scratch left → left ≡ list text low high steps skip budget rows scratch
     list-searched {code} {n} {left} t s = go (checked text) refl t
       where
-        go : (v : Verdict) → v ≡ checked text → Translates text code (Entries n) v → left ≡ list text low high steps skip budget rows scratch
+        go : (v : Verdict) → v ≡ checked text → Translates text code (Ok n) v → left ≡ list text low high steps skip budget rows scratch
         go v e (has c) = s.is text c.placed (never_stuck text (sym e) known work steps) ∙ list-checked v e
 
-pub codes-of : {text code : List ℕ} {n : ℕ} {v : Verdict} → Translates text code (Entries n) v → Codes text code n
+pub codes-of : {text code : List ℕ} {n : ℕ} {v : Verdict} → Translates text code (Ok n) v → Codes text code n
 codes-of (has c) = c

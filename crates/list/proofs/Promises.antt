@@ -2,7 +2,7 @@
 use Prim.Native.Nat.{ℕ, ◌/◌}
 use mathlib.Core.Path.{◌≡◌, refl, sym, subst, ap, ap₂, ◌∙◌}
 use mathlib.Core.List.{List}
-use mathlib.Core.Option.{Option, none, some}
+use Rattle.std.specs.Prelude.{Option, None, Some}
 use lib.ListN.{length}
 use lib.IntN.{ℤ, pos, negsuc}
 use lib.Dec.{T, le→leb}
@@ -68,13 +68,13 @@ module _ (text : List ℕ) (low high : ℤ) (steps skip budget : ℕ) (rows : Li
   unfolds g v e f = ap (λ (g : Option ℕ). answering rows scratch found g (checked text)) e ∙ ap (answering rows scratch found g) f
 
   -- the third demand, for every job that is not refused; low and high are of 32 bits, as list takes them
-  module _ (f : SFits w32 low) (h : SFits w32 high) (g : ground (length scratch) low high steps ≡ none) (v : checked text ≡ C.accepted) where
+  module _ (f : SFits w32 low) (h : SFits w32 high) (g : ground (length scratch) low high steps ≡ None) (v : checked text ≡ C.accepted) where
     small : Job32 (job_of text low high steps)
     small = record { window = in-32 low high f h; pairs = pairs-32 text v }
 
     pub keeps : Keeps text low high steps skip budget rows scratch (list text low high steps skip budget rows scratch)
     keeps =
-        let e = unfolds none C.accepted g v in
+        let e = unfolds None C.accepted g v in
         let j = job_of text low high steps in
         record {
           plans = plans j;
@@ -102,13 +102,13 @@ module _ (text : List ℕ) (low high : ℤ) (steps skip budget : ℕ) (rows : Li
         let j = job_of text low high steps in
         let a : answer_with k.written k.moves k.ending ≡ found =
         promise-unique in_use in_use-sound j small skip (places rows) budget _ (subst (λ (l : List Row). Promised in_use j l skip (places rows) budget (answer_with k.written k.moves k.ending)) (plan-list-unique j small k.plans k.fixed) k.closes) in
-        left-path k.answered k.slice k.cleared ∙ ap (lists rows scratch) a ∙ sym (unfolds none C.accepted g v)
+        left-path k.answered k.slice k.cleared ∙ ap (lists rows scratch) a ∙ sym (unfolds None C.accepted g v)
 
   -- a refusal leaves both slices as they were
   untouched-by : (g : Option ℕ) (v : Verdict) (n p : ℕ) → (answering rows scratch found g v).answer ≡ refused n p → answering rows scratch found g v ≡ refuses rows scratch n p
-  untouched-by (some m) v n p e = ap₂ (refuses rows scratch) (ap number_in e) (ap place_in e)
-  untouched-by none (C.refused m q) n p e = ap₂ (refuses rows scratch) (ap number_in e) (ap place_in e)
-  untouched-by none C.accepted n p e = absurd (subst Refusal (sym e) tt)
+  untouched-by (Some m) v n p e = ap₂ (refuses rows scratch) (ap number_in e) (ap place_in e)
+  untouched-by None (C.refused m q) n p e = ap₂ (refuses rows scratch) (ap number_in e) (ap place_in e)
+  untouched-by None C.accepted n p e = absurd (subst Refusal (sym e) tt)
 
   pub untouched : (n p : ℕ) → (list text low high steps skip budget rows scratch).answer ≡ refused n p → list text low high steps skip budget rows scratch ≡ refuses rows scratch n p
   unfolding list
@@ -117,14 +117,14 @@ module _ (text : List ℕ) (low high : ℤ) (steps skip budget : ℕ) (rows : Li
 -- ---- whatever the slices held
 
 abbrev answer_by : Option ℕ → Verdict → S.Answer → Answer
-answer_by (some n) v a = refused n 0
-answer_by none (C.refused n p) a = refused n p
-answer_by none C.accepted a = listed (length a.rows) a.moves a.close
+answer_by (Some n) v a = refused n 0
+answer_by None (C.refused n p) a = refused n p
+answer_by None C.accepted a = listed (length a.rows) a.moves a.close
 
 same_by : (rows : List ℤ) (scratch : List ℕ) (a : S.Answer) (g : Option ℕ) (v : Verdict) → (answering rows scratch a g v).answer ≡ answer_by g v a
-same_by rows scratch a (some n) v = refl
-same_by rows scratch a none (C.refused n p) = refl
-same_by rows scratch a none C.accepted = refl
+same_by rows scratch a (Some n) v = refl
+same_by rows scratch a None (C.refused n p) = refl
+same_by rows scratch a None C.accepted = refl
 
 module _ (text : List ℕ) (low high : ℤ) (steps skip budget : ℕ) where
   -- the answer is the same for slices of the same lengths

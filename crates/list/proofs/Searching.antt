@@ -1,4 +1,5 @@
 -- What the search leaves is what list leaves.
+use Rattle.std.specs.Prelude.{Ok}
 use Prim.Native.Nat.{ℕ, ◌/◌}
 use mathlib.Core.Path.{◌≡◌, refl, sym, ap, ◌∙◌}
 use mathlib.Core.List.{List}
@@ -17,20 +18,19 @@ use Rattle.search.specs.declared.Answered.{Answered}
 use Rattle.list.specs.List.{program, job_of, Answer, listed, Left, lists}
 use Rattle.list.specs.Parts.{answer_of, leaves}
 use Rattle.list.specs.Code.{Searches}
-use Rattle.list.specs.declared.Listed.{Listed}
 
 abbrev left : Answer → List ℤ → List ℕ → Left
 left a rows scratch = record { answer = a; rows = rows; scratch = scratch }
 
-module _ (code : List ℕ) (n : ℕ) (low high : ℤ) (steps skip budget : ℕ) (rows rows' : List ℤ) (scratch scratch' : List ℕ) (a : Answered) (r : Listed) where
-  pub searched : Lists (code_in code n) (to low high) steps skip (length rows / 10) budget rows rows' a → answer_of r ≡ listed a.written a.moves (close_of a.ending) → scratch' ≡ replicate (length scratch) 0
-      → Searches code n low high steps skip budget rows scratch (leaves r rows' scratch')
-  searched l e z = record { is = by }
+module _ (code : List ℕ) (n : ℕ) (low high : ℤ) (steps skip budget : ℕ) (rows rows' : List ℤ) (scratch scratch' : List ℕ) (a : Answered) where
+  pub searched : Lists (code_in code n) (to low high) steps skip (length rows / 10) budget rows rows' a → scratch' ≡ replicate (length scratch) 0
+      → Searches code n low high steps skip budget rows scratch (leaves (Ok a) rows' scratch')
+  searched l z = record { is = by }
     where
-      by : (text : List ℕ) → Placed (code_in code n) (program text) → Sure (does known work steps (program text)) → leaves r rows' scratch' ≡ lists rows scratch (S.listed in_use (job_of text low high steps) skip (length rows / 10) budget)
+      by : (text : List ℕ) → Placed (code_in code n) (program text) → Sure (does known work steps (program text)) → leaves (Ok a) rows' scratch' ≡ lists rows scratch (S.listed in_use (job_of text low high steps) skip (length rows / 10) budget)
       by text p u =
           let x = loop.answer_of rows' a in
-          let k : answer_of r ≡ listed (length x.rows) x.moves x.close = e ∙ ap (λ (m : ℕ). listed m a.moves (close_of a.ending)) (sym (rows-length rows' a.written)) in
+          let k : answer_of (Ok a) ≡ listed (length x.rows) x.moves x.close = ap (λ (m : ℕ). listed m a.moves (close_of a.ending)) (sym (rows-length rows' a.written)) in
           ap (λ (b : Answer). left b rows' scratch') k
           ∙ ap (λ (s : List ℤ). left (listed (length x.rows) x.moves x.close) s scratch') l.sheet
           ∙ ap (left (listed (length x.rows) x.moves x.close) (sheet rows x.rows)) z

@@ -1,6 +1,6 @@
 -- List (document 01, "The three operations and the program"): what it answers, and every word of rows and scratch at exit, for every input.
 use Rattle.std.specs.Prelude.{ℕ, ◌/◌, cond, ◌||◌, List, [], length, replicate, ℤ, eqb, ltb}
-use Rattle.std.proofs.Math.Option.{Option, none, some}
+use Rattle.std.specs.Prelude.{Option, None, Some}
 use Rattle.std.specs.Int.Signed.{lt_z}
 use Rattle.lexer.specs.Lex as L
 use Rattle.lexer.specs.Lex.{lexed}
@@ -42,10 +42,10 @@ pub record Left : Type 0 where
 -- "It refuses, place 0: 11 scratch under 16,384 words; 12 low above high; 13 over 4,096 values; 14 steps 0 or over 1,000"
 unfoldable pub ground : (words : ℕ) (low high : ℤ) (steps : ℕ) → Option ℕ
 ground words low high steps =
-    cond (ltb words 16384) (some 11)
-    (cond (lt_z high low) (some 12)
-    (cond (ltb 4096 (length (numbers (to low high)))) (some 13)
-    (cond (eqb steps 0 || ltb 1000 steps) (some 14) none)))
+    cond (ltb words 16384) (Some 11)
+    (cond (lt_z high low) (Some 12)
+    (cond (ltb 4096 (length (numbers (to low high)))) (Some 13)
+    (cond (eqb steps 0 || ltb 1000 steps) (Some 14) None)))
 
 -- "A refusal writes nothing into what was lent."
 abbrev pub refuses : List ℤ → List ℕ → (number place : ℕ) → Left
@@ -57,9 +57,9 @@ lists rows scratch a = record { answer = listed (length a.rows) a.moves a.close;
 
 -- the first ground for a refusal, ".. then as check. Else .." what the search has found
 abbrev pub answering : List ℤ → List ℕ → S.Answer → Option ℕ → Verdict → Left
-answering rows scratch found (some n) v = refuses rows scratch n 0
-answering rows scratch found none (C.refused n p) = refuses rows scratch n p
-answering rows scratch found none C.accepted = lists rows scratch found
+answering rows scratch found (Some n) v = refuses rows scratch n 0
+answering rows scratch found None (C.refused n p) = refuses rows scratch n p
+answering rows scratch found None C.accepted = lists rows scratch found
 
 -- "as many rows as the slice has whole tens of words"
 abbrev pub places : List ℤ → ℕ

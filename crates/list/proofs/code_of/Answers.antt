@@ -1,18 +1,12 @@
-use mathlib.Core.Path.{refl}
-use borrow.Author.Rules.{rules}
+use Rattle.checker.proofs.Passing.{passed}
+use Rattle.list.proofs.Building.{refused-so, ready-so, translated}
 use Rattle.list.proofs.code_of.Goals as goal
 
-pub translate-requires : goal.translate-requires
-translate-requires c = (
-  record {
-    kinds = search rules;
-    places = search rules;
-    values = search rules;
-    table = search rules;
-    words = search rules;
-    functions = search rules;
-    blocks = search rules;
-    blank = refl;
-  },
-  c.requires,
-)
+pub returns-in_err-analysis : goal.returns-in_err-analysis
+returns-in_err-analysis c = rw (passed _ c.from_residual.ensures.1) (refused-so c.in_err-analysis.ensures)
+
+pub compile-n-requires : goal.compile-n-requires
+compile-n-requires c = ready-so c.in_ok-analysis.ensures _ _ c.main_number-main.ensures c.requires
+
+pub returns : goal.returns
+returns c = translated c.in_ok-analysis.ensures _ _ c.main_number-main.ensures c.requires c.compile-n.ensures

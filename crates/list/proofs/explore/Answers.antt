@@ -1,13 +1,15 @@
-use Prim.Native.Nat.{ℕ}
 use mathlib.Core.Path.{ap, ◌∙◌}
-use native.Mathlib.Omega.{arith}
+use Prim.Native.Nat.{ℕ}
 use lib.ListN.{replicate}
+use mir.Syntax.{w32}
+use mir.Val.{SFits}
 use mir.Facts.{to_z-of_z}
+use borrow.Author.Rules.{rules}
 use Rattle.list.proofs.Searching.{searched}
 use Rattle.list.proofs.explore.Goals as goal
 
-pub run-answered-requires : goal.run-answered-requires
-run-answered-requires c = rw (to_z-of_z c.ranges.low, to_z-of_z c.ranges.high) (c.requires.0, c.requires.1, record { words = omega (arith, c.requires.2, c.requires.4); small = omega (arith, c.requires.4) }, c.requires.3)
-
 pub returns : goal.returns
-returns c = searched _ _ _ _ _ _ _ _ _ _ _ c.run-answered.result c.conclude.result (rw (to_z-of_z c.ranges.low, to_z-of_z c.ranges.high) at c.run-answered.ensures) c.conclude.ensures (c.clear.ensures ∙ ap (λ (n : ℕ). replicate n 0) c.scratch-1.given)
+returns c =
+    let l : SFits w32 c.args.terms.low = search rules in
+    let h : SFits w32 c.args.terms.high = search rules in
+    searched _ _ _ _ _ _ _ _ _ c.args.scratch.now _ c.run-answered.result (rw (to_z-of_z l, to_z-of_z h) at c.run-answered.ensures) (c.fill.ensures.after (λ y e. e) ∙ ap (λ (n : ℕ). replicate n 0) c.run-answered.auto.mem)

@@ -1,12 +1,33 @@
+use mir.Syntax.{w32}
+use mir.Val.{SFits}
 use mir.Facts.{to_z-of_z}
-use Rattle.list.proofs.Listing.{list-grounded}
+use borrow.Author.Rules.{rules}
+use Rattle.checker.proofs.Passing.{passed}
+use Rattle.list.proofs.Listing.{groundless, list-grounded, list-refused, list-searched, codes-of}
 use Rattle.list.proofs.list.Goals as goal
 
-pub list_text-requires : goal.list_text-requires
-list_text-requires c = rw c.in-Nothing.is at c.refusal.ensures
+pub returns-in-Some : goal.returns-in-Some
+returns-in-Some c =
+    let l : SFits w32 c.args.terms.low = search rules in
+    let h : SFits w32 c.args.terms.high = search rules in
+    list-grounded _ _ _ _ _ _ _ _ _ (rw (to_z-of_z l, to_z-of_z h) at c.in-Some.ensures)
 
-pub returns-in-Number : goal.returns-in-Number
-returns-in-Number c = list-grounded _ _ _ _ _ _ _ _ _ (rw (c.in-Number.is, to_z-of_z c.ranges.low, to_z-of_z c.ranges.high) at c.refusal.ensures)
+pub returns-in_err-n : goal.returns-in_err-n
+returns-in_err-n c =
+    let l : SFits w32 c.args.terms.low = search rules in
+    let h : SFits w32 c.args.terms.high = search rules in
+    rw (passed _ c.from_residual.ensures.1) (list-refused _ _ _ _ _ _ _ _ (rw (to_z-of_z l, to_z-of_z h) at c.in_default.ensures) c.in_err-n.ensures)
 
-pub returns-in-Nothing : goal.returns-in-Nothing
-returns-in-Nothing c = rw (to_z-of_z c.ranges.low, to_z-of_z c.ranges.high) at c.list_text.ensures
+pub explore-requires : goal.explore-requires
+explore-requires c =
+    let l : SFits w32 c.args.terms.low = search rules in
+    let h : SFits w32 c.args.terms.high = search rules in
+    let k = codes-of c.in_ok-n.ensures in
+    let g = groundless _ _ _ _ (rw (to_z-of_z l, to_z-of_z h) at c.in_default.ensures) in
+    (k.room, k.few, g.scratch, g.window, g.limit)
+
+pub returns : goal.returns
+returns c =
+    let l : SFits w32 c.args.terms.low = search rules in
+    let h : SFits w32 c.args.terms.high = search rules in
+    list-searched _ _ _ _ _ _ _ _ (rw (to_z-of_z l, to_z-of_z h) at c.in_default.ensures) c.in_ok-n.ensures c.explore.ensures

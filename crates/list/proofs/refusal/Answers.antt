@@ -7,6 +7,7 @@ use mir.Facts.{to_z-of_z}
 use Rattle.semantics.specs.Run.{numbers}
 use Rattle.semantics.specs.Search.{to}
 use Rattle.list.proofs.Grounds.{ground-scratch, ground-window, ground-values, ground-no-steps, ground-steps, ground-none}
+use Rattle.list.proofs.refusal.Goals.{then-steps-eq0-via-then-steps-eq0, then-steps-eq0-via-else-steps-eq0+then-steps-gt1000}
 use Rattle.list.proofs.refusal.Goals as goal
 
 pub returns-then-words-lt16384 : goal.returns-then-words-lt16384
@@ -27,13 +28,11 @@ pub returns-then-steps-eq0 : goal.returns-then-steps-eq0
 returns-then-steps-eq0 c =
     let e : lt_z c.args.high c.args.low ≡ false = rw (to_z-of_z c.ranges.high, to_z-of_z c.ranges.low) at c.if-high-low.false in
     let h : c.is_wide.result ≡ ltb 4096 (length (numbers (to c.args.low c.args.high))) = rw (to_z-of_z c.ranges.low, to_z-of_z c.ranges.high) at c.is_wide.ensures in
-    ground-no-steps c.args.words c.args.low c.args.high c.args.steps c.if-words-lt16384.false e (sym h ∙ c.if-is_wide.false) c.if-steps-eq0.true
-
-pub returns-then-steps-gt1000 : goal.returns-then-steps-gt1000
-returns-then-steps-gt1000 c =
-    let e : lt_z c.args.high c.args.low ≡ false = rw (to_z-of_z c.ranges.high, to_z-of_z c.ranges.low) at c.if-high-low.false in
-    let h : c.is_wide.result ≡ ltb 4096 (length (numbers (to c.args.low c.args.high))) = rw (to_z-of_z c.ranges.low, to_z-of_z c.ranges.high) at c.is_wide.ensures in
-    ground-steps c.args.words c.args.low c.args.high c.args.steps c.if-words-lt16384.false e (sym h ∙ c.if-is_wide.false) c.if-steps-eq0.false c.if-steps-gt1000.true
+    elim c.then-steps-eq0.branch [
+      | then-steps-eq0-via-then-steps-eq0 w ↦ ground-no-steps c.args.words c.args.low c.args.high c.args.steps c.if-words-lt16384.false e (sym h ∙ c.if-is_wide.false) w.if-steps-eq0.true
+      | then-steps-eq0-via-else-steps-eq0+then-steps-gt1000 w ↦
+          ground-steps c.args.words c.args.low c.args.high c.args.steps c.if-words-lt16384.false e (sym h ∙ c.if-is_wide.false) w.if-steps-eq0.false w.if-steps-gt1000.true
+    ]
 
 pub returns : goal.returns
 returns c =
