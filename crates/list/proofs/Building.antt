@@ -5,7 +5,6 @@ use mathlib.Core.Path.{◌≡◌, refl, sym, ap, ◌∙◌, subst}
 use mathlib.Core.List.{List, [], ◌∷◌}
 use native.Mathlib.Omega.{arith}
 use lib.ListN.{length, length-map, get_or}
-use lib.Seq.{length-sets}
 use Rattle.syntax.specs.Token.{k_end}
 use Rattle.syntax.specs.Tree.{Tree, prog, width}
 use Rattle.syntax.specs.Abstract.{ast}
@@ -29,12 +28,11 @@ use Rattle.checker.specs.declared.Analysis.{Analysis}
 use Rattle.checker.proofs.Analysing.{few-tokens, token-list}
 use Rattle.checker.proofs.Table.{broken_by, unbroken}
 use Rattle.semantics.specs.Program.{Program}
-use Rattle.simulation.specs.Code.{code_of}
-use Rattle.simulation.specs.Words.{code_in, words_in}
+use Rattle.simulation.specs.Code.{Code}
 use Rattle.simulation.specs.Placed.{Placed}
-use Rattle.compiler.specs.Coded.{word, program as coded}
+use Rattle.compiler.specs.Coded.{word}
 use Rattle.compiler.specs.Compile.{Ready, Compiled}
-use Rattle.compiler.proofs.Fitting.{Keeps, Given, accepted-ready, accepted-placed, accepted-few, accepted-main}
+use Rattle.compiler.proofs.Fitting.{Keeps, Given, accepted-ready, accepted-placed, accepted-main}
 use Rattle.list.specs.List.{program}
 use Rattle.list.specs.Code.{Codes, Translates, refuses, has}
 use Rattle.list.proofs.Values.{small-values}
@@ -74,11 +72,11 @@ module _ {text : List ℕ} {ts : List Token} (t : lexed text ≡ L.tokens ts) {n
   means-so : (j : ℕ) → j < length vs → get_or slots j 0 ≡ meant (λ i. 0) (meanings (same_in s) (ast tree)) j
   means-so j l = k.kept.means j (omega (arith, l, most))
 
-  module _ (g : ℕ) (code : List ℕ) (main : g ≡ main_of (main_in s) hs) (size : length code ≡ 4120) where
+  module _ (g : ℕ) (main : g ≡ main_of (main_in s) hs) where
     main-so : g ≡ main_of (main_in s) (R.heads (E.events (ast tree)))
     main-so = main ∙ ap (main_of (main_in s)) k.kept.functions
 
-    given_so : Given (same_in s) tree (λ i. 0) nodes root vs slots g code (length vs)
+    given_so : Given (same_in s) tree (λ i. 0) nodes root vs slots g (length vs)
     given_so = record {
       holds = k.holds;
       room = k.room;
@@ -89,38 +87,32 @@ module _ {text : List ℕ} {ts : List Token} (t : lexed text ≡ L.tokens ts) {n
       small = λ j l. small-values text ts t j;
       agree = means-so;
       main = omega (arith, main-so, accepted-main (same_in s) tree (λ i. 0) (main_in s) (end_of s) main-kept keeps-so.ten);
-      less = omega (arith, many, most);
-      space = omega (arith, many, most, size);
+      space = omega (arith, many, most);
     }
 
-    ready-tokens : Ready nodes root vs slots g code
+    ready-tokens : Ready nodes root vs slots g
     ready-tokens = accepted-ready (same_in s) tree (λ i. 0) given_so keeps-so
 
     program-is : program text ≡ resolved (λ i. get_or vs i 0) (λ i. meant (λ j. 0) (meanings (same_in s) (ast tree)) i) (main_in s) (R.heads (E.events (ast tree))) (ast tree)
     unfolding program program_of
     program-is = rw (t, program) (rw (k.parses, program))
 
-    codes-tokens : {after : List ℕ} {r : ℕ} → Compiled nodes root vs slots g code after r → Codes text after r
-    codes-tokens {after} {r} c = record {
-      placed = subst (λ (p : Program). Placed (code_in after r) p) (sym program-is) (accepted-placed (same_in s) tree (λ i. 0) given_so keeps-so c (λ i. get_or vs i 0) (λ j l. refl) (main_in s) main-so);
-      room = omega (arith, ready-tokens.space, c.total ready-tokens.rooted.tree ready-tokens.rooted.holds, ap length (c.words (ast tree) k.holds), length-sets code 0 (words_in (code_of (coded vs slots g (ast tree)))));
-      few = accepted-few (same_in s) tree (λ i. 0) given_so keeps-so c;
-    }
+    codes-tokens : {code : Code} → Compiled nodes root vs slots g code → Codes text code
+    codes-tokens {code} c = record { placed = subst (λ (p : Program). Placed code p) (sym program-is) (accepted-placed (same_in s) tree (λ i. 0) given_so keeps-so c (λ i. get_or vs i 0) (λ j l. refl) (main_in s) main-so) }
 
 -- ---- from the analysis
 
-pub refused-so : {text code : List ℕ} {r : Refusal} {v : Verdict} → Analyses text (Err r) v → Translates text code (Err r) v
+pub refused-so : {text : List ℕ} {code : Code} {r : Refusal} {v : Verdict} → Analyses text (Err r) v → Translates text code (Err r) v
 refused-so N.Analyses.rejects = refuses
 
 module _ {text : List ℕ} {a : Analysis} where
-  pub ready-so : {v : Verdict} → Analyses text (Ok a) v → (g : ℕ) (code : List ℕ) → g ≡ main_of (main_in a.source) a.heads.now → length code ≡ 4120 → Ready a.nodes.now a.root a.source.values a.slots.now g code
-  ready-so (N.Analyses.has {ts = ts} t e k) g code =
-      subst (λ (s : Source). Known s a.nodes.now a.root a.events.now a.heads.now a.slots.now → g ≡ main_of (main_in s) a.heads.now → length code ≡ 4120 → Ready a.nodes.now a.root s.values a.slots.now g code)
-      (sym e) (λ k. ready-tokens t k g code) k
+  pub ready-so : {v : Verdict} → Analyses text (Ok a) v → (g : ℕ) → g ≡ main_of (main_in a.source) a.heads.now → Ready a.nodes.now a.root a.source.values a.slots.now g
+  ready-so (N.Analyses.has {ts = ts} t e k) g =
+      subst (λ (s : Source). Known s a.nodes.now a.root a.events.now a.heads.now a.slots.now → g ≡ main_of (main_in s) a.heads.now → Ready a.nodes.now a.root s.values a.slots.now g)
+      (sym e) (λ k. ready-tokens t k g) k
 
-  pub translated : {v : Verdict} → Analyses text (Ok a) v → (g : ℕ) (code : List ℕ) → g ≡ main_of (main_in a.source) a.heads.now → length code ≡ 4120
-      → {after : List ℕ} {r : ℕ} → Compiled a.nodes.now a.root a.source.values a.slots.now g code after r → Translates text after (Ok r) v
-  translated (N.Analyses.has {ts = ts} t e k) g code m l {after} {r} c =
+  pub translated : {v : Verdict} → Analyses text (Ok a) v → (g : ℕ) → g ≡ main_of (main_in a.source) a.heads.now → {code : Code} → Compiled a.nodes.now a.root a.source.values a.slots.now g code → Translates text code (Ok tt) v
+  translated (N.Analyses.has {ts = ts} t e k) g m {code} c =
       has
-      (subst (λ (s : Source). Known s a.nodes.now a.root a.events.now a.heads.now a.slots.now → g ≡ main_of (main_in s) a.heads.now → length code ≡ 4120 → Compiled a.nodes.now a.root s.values a.slots.now g code after r → Codes text after r)
-      (sym e) (λ k m l. codes-tokens t k g code m l) k m l c)
+      (subst (λ (s : Source). Known s a.nodes.now a.root a.events.now a.heads.now a.slots.now → g ≡ main_of (main_in s) a.heads.now → Compiled a.nodes.now a.root s.values a.slots.now g code → Codes text code)
+      (sym e) (λ k m. codes-tokens t k g m) k m c)

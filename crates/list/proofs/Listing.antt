@@ -19,7 +19,8 @@ use Rattle.semantics.specs.Search as S
 use Rattle.semantics.specs.Search.{known, work, to, in_use}
 use Rattle.list.specs.List.{job_of, ground, Left, answering, places, list}
 use Rattle.list.specs.Parts.{leaves}
-use Rattle.list.specs.Code.{Codes, Translates, refuses, has, Searches}
+use Rattle.simulation.specs.Code.{Code}
+use Rattle.list.specs.Code.{Translates, refuses, has, Searches}
 use Rattle.list.proofs.Values.{neither}
 use Rattle.list.proofs.Sure.{never_stuck}
 
@@ -72,18 +73,15 @@ module _ (text : List ℕ) (low high : ℤ) (steps skip budget : ℕ) (rows : Li
     unfolding list
     list-checked v e = ap (by None) e ∙ ap (λ (g : Option ℕ). by g (checked text)) free
 
-    pub list-refused : {code : List ℕ} {r : Refusal} → Translates text code (Err r) (checked text) → leaves (Err r) rows scratch ≡ list text low high steps skip budget rows scratch
+    pub list-refused : {code : Code} {r : Refusal} → Translates text code (Err r) (checked text) → leaves (Err r) rows scratch ≡ list text low high steps skip budget rows scratch
     list-refused {code} {r} t = go (checked text) refl t
       where
         go : (v : Verdict) → v ≡ checked text → Translates text code (Err r) v → leaves (Err r) rows scratch ≡ list text low high steps skip budget rows scratch
         go v e refuses = list-checked v e
 
     -- "Else scratch is left all zero, with rows written, moves made and an ending"
-    pub list-searched : {code : List ℕ} {n : ℕ} {left : Left} → Translates text code (Ok n) (checked text) → Searches code n low high steps skip budget rows scratch left → left ≡ list text low high steps skip budget rows scratch
-    list-searched {code} {n} {left} t s = go (checked text) refl t
+    pub list-searched : {code : Code} {left : Left} → Translates text code (Ok tt) (checked text) → Searches code low high steps skip budget rows scratch left → left ≡ list text low high steps skip budget rows scratch
+    list-searched {code} {left} t s = go (checked text) refl t
       where
-        go : (v : Verdict) → v ≡ checked text → Translates text code (Ok n) v → left ≡ list text low high steps skip budget rows scratch
+        go : (v : Verdict) → v ≡ checked text → Translates text code (Ok tt) v → left ≡ list text low high steps skip budget rows scratch
         go v e (has c) = s.is text c.placed (never_stuck text (sym e) known work steps) ∙ list-checked v e
-
-pub codes-of : {text code : List ℕ} {n : ℕ} {v : Verdict} → Translates text code (Ok n) v → Codes text code n
-codes-of (has c) = c

@@ -8,7 +8,7 @@ use lib.IntN.{ℤ}
 use Rattle.semantics.specs.Does.{does, Sure}
 use Rattle.semantics.specs.Search as S
 use Rattle.semantics.specs.Search.{known, work, to, in_use}
-use Rattle.simulation.specs.Words.{code_in}
+use Rattle.simulation.specs.Code.{Code}
 use Rattle.simulation.specs.Placed.{Placed}
 use Rattle.settings.specs.Rows.{sheet}
 use Rattle.settings.proofs.Slice.{rows-length}
@@ -22,12 +22,12 @@ use Rattle.list.specs.Code.{Searches}
 abbrev left : Answer → List ℤ → List ℕ → Left
 left a rows scratch = record { answer = a; rows = rows; scratch = scratch }
 
-module _ (code : List ℕ) (n : ℕ) (low high : ℤ) (steps skip budget : ℕ) (rows rows' : List ℤ) (scratch scratch' : List ℕ) (a : Answered) where
-  pub searched : Lists (code_in code n) (to low high) steps skip (length rows / 10) budget rows rows' a → scratch' ≡ replicate (length scratch) 0
-      → Searches code n low high steps skip budget rows scratch (leaves (Ok a) rows' scratch')
+module _ (code : Code) (low high : ℤ) (steps skip budget : ℕ) (rows rows' : List ℤ) (scratch scratch' : List ℕ) (a : Answered) where
+  pub searched : Lists code (to low high) steps skip (length rows / 10) budget rows rows' a → scratch' ≡ replicate (length scratch) 0
+      → Searches code low high steps skip budget rows scratch (leaves (Ok a) rows' scratch')
   searched l z = record { is = by }
     where
-      by : (text : List ℕ) → Placed (code_in code n) (program text) → Sure (does known work steps (program text)) → leaves (Ok a) rows' scratch' ≡ lists rows scratch (S.listed in_use (job_of text low high steps) skip (length rows / 10) budget)
+      by : (text : List ℕ) → Placed code (program text) → Sure (does known work steps (program text)) → leaves (Ok a) rows' scratch' ≡ lists rows scratch (S.listed in_use (job_of text low high steps) skip (length rows / 10) budget)
       by text p u =
           let x = loop.answer_of rows' a in
           let k : answer_of (Ok a) ≡ listed (length x.rows) x.moves x.close = ap (λ (m : ℕ). listed m a.moves (close_of a.ending)) (sym (rows-length rows' a.written)) in

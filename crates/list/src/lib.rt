@@ -1,7 +1,7 @@
 // List: its refusals, the code of the text's program, the search on it, and what is answered and left.
 #![tactic(auto)]
 
-ghost use Rattle.std.specs.Prelude.{◌≡◌, ◌+◌, ◌*◌, ◌≤◌, ◌<◌, ltb, true, ◌-ℤ◌, length, Ok};
+ghost use Rattle.std.specs.Prelude.{◌≡◌, ◌≤◌, ltb, true, ◌-ℤ◌, length, Ok};
 ghost use Rattle.std.specs.Int.Signed.{le_z};
 ghost use Rattle.semantics.specs.Run.{numbers};
 ghost use Rattle.semantics.specs.Search.{to};
@@ -11,6 +11,7 @@ ghost use Rattle.list.specs.Parts.{ground_of, leaves};
 ghost use Rattle.list.specs.Code.{Translates, Searches};
 
 use checker::tables::Tables;
+use code::Code;
 use intervals::Window;
 use search::Answered;
 use syntax::refusal::{Reason, Refusal};
@@ -59,15 +60,14 @@ pub fn refusal(low: i32, high: i32, steps: u32, words: usize) -> Option<Reason>
     None
 }
 
-// The code of a text, by the count of its entries.
-fn code_of(text: &[u8], code: &mut [u32]) -> Result<usize, Refusal>
-    requires { length code.old ≡ 4120 }
+// Puts the code of a text in place of what stood there.
+fn code_of(text: &[u8], code: &mut Code) -> Result<(), Refusal>
     ensures { Translates text.now code.new result (checked text.now) }
 {
     let mut tables = Tables::new();
     let analysis = checker::analyse(text, &mut tables)?;
     let main = main_number(&analysis.source, analysis.heads);
-    let n = compiler::compile(
+    compiler::compile(
         analysis.nodes,
         analysis.root,
         &analysis.source,
@@ -75,17 +75,16 @@ fn code_of(text: &[u8], code: &mut [u32]) -> Result<usize, Refusal>
         main,
         code,
     );
-    Ok(n)
+    Ok(())
 }
 
-// The search on the code of n entries, with scratch as its memory, which is left all zero.
-fn explore(code: &[u32], n: usize, terms: Terms, rows: &mut [i32], scratch: &mut [u32]) -> Answered
-    requires { (2 * n + 16 ≤ length code.now) × (n < 65536) × (16384 ≤ length scratch.old) × (le_z terms.low terms.high ≡ true) × (terms.steps ≤ 1000) }
-    ensures { Searches code.now n terms.low terms.high terms.steps terms.skip terms.budget rows.old scratch.old (leaves (Ok result) rows.new scratch.new) }
+// The search on a code, with scratch as its memory, which is left all zero.
+fn explore(code: &Code, terms: Terms, rows: &mut [i32], scratch: &mut [u32]) -> Answered
+    requires { (16384 ≤ length scratch.old) × (le_z terms.low terms.high ≡ true) × (terms.steps ≤ 1000) }
+    ensures { Searches code.now terms.low terms.high terms.steps terms.skip terms.budget rows.old scratch.old (leaves (Ok result) rows.new scratch.new) }
 {
     let answered = search::run(
         code,
-        n,
         scratch,
         Window {
             low: terms.low,
@@ -112,7 +111,7 @@ pub fn list(
     if let Some(reason) = refusal(terms.low, terms.high, terms.steps, scratch.len()) {
         return Err(Refusal { reason, place: 0 });
     }
-    let mut code = [0u32; 4120];
-    let n = code_of(text, &mut code)?;
-    Ok(explore(&code, n, terms, rows, scratch))
+    let mut code = Code::new();
+    code_of(text, &mut code)?;
+    Ok(explore(&code, terms, rows, scratch))
 }

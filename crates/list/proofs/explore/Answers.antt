@@ -12,4 +12,4 @@ pub returns : goal.returns
 returns c =
     let l : SFits w32 c.args.terms.low = search rules in
     let h : SFits w32 c.args.terms.high = search rules in
-    searched _ _ _ _ _ _ _ _ _ c.args.scratch.now _ c.run-answered.result (rw (to_z-of_z l, to_z-of_z h) at c.run-answered.ensures) (c.fill.ensures.after (λ y e. e) ∙ ap (λ (n : ℕ). replicate n 0) c.run-answered.auto.mem)
+    searched _ _ _ _ _ _ _ _ c.args.scratch.now _ c.run-answered.result (rw (to_z-of_z l, to_z-of_z h) at c.run-answered.ensures) (c.fill.ensures.after (λ y e. e) ∙ ap (λ (n : ℕ). replicate n 0) c.run-answered.auto.mem)
