@@ -1,13 +1,15 @@
 // Rule 17 of a text: definite assignment. The variables are walked sixteen at a time: an array says which of a group are assigned.
 #![tactic(auto)]
 
-ghost use Rattle.std.specs.Prelude.{◌≡◌, true, ◌&&◌, ◌||◌, ℕ, ◌+◌, ◌^◌, ◌≤◌, ◌<◌, eqb, ltb, get_or};
+ghost use Rattle.std.specs.Prelude.{◌≡◌, true, ◌&&◌, ◌||◌, ℕ, ◌+◌, ◌*◌, ◌^◌, ◌≤◌, ◌<◌, eqb, ltb, get_or, length};
+ghost use Rattle.syntax.specs.Table.{node_words};
+ghost use Rattle.syntax.specs.Fetch.{Fetched, words_of};
 ghost use Rattle.syntax.specs.Ast.{cond, params, fun, prog};
 ghost use Rattle.events.specs.Walk.{Rooted};
 ghost use Rattle.assignment.specs.Group.{within, only};
 ghost use Rattle.assignment.specs.Walk.{OfExpr, OfStmt, OfRow, PartAt, Read, Split, Flowed, Counted, Finds, Unassigned};
 
-use syntax::node::{NodeKind, Nodes};
+use syntax::node::{Node, NodeKind};
 use text_rules::broken::lesser;
 use text_rules::spelling::word;
 
@@ -99,38 +101,46 @@ fn next_word(words: &[u32], i: usize) -> usize
     0
 }
 
-// How many parameters stand at node i.
-fn parameters(nodes: &Nodes, i: usize) -> usize
-    requires { Rooted params nodes.now i }
-    ensures { Counted nodes.now i result }
-{
-    let mut j = i;
-    let mut count = 0;
-    loop {
-        let node = nodes.node(j);
-        if node.kind != NodeKind::MoreParams {
-            return count;
-        }
-        j = node.first;
-        count += 1;
-    }
-}
-
 // What the walk of a group reads: a tree, which variable each of its names means, and the first variable of the group.
 #[derive(Clone, Copy)]
 struct Walk<'a> {
-    nodes: &'a Nodes,
+    nodes: &'a [Node],
     slots: &'a [u32],
     base: usize,
 }
 
 impl<'a> Walk<'a> {
+    // Node i.
+    fn node(&self, i: usize) -> Node
+        requires { (node_words * i + node_words ≤ length (words_of self.now.nodes.now)) × (i < 65536) }
+        ensures { Fetched (words_of self.now.nodes.now) i result }
+    {
+        self.nodes[i]
+    }
+
+    // How many parameters stand at node i.
+    fn parameters(&self, i: usize) -> usize
+        requires { Rooted params (words_of self.now.nodes.now) i }
+        ensures { Counted (words_of self.now.nodes.now) i result }
+    {
+        let mut j = i;
+        let mut count = 0;
+        loop {
+            let node = self.node(j);
+            if node.kind != NodeKind::MoreParams {
+                return count;
+            }
+            j = node.first;
+            count += 1;
+        }
+    }
+
     // The names that an expression or arguments read.
     fn reads(&self, i: usize, set: [bool; GROUP], best: Option<usize>) -> Option<usize>
-        requires { PartAt OfExpr self.now.nodes.now i }
-        ensures { Read self.now.nodes.now i self.now.slots.now self.now.base set best result }
+        requires { PartAt OfExpr (words_of self.now.nodes.now) i }
+        ensures { Read (words_of self.now.nodes.now) i self.now.slots.now self.now.base set best result }
     {
-        let node = self.nodes.node(i);
+        let node = self.node(i);
         match node.kind {
             NodeKind::Name => {
                 if assigned(set, self.base, word(self.slots, node.token)) {
@@ -150,10 +160,10 @@ impl<'a> Walk<'a> {
 
     // The names that a condition reads, and its two ends.
     fn split(&self, i: usize, set: [bool; GROUP], best: Option<usize>) -> Ends
-        requires { Rooted cond self.now.nodes.now i }
-        ensures { Split self.now.nodes.now i self.now.slots.now self.now.base set best result.yes result.no result.best }
+        requires { Rooted cond (words_of self.now.nodes.now) i }
+        ensures { Split (words_of self.now.nodes.now) i self.now.slots.now self.now.base set best result.yes result.no result.best }
     {
-        let node = self.nodes.node(i);
+        let node = self.node(i);
         match node.kind {
             NodeKind::Always => {
                 let no = all();
@@ -190,10 +200,10 @@ impl<'a> Walk<'a> {
     // The names that a statement reads, and what is assigned after it.
     #[cycle(flow_sequence)]
     fn flow(&self, i: usize, set: [bool; GROUP], best: Option<usize>) -> After
-        requires { PartAt OfStmt self.now.nodes.now i }
-        ensures { Flowed OfStmt self.now.nodes.now i self.now.slots.now self.now.base set best result.set result.best }
+        requires { PartAt OfStmt (words_of self.now.nodes.now) i }
+        ensures { Flowed OfStmt (words_of self.now.nodes.now) i self.now.slots.now self.now.base set best result.set result.best }
     {
-        let node = self.nodes.node(i);
+        let node = self.node(i);
         match node.kind {
             NodeKind::DeclareFree | NodeKind::DeclareOwn => {
                 let set = assign(set, self.base, next_word(self.slots, node.token));
@@ -238,10 +248,10 @@ impl<'a> Walk<'a> {
     // The same of statements, and of these in braces.
     #[cycle(flow_sequence)]
     fn sequence(&self, i: usize, set: [bool; GROUP], best: Option<usize>) -> After
-        requires { PartAt OfRow self.now.nodes.now i }
-        ensures { Flowed OfRow self.now.nodes.now i self.now.slots.now self.now.base set best result.set result.best }
+        requires { PartAt OfRow (words_of self.now.nodes.now) i }
+        ensures { Flowed OfRow (words_of self.now.nodes.now) i self.now.slots.now self.now.base set best result.set result.best }
     {
-        let node = self.nodes.node(i);
+        let node = self.node(i);
         match node.kind {
             NodeKind::Braced => self.sequence(node.first, set, best),
             NodeKind::MoreStmts => {
@@ -254,20 +264,20 @@ impl<'a> Walk<'a> {
 
     // What breaks the rule in a function.
     fn function(&self, i: usize, best: Option<usize>) -> Option<usize>
-        requires { Rooted fun self.now.nodes.now i }
-        ensures { Finds fun self.now.nodes.now i self.now.slots.now self.now.base best result }
+        requires { Rooted fun (words_of self.now.nodes.now) i }
+        ensures { Finds fun (words_of self.now.nodes.now) i self.now.slots.now self.now.base best result }
     {
-        let node = self.nodes.node(i);
-        let set = start(self.base, parameters(self.nodes, node.first));
+        let node = self.node(i);
+        let set = start(self.base, self.parameters(node.first));
         self.sequence(node.second, set, best).best
     }
 
     // The same in the functions of a program.
     fn functions(&self, i: usize, best: Option<usize>) -> Option<usize>
-        requires { Rooted prog self.now.nodes.now i }
-        ensures { Finds prog self.now.nodes.now i self.now.slots.now self.now.base best result }
+        requires { Rooted prog (words_of self.now.nodes.now) i }
+        ensures { Finds prog (words_of self.now.nodes.now) i self.now.slots.now self.now.base best result }
     {
-        let node = self.nodes.node(i);
+        let node = self.node(i);
         match node.kind {
             NodeKind::MoreFuns => {
                 let best = self.functions(node.first, best);
@@ -279,9 +289,9 @@ impl<'a> Walk<'a> {
 }
 
 // The least token that reads a variable before it is assigned, in the program at node `root`, whose names mean what `slots` says.
-pub fn unassigned(nodes: &Nodes, root: usize, slots: &[u32]) -> Option<usize>
-    requires { Rooted prog nodes.now root }
-    ensures { Unassigned nodes.now root slots.now result }
+pub fn unassigned(nodes: &[Node], root: usize, slots: &[u32]) -> Option<usize>
+    requires { Rooted prog (words_of nodes.now) root }
+    ensures { Unassigned (words_of nodes.now) root slots.now result }
 {
     let top = greatest(slots);
     let mut best = None;

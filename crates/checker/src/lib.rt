@@ -14,7 +14,7 @@ ghost use Rattle.checker.specs.Judge.{Keeps, first_rules, function_rules, last_r
 ghost use Rattle.checker.specs.Analysis.{verdict_of, Reads, Inspected, Settles, Analyses};
 
 use breaches::pairs::PairRule;
-use events::event::Events;
+use events::event::{EVENTS, Events};
 use syntax::node::Nodes;
 use syntax::refusal::{Reason, Refusal};
 use syntax::source::Source;
@@ -77,7 +77,7 @@ fn judge_first(
     keeps(
         source,
         Reason::BadName,
-        names::resolve(source, events, heads, slots),
+        names::resolve::<EVENTS>(source, events.as_slice(), heads.as_slice(), slots),
     )?;
     judge_functions(source, events, heads)
 }
@@ -96,7 +96,7 @@ fn judge_last(
     keeps(
         source,
         Reason::Unassigned,
-        assignment::unassigned(nodes, root, slots),
+        assignment::unassigned(nodes.as_slice(), root, slots),
     )?;
     keeps(source, Reason::TooMany, breaches::counts::too_many(events))?;
     keeps(

@@ -1,3 +1,2 @@
 pub mod Undecided
 pub mod Narrow
-pub mod Windows

@@ -1,5 +1,5 @@
 -- What a window, a pair and pairs of the code stand for, in the words of `semantics`.
-use Rattle.std.specs.Prelude.{◌≡◌, true, List, [], ◌∷◌, map, get_or, ℤ, pos}
+use Rattle.std.specs.Prelude.{◌≡◌, true, List, map, get_or, ℤ, pos}
 use Rattle.std.specs.Int.Signed.{le_z}
 use Rattle.semantics.specs.Program.{Window}
 use Rattle.semantics.specs.Search.{to}
@@ -7,9 +7,6 @@ use Rattle.intervals.specs.declared.Window as code
 
 abbrev pub of_window : code.Window → Window
 of_window w = to w.low w.high
-
-abbrev pub of_windows : List code.Window → List Window
-of_windows ws = map of_window ws
 
 -- there is a number from low to high
 abbrev pub Filled : Window → Type 0
@@ -22,10 +19,3 @@ of_pair p = to (get_or p 0 (pos 0)) (get_or p 1 (pos 0))
 -- "The windows of a path are eight pairs, low and high"
 abbrev pub of_pairs : List (List ℤ) → List Window
 of_pairs ps = map of_pair ps
-
--- a window of the code as a pair, and windows
-abbrev pub pair_of : code.Window → List ℤ
-pair_of w = w.low ∷ w.high ∷ []
-
-abbrev pub pairs_of : List code.Window → List (List ℤ)
-pairs_of ws = map pair_of ws

@@ -11,11 +11,11 @@ ghost use Rattle.text_rules.specs.Answers.{as_head, least_with};
 ghost use Rattle.names.specs.Steps.{SeenDeclaration, SeenVariable, SeenCall, SeenEvent, SeenEvents, Named};
 
 use code::Address;
-use events::event::{Event, Events};
+use events::event::Event;
 use scopes::scope::Scopes;
 use syntax::source::Source;
 use text_rules::broken::lesser;
-use text_rules::heads::{Head, Heads, function_of};
+use text_rules::heads::{Head, position_of};
 use text_rules::spelling::same_name;
 
 // What token i means, as a number; a token past the end is passed over.
@@ -37,9 +37,9 @@ fn write_address(slots: &mut [u32], i: usize, address: Address)
 }
 
 // Token i declares a variable.
-fn see_declaration(
+fn see_declaration<const ROOM: usize>(
     source: &Source,
-    scopes: &Scopes,
+    scopes: &Scopes<ROOM>,
     slots: &mut [u32],
     i: usize,
     best: Option<usize>,
@@ -55,9 +55,9 @@ fn see_declaration(
 }
 
 // Token i is a variable that is read or assigned.
-fn see_variable(
+fn see_variable<const ROOM: usize>(
     source: &Source,
-    scopes: &Scopes,
+    scopes: &Scopes<ROOM>,
     slots: &mut [u32],
     i: usize,
     best: Option<usize>,
@@ -76,15 +76,15 @@ fn see_variable(
 // Token i is a call's name.
 fn see_call(
     source: &Source,
-    heads: &Heads,
+    heads: &[Head],
     slots: &mut [u32],
     i: usize,
     best: Option<usize>,
 ) -> Option<usize>
-    requires { length heads.now ≤ 4096 }
-    ensures { SeenCall (same_in source.now) heads.now i best slots.old result slots.new }
+    requires { length heads.now < 2 ^ 32 }
+    ensures { SeenCall (same_in source.now) (map as_head heads.now) i best slots.old result slots.new }
 {
-    match function_of(source, heads, i) {
+    match position_of(source, heads, i) {
         Some(number) => {
             write(slots, i, number);
             best
@@ -94,17 +94,17 @@ fn see_call(
 }
 
 // One event: what breaks the rule there, and what its name means.
-fn see(
+fn see<const ROOM: usize>(
     source: &Source,
-    heads: &Heads,
-    scopes: &Scopes,
+    heads: &[Head],
+    scopes: &Scopes<ROOM>,
     slots: &mut [u32],
     event: Event,
     best: Option<usize>,
 ) -> Option<usize>
-    requires heads { length heads.now ≤ 4096 }
+    requires heads { length heads.now < 2 ^ 32 }
     requires next { scopes.now.next < 2 ^ 32 }
-    ensures { SeenEvent (same_in source.now) heads.now scopes.now (as_event event) best slots.old result slots.new }
+    ensures { SeenEvent (same_in source.now) (map as_head heads.now) scopes.now (as_event event) best slots.old result slots.new }
 {
     match event {
         Event::Parameter(i) | Event::Declares(i) => {
@@ -117,13 +117,19 @@ fn see(
 }
 
 // All events, in order.
-fn see_all(source: &Source, events: &[Event], heads: &Heads, slots: &mut [u32]) -> Option<usize>
-    requires events { length events.now ≤ 4096 }
-    requires heads { length heads.now ≤ 4096 }
-    ensures { SeenEvents (same_in source.now) heads.now (map as_event events.now) slots.old result slots.new }
+fn see_all<const ROOM: usize>(
+    source: &Source,
+    events: &[Event],
+    heads: &[Head],
+    slots: &mut [u32],
+) -> Option<usize>
+    requires events { length events.now ≤ ROOM }
+    requires size { ROOM < 2 ^ 32 }
+    requires heads { length heads.now < 2 ^ 32 }
+    ensures { SeenEvents (same_in source.now) (map as_head heads.now) (map as_event events.now) slots.old result slots.new }
 {
     let mut best = None;
-    let mut scopes = Scopes::new();
+    let mut scopes = Scopes::<ROOM>::new();
     for &event in events {
         best = see(source, heads, &scopes, slots, event, best);
         scopes.enter(event);
@@ -151,11 +157,18 @@ fn repeats(source: &Source, heads: &[Head], before: Option<usize>) -> Option<usi
     best
 }
 
-// The least token that breaks rule 6 in some events with the functions `heads`; what each name means is written at its token.
-pub fn resolve(source: &Source, events: &Events, heads: &Heads, slots: &mut [u32]) -> Option<usize>
-    requires { heads.now ≡ R.heads events.now }
-    ensures { Named (same_in source.now) events.now slots.old result slots.new }
+// The least token that breaks rule 6 in at most ROOM events with the functions `heads`; what each name means is written at its token.
+pub fn resolve<const ROOM: usize>(
+    source: &Source,
+    events: &[Event],
+    heads: &[Head],
+    slots: &mut [u32],
+) -> Option<usize>
+    requires events { length events.now ≤ ROOM }
+    requires size { ROOM < 2 ^ 32 }
+    requires heads { map as_head heads.now ≡ R.heads (map as_event events.now) }
+    ensures { Named (same_in source.now) (map as_event events.now) slots.old result slots.new }
 {
-    let best = see_all(source, events.as_slice(), heads, slots);
-    repeats(source, heads.as_slice(), best)
+    let best = see_all::<ROOM>(source, events, heads, slots);
+    repeats(source, heads, best)
 }

@@ -2,12 +2,17 @@
 use mathlib.Core.Path.{◌≡◌, refl, sym, ap, ap₂, ◌∙◌, subst}
 use mathlib.Core.Option.{none}
 use mathlib.Core.List.{List, [], ◌∷◌, ◌++◌}
-use Prim.Native.Nat.{ℕ, ◌+◌, ◌≤◌, ◌<◌}
+use Prim.Native.Nat.{ℕ, zero, suc, ◌+◌, ◌≤◌, ◌<◌}
 use native.Mathlib.Numerals.{add-one}
 use native.Mathlib.Decide.{dec_lt}
 use native.Mathlib.Omega.{arith}
-use lib.ListN.{length, get_or, set, take, length-map, length-set}
-use lib.IntN.{ℤ}
+use lib.ListN.{length, get_or, set, take}
+use lib.IntN.{ℤ, pos}
+use mir.Syntax.{w32}
+use mir.Val.{Val, SFits}
+use denote.Shadow.{shadow}
+use denote.Array.{Array, each}
+use denote.Builtin.{i32}
 use Rattle.semantics.specs.Int.{Cmp}
 use Rattle.semantics.specs.Program.{Window}
 use Rattle.semantics.specs.Search as search
@@ -17,13 +22,13 @@ use Rattle.simulation.specs.Nodes.{ranges, range_in}
 use Rattle.simulation.proofs.Nodes.{range-ok}
 use Rattle.intervals.specs.declared.Window as win
 use Rattle.narrowing.specs.declared.Side.{Side}
-use Rattle.intervals.specs.Meaning.{of_window, of_windows, of_pairs, pair_of, pairs_of}
-use Rattle.intervals.proofs.Windows.{pairs-windows, windows-more}
+use Rattle.intervals.specs.Meaning.{of_window, of_pair, of_pairs}
 use Rattle.narrowing.specs.Meaning.{AmongEight, range_of, variable_of, narrowed_by, Stands}
 use Rattle.window_memory.specs.Memory.{pairs_at, put_pairs}
 use Rattle.ranges.proofs.Ranges.{filled, ordered}
+use Rattle.narrowing.proofs.Pairs.{pairs-more}
 use Rattle.narrowing.proofs.Sides.{stands-range, narrowed-by}
-use Rattle.window_memory.proofs.Stored.{put-below, put-above}
+use Rattle.window_memory.proofs.Stored.{Ends, put-below, put-above, put-load}
 use Rattle.machine.specs.Layout.{windows_place, windows_end, starts_place, tables_place}
 use Rattle.machine.specs.Memory.{node_at, nodes_in, windows_in, ranges_in}
 use Rattle.machine.specs.Terms.{cell_of, meant, Other}
@@ -34,9 +39,22 @@ use Rattle.paths.specs.Choice.{Named, Tables, PairSet, Reached, Undecided, Narro
 use Rattle.paths.proofs.Table.{windows-same, starts-same, node-same, nodes-same}
 use Rattle.paths.proofs.Choice.{windows-length}
 
--- what the memory holds is what was loaded
-pub loaded : (m : List ℕ) (at : ℕ) (ws : List win.Window) → pairs_of ws ≡ pairs_at m at 8 → of_windows ws ≡ of_pairs (pairs_at m at 8)
-loaded m at ws e = sym (pairs-windows ws) ∙ ap of_pairs e
+-- ---- the numbers of an array by value have 32 bits
+
+nums-fit : (xs : List ℤ) (us : List Val) (j : ℕ) → shadow (each ℤ i32.own_val xs us) → SFits w32 (get_or xs j (pos 0))
+nums-fit [] us j p = record { sfits = omega arith }
+nums-fit (x ∷ xs) [] j p = absurd p
+nums-fit (x ∷ xs) (u ∷ us) zero p = record { sfits = p.0.1 }
+nums-fit (x ∷ xs) (u ∷ us) (suc j) p = nums-fit xs us j p.1
+
+pairs-fit : (xs : List (List ℤ)) (us : List Val) (i j : ℕ) → shadow (each (List ℤ) (Array i32 2).own_val xs us) → SFits w32 (get_or (get_or xs i []) j (pos 0))
+pairs-fit [] us i j p = record { sfits = omega arith }
+pairs-fit (x ∷ xs) [] i j p = absurd p
+pairs-fit (x ∷ xs) (u ∷ us) zero j p = nums-fit x p.0.0 j p.0.1.1
+pairs-fit (x ∷ xs) (u ∷ us) (suc i) j p = pairs-fit xs us i j p.1
+
+pub ends : (ws : List (List ℤ)) (us : List Val) → shadow (each (List ℤ) (Array i32 2).own_val ws us) → Ends ws
+ends ws us p = record { low = λ i. pairs-fit ws us i 0 p; high = λ i. pairs-fit ws us i 1 p }
 
 -- ---- windows put back
 
@@ -49,16 +67,20 @@ module _ (m : List ℕ) (at : ℕ) (ws : List (List ℤ)) (eight : length ws ≡
       by i h (no a) (yes b) = absurd (h (omega arith) b)
       by i h (no a) (no b) = put-above m at i ws (omega arith)
 
--- one more, of those that were loaded
-pub stored : (m m' : List ℕ) (at : ℕ) (ls ws : List win.Window) (k : ℕ) (w : win.Window) → k < 8 → m' ≡ put_pairs m at (pairs_of ws) → of_pairs (pairs_at m' at 8) ≡ of_windows ws
-    → ws ≡ set ls k w → pairs_of ls ≡ pairs_at m at 8 → length ls ≡ 8 → PairSet m m' at (of_window w) k
-stored m m' at ls ws k w l q b r a e = record {
-  other = subst (λ (m' : List ℕ). Other m m' at (at + 16)) (sym q) (stored_other m at (pairs_of ws) (length-map ws pair_of ∙ ap length r ∙ length-set ls k w ∙ e));
-  is = ap (take (k + 1)) b
-      ∙ ap₂ (λ (j : ℕ) (us : List win.Window). take j (of_windows us)) (add-one k) r
-      ∙ windows-more ls k w (omega arith)
-      ∙ ap (λ (us : List Window). take k us ++ of_window w ∷ []) (loaded m at ls a);
-}
+  stored-pairs : (k : ℕ) → at + 16 ≤ length m → Ends ws → take k (of_pairs (pairs_at (put_pairs m at ws) at 8)) ≡ take k (of_pairs ws)
+  stored-pairs k l e = ap (take k) (ap (λ (n : ℕ). of_pairs (pairs_at (put_pairs m at ws) at n)) (sym eight) ∙ put-load m at ws (omega arith) e)
+
+-- one more
+pub stored : (m m' : List ℕ) (at : ℕ) (ws : List (List ℤ)) (k : ℕ) (p : List ℤ) (w : Window) → k < 8 → at + 16 ≤ length m → m' ≡ put_pairs m at ws → ws ≡ set (pairs_at m at 8) k p
+    → of_pair p ≡ w → length ws ≡ 8 → Ends ws → PairSet m m' at w k
+unfolding pairs_at
+stored m m' at ws k p w l h q r e n f = subst (λ (m' : List ℕ). PairSet m m' at w k) (sym q) (record {
+  other = stored_other m at ws n;
+  is = stored-pairs m at ws n (k + 1) h f
+      ∙ ap₂ (λ (j : ℕ) (us : List (List ℤ)). take j (of_pairs us)) (add-one k) r
+      ∙ pairs-more (pairs_at m at 8) k p l
+      ∙ ap (λ (w : Window). take k (of_pairs (pairs_at m at 8)) ++ w ∷ []) e;
+})
 
 -- a window, and the pair that it starts as
 pub reached : (m m₁ m₂ : List ℕ) (w : Window) (k : ℕ) → PairSet m m₁ windows_place w k → PairSet m₁ m₂ starts_place w k → Reached m m₂ w k
@@ -113,16 +135,13 @@ module _ (m : List ℕ) (k n : ℕ) (t : Tables m k n) where
       tables = t;
     }
 
-    module _ (m₁ : List ℕ) (ls us : List win.Window) (long : tables_place ≤ length m) (put : m₁ ≡ put_pairs m windows_place (pairs_of us)) (again : of_pairs (pairs_at m₁ windows_place 8) ≡ of_windows us) (read : of_windows ls ≡ of_pairs (pairs_at m windows_place 8))
-        (is : of_windows us ≡ narrowed_by c a b (of_windows ls)) (eight : length us ≡ 8) where
-      eight_pairs : length (pairs_of us) ≡ 8
-      eight_pairs = length-map us pair_of ∙ eight
-
+    module _ (m₁ : List ℕ) (ls us : List (List ℤ)) (long : tables_place ≤ length m) (put : m₁ ≡ put_pairs m windows_place us) (loaded : ls ≡ pairs_at m windows_place 8)
+        (is : of_pairs us ≡ narrowed_by c a b (of_pairs ls)) (eight : length us ≡ 8) (e : Ends us) where
       put-windows : windows_in m₁ k ≡ narrowed c (meant m n v) (meant m n w) (windows_in m k)
-      put-windows = ap (take k) (again ∙ is ∙ ap (narrowed_by c a b) read) ∙ by_values
+      put-windows = ap (λ (l : List ℕ). windows_in l k) put ∙ stored-pairs m windows_place us eight k (omega arith) e ∙ ap (take k) (is ∙ ap (λ (l : List (List ℤ)). narrowed_by c a b (of_pairs l)) loaded) ∙ by_values
 
       put_other : Other m m₁ windows_place windows_end
-      put_other = subst (λ (l : List ℕ). Other m l windows_place windows_end) (sym put) (stored_other m windows_place (pairs_of us) eight_pairs)
+      put_other = subst (λ (l : List ℕ). Other m l windows_place windows_end) (sym put) (stored_other m windows_place us eight)
 
       pub put_some : Windows (windows_in m₁ k)
       put_some = subst Windows (sym put-windows) some_left

@@ -195,7 +195,7 @@ fn store_pair(mem: &mut [u32], at: usize, w: Window, k: usize)
     ensures { PairSet mem.old mem.new at (of_window w) k }
 {
     let ws = window_memory::load(mem, at);
-    window_memory::put(mem, at, narrowing::with_window(ws, k, w));
+    window_memory::put(mem, at, narrowing::with_pair(ws, k, [w.low, w.high]));
 }
 
 // A free declaration is reached: window k starts as its pair, and the pair is kept.

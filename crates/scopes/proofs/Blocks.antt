@@ -6,8 +6,12 @@ use Rattle.events.specs.declared.event.Event.TheVariants.{Function, Parameter, T
 use Rattle.events.specs.Read.{as_event}
 use Rattle.text_rules.specs.Names.{Declared, variable, seen}
 use Rattle.text_rules.specs.Scopes.{Scope, scope, added, outer, entered}
-use Rattle.scopes.specs.Memory.{as_declared, blocks_of, scope_of, Ordered}
+use Rattle.scopes.specs.Memory.{as_declared, blocks_of, scope_of, Ordered, Packed}
 use Rattle.scopes.specs.declared.scope.Declaration as C
+
+pub packed-ordered : (end : ℕ) (ss : List ℕ) → Packed end ss → Ordered end ss
+packed-ordered end [] h = tt
+packed-ordered end (s ∷ ss) h = (h.0, packed-ordered s ss h.1)
 
 -- ---- how many there are
 
@@ -16,7 +20,7 @@ unfolding blocks_of
 length-blocks ds [] = refl
 length-blocks ds (s ∷ ss) = ap suc (length-blocks (take s ds) ss)
 
-pub length-seen : (ds : List Declared) (ss : List ℕ) → Ordered (length ds) ss → length (seen (blocks_of ds ss)) ≡ length ds
+pub length-seen : (ds : List Declared) (ss : List ℕ) → Packed (length ds) ss → length (seen (blocks_of ds ss)) ≡ length ds
 unfolding blocks_of seen
 length-seen ds [] h = sym h
 length-seen ds (s ∷ ss) h =
@@ -44,7 +48,7 @@ closed ds ss s n = rw (reverse-push ss s, take-map as_declared s ds)
 -- ---- a declaration
 
 -- d is the newest of the declarations of the innermost block
-newer : (ds : List Declared) (i n s : ℕ) (ss : List ℕ) → Ordered (length ds) (s ∷ ss) → blocks_of (ds ++ variable i n ∷ []) (s ∷ ss) ≡ added i n (blocks_of ds (s ∷ ss))
+newer : (ds : List Declared) (i n s : ℕ) (ss : List ℕ) → Packed (length ds) (s ∷ ss) → blocks_of (ds ++ variable i n ∷ []) (s ∷ ss) ≡ added i n (blocks_of ds (s ∷ ss))
 unfolding blocks_of added
 newer ds i n s ss h =
     let t : take s (ds ++ variable i n ∷ []) ≡ take s ds = take-append-le s ds (variable i n ∷ []) h.0 in
@@ -55,11 +59,11 @@ module _ (ds : List C.Declaration) (d : C.Declaration) where
   pushed : map as_declared (ds ++ d ∷ []) ≡ map as_declared ds ++ variable d.name d.slot ∷ []
   pushed = map-append as_declared ds (d ∷ [])
 
-  pub declared : (ss : List ℕ) (m : ℕ) → Ordered (length ds) (reverse ss) → 0 < length ss
+  pub declared : (ss : List ℕ) (m : ℕ) → Packed (length ds) (reverse ss) → 0 < length ss
       → scope_of (ds ++ d ∷ []) ss m ≡ scope (added d.name d.slot (blocks_of (map as_declared ds) (reverse ss))) m
   declared ss m h lt = go (reverse ss) h (length-reverse ss)
     where
-      go : (rs : List ℕ) → Ordered (length ds) rs → length rs ≡ length ss → scope (blocks_of (map as_declared (ds ++ d ∷ [])) rs) m ≡ scope (added d.name d.slot (blocks_of (map as_declared ds) rs)) m
+      go : (rs : List ℕ) → Packed (length ds) rs → length rs ≡ length ss → scope (blocks_of (map as_declared (ds ++ d ∷ [])) rs) m ≡ scope (added d.name d.slot (blocks_of (map as_declared ds) rs)) m
       go [] o e = absurd (omega (arith, e, lt))
       go (s ∷ rs) o e =
           let q : length (map as_declared ds) ≡ length ds = length-map ds as_declared in
@@ -79,26 +83,26 @@ declaration i n = record { name = i; slot = n }
 
 -- what the code has after a declaration: ds and ss are what it had before it, ds' and ss' what it had where it wrote it
 module _ (i n n' : ℕ) (ds ds' ds'' : List C.Declaration) (ss ss' : List ℕ) where
-  pub declares-first : (k : ℕ) → ds' ≡ ds → n' ≡ n → k ≡ length ds → ss' ≡ ss ++ k ∷ [] → ss ≡ [] → Ordered (length ds) (reverse ss) → ds'' ≡ ds' ++ declaration i n' ∷ []
+  pub declares-first : (k : ℕ) → ds' ≡ ds → n' ≡ n → k ≡ length ds → ss' ≡ ss ++ k ∷ [] → ss ≡ [] → Packed (length ds) (reverse ss) → ds'' ≡ ds' ++ declaration i n' ∷ []
       → scope_of ds'' ss' (n' + 1) ≡ scope (added i n (blocks_of (map as_declared ds) (reverse ss))) (suc n)
   unfolding blocks_of
   declares-first k a b q f e o g =
-      let x : Ordered (length ds) (reverse []) = rw e at o in
+      let x : Packed (length ds) (reverse []) = rw e at o in
       rw (g, a, b, f, q, e, add-one) (declared-first ds (declaration i n) (suc n) (none-of ds (λ lt. omega (arith, lt, x))))
 
-  pub declares : ds' ≡ ds → n' ≡ n → ss' ≡ ss → Ordered (length ds) (reverse ss) → 0 < length ss → ds'' ≡ ds' ++ declaration i n' ∷ []
+  pub declares : ds' ≡ ds → n' ≡ n → ss' ≡ ss → Packed (length ds) (reverse ss) → 0 < length ss → ds'' ≡ ds' ++ declaration i n' ∷ []
       → scope_of ds'' ss' (n' + 1) ≡ scope (added i n (blocks_of (map as_declared ds) (reverse ss))) (suc n)
   declares a b f o lt g = rw (g, a, b, f, add-one) (declared ds (declaration i n) ss (suc n) o lt)
 
-  pub ordered-first : (k : ℕ) → ds' ≡ ds → k ≡ length ds → ss' ≡ ss ++ k ∷ [] → ss ≡ [] → Ordered (length ds) (reverse ss) → ds'' ≡ ds' ++ declaration i n' ∷ [] → Ordered (length ds'') (reverse ss')
+  pub ordered-first : (k : ℕ) → ds' ≡ ds → k ≡ length ds → ss' ≡ ss ++ k ∷ [] → ss ≡ [] → Packed (length ds) (reverse ss) → ds'' ≡ ds' ++ declaration i n' ∷ [] → Packed (length ds'') (reverse ss')
   ordered-first k a q f e o g =
-      let x : Ordered (length ds) (reverse []) = rw e at o in
+      let x : Packed (length ds) (reverse []) = rw e at o in
       rw (f, e, q) (omega (arith, x), x)
 
-  pub ordered-later : ds' ≡ ds → ss' ≡ ss → Ordered (length ds) (reverse ss) → 0 < length ss → ds'' ≡ ds' ++ declaration i n' ∷ [] → Ordered (length ds'') (reverse ss')
+  pub ordered-later : ds' ≡ ds → ss' ≡ ss → Packed (length ds) (reverse ss) → 0 < length ss → ds'' ≡ ds' ++ declaration i n' ∷ [] → Packed (length ds'') (reverse ss')
   ordered-later a f o lt g = rw f (go (reverse ss) o (length-reverse ss))
     where
-      go : (rs : List ℕ) → Ordered (length ds) rs → length rs ≡ length ss → Ordered (length ds'') rs
+      go : (rs : List ℕ) → Packed (length ds) rs → length rs ≡ length ss → Packed (length ds'') rs
       go [] p e = absurd (omega (arith, e, lt))
       go (s ∷ rs) p e = (omega (arith, p.0, ap length a, ap length g, length-append ds' (declaration i n' ∷ [])), p.1)
 

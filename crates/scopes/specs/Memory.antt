@@ -17,13 +17,19 @@ blocks_of ds (s ∷ ss) = reverse (drop s ds) ∷ blocks_of (take s ds) ss
 abbrev pub scope_of : List C.Declaration → List ℕ → ℕ → Scope
 scope_of ds ss n = scope (blocks_of (map as_declared ds) (reverse ss)) n
 
--- the blocks lie one after the other, from the first declaration on, and end before the declaration `end`
+-- the blocks lie one after the other, and end before the declaration `end`
 abbrev pub Ordered : ℕ → List ℕ → Type 0
-Ordered end [] = end ≡ 0
+Ordered end [] = Unit
 Ordered end (s ∷ ss) = (s ≤ end) × Ordered s ss
 
--- there is room for one more block and one more declaration
-pub record Room (s : Scope) : Type 0 where
-  pub blocks : length s.blocks < 4096
-  pub seen : length (seen s.blocks) < 4096
+-- and no declaration stands before the first of them
+abbrev pub Packed : ℕ → List ℕ → Type 0
+Packed end [] = end ≡ 0
+Packed end (s ∷ ss) = (s ≤ end) × Packed s ss
+
+-- there is room for m blocks and for m declarations, and some of it is left
+pub record Room (m : ℕ) (s : Scope) : Type 0 where
+  pub size : m < 2 ^ 32
+  pub blocks : length s.blocks < m
+  pub seen : length (seen s.blocks) < m
   pub next : s.next < 2 ^ 32

@@ -17,13 +17,8 @@ pub struct Sought {
     pub compared: usize,
 }
 
-// The name of token i among the declarations of blocks that begin at `starts`. The first hit leaves both loops.
-pub(crate) fn lookup(
-    source: &Source,
-    declarations: &[Declaration],
-    starts: &[usize],
-    i: usize,
-) -> Sought
+// The name of token i is sought from the innermost block outwards, and within a block from its newest declaration back: the blocks begin at `starts` among the declarations, both from the outermost on. The first hit leaves both loops.
+pub fn seek(source: &Source, declarations: &[Declaration], starts: &[usize], i: usize) -> Sought
     requires { Ordered (length declarations.now) (reverse starts.now) }
     ensures found { slot_of result ≡ N.sought (same_in source.now) (blocks_of (map as_declared declarations.now) (reverse starts.now)) i }
     ensures compared { result.compared ≡ N.compared (same_in source.now) (N.seen (blocks_of (map as_declared declarations.now) (reverse starts.now))) i }

@@ -4,10 +4,10 @@ ghost use Rattle.events.specs.Read.{as_event};
 ghost use Rattle.text_rules.specs.Spelling.{same_in};
 ghost use Rattle.text_rules.specs.Names as N;
 ghost use Rattle.text_rules.specs.Scopes.{Scope, scope, nowhere, added, outer, entered};
-ghost use Rattle.scopes.specs.Memory.{scope_of, Ordered, Room};
+ghost use Rattle.scopes.specs.Memory.{scope_of, Packed, Room};
 ghost use Rattle.scopes.specs.Answers.{slot_of, or_zero};
 
-use crate::lookup::{Sought, lookup};
+use crate::lookup::{Sought, seek};
 use arrayvec::ArrayVec;
 use events::event::Event;
 use std::marker::Model;
@@ -20,28 +20,25 @@ pub struct Declaration {
     pub slot: u32,
 }
 
-// How many declarations and how many blocks there is room for: as many as events.
-const ROOM: usize = 4096;
-
-// The declarations that can be seen, the earliest first; where each open block begins among them, the outermost first; and the number of the function's next declaration. A clause sees the blocks with their declarations, and that number.
+// The declarations that can be seen, the earliest first; where each open block begins among them, the outermost first; and the number of the function's next declaration. There is room for so many of either. A clause sees the blocks with their declarations, and that number.
 #[derive(Drop)]
-pub struct Scopes {
+pub struct Scopes<const ROOM: usize> {
     declarations: ArrayVec<Declaration, ROOM>,
     starts: ArrayVec<usize, ROOM>,
     next: usize,
 }
 
-impl Model for Scopes {
+impl<const ROOM: usize> Model for Scopes<ROOM> {
     ghost Value = { Scope };
 
     ghost view = { λ s. scope_of s.declarations.items s.starts.items s.next };
 
-    ghost invariant = { λ s. Ordered (length s.declarations.items) (reverse s.starts.items) };
+    ghost invariant = { λ s. Packed (length s.declarations.items) (reverse s.starts.items) };
 }
 
-impl Scopes {
+impl<const ROOM: usize> Scopes<ROOM> {
     // No block is open.
-    pub fn new() -> Scopes
+    pub fn new() -> Scopes<ROOM>
         ensures { result ≡ nowhere }
     {
         Scopes {
@@ -64,7 +61,7 @@ impl Scopes {
         ensures compared { result.compared ≡ N.compared (same_in source.now) (N.seen self.now.blocks) i }
         ensures small { or_zero (slot_of result) < 2 ^ 32 }
     {
-        lookup(
+        seek(
             source,
             self.declarations.as_slice(),
             self.starts.as_slice(),
@@ -74,6 +71,8 @@ impl Scopes {
 
     // A function begins, with the block of its parameters.
     fn begin_function(&mut self)
+        requires blocks { 0 < ROOM }
+        requires size { ROOM < 2 ^ 32 }
         ensures { self.new ≡ scope ([] ∷ []) 0 }
     {
         self.declarations.clear();
@@ -83,7 +82,8 @@ impl Scopes {
     }
 
     fn open_block(&mut self)
-        requires { length self.old.blocks < 4096 }
+        requires blocks { length self.old.blocks < ROOM }
+        requires size { ROOM < 2 ^ 32 }
         ensures { self.new ≡ scope ([] ∷ self.old.blocks) self.old.next }
     {
         self.starts.push(self.declarations.len());
@@ -99,7 +99,7 @@ impl Scopes {
 
     // A declaration in the innermost block; where no block is open, it opens one.
     fn declare(&mut self, name: usize)
-        requires { Room self.old }
+        requires { Room ROOM self.old }
         ensures { self.new ≡ scope (added name self.old.next self.old.blocks) (suc self.old.next) }
     {
         if self.starts.is_empty() {
@@ -114,7 +114,7 @@ impl Scopes {
 
     // Goes on past an event.
     pub fn enter(&mut self, event: Event)
-        requires { Room self.old }
+        requires { Room ROOM self.old }
         ensures { self.new ≡ entered self.old (as_event event) }
     {
         match event {

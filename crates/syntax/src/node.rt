@@ -88,6 +88,13 @@ impl Nodes {
         }
     }
 
+    // The nodes, first to last.
+    pub fn as_slice(&self) -> &[Node]
+        ensures { words_of result.now ≡ self.now }
+    {
+        &self.nodes
+    }
+
     // Node i.
     pub fn node(&self, i: usize) -> Node
         requires { (node_words * i + node_words ≤ length self.now) × (i < 65536) }

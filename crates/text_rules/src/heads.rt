@@ -98,7 +98,7 @@ pub fn collect_heads(events: &Events, heads: &mut Heads)
 }
 
 // The number of the first of some functions that has the name of token i.
-fn position_of(source: &Source, list: &[Head], i: usize) -> Option<usize>
+pub fn position_of(source: &Source, list: &[Head], i: usize) -> Option<usize>
     ensures { result ≡ position (λ h. same_in source.now h.name i) list.now }
 {
     list.iter().position(|head| same_name(source, head.name, i))

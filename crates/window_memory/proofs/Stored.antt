@@ -12,8 +12,7 @@ use mir.Val.{to_z, of_z, SFits}
 use mir.Facts.{to_z-of_z}
 use Rattle.semantics.specs.Program.{Window}
 use Rattle.semantics.specs.Search.{to}
-use Rattle.intervals.specs.declared.Window as code
-use Rattle.intervals.specs.Meaning.{of_window, of_windows, of_pair, of_pairs, pair_of, pairs_of}
+use Rattle.intervals.specs.Meaning.{of_pair, of_pairs}
 use Rattle.window_memory.specs.Memory.{pair_at, pairs_at, put_pair, put_pairs}
 
 -- the eight pairs, by their places
@@ -37,15 +36,12 @@ unfolding put_pairs
 length-put m k [] = refl
 length-put m k (p ∷ ps) = length-put (put_pair m k p) (k + 2) ps ∙ length-pair m k p
 
--- one window more
-pub put-more : (m : List ℕ) (k : ℕ) (ws : List code.Window) (i : ℕ) (d : code.Window) → i < length ws
-    → put_pairs m k (take (suc i) (pairs_of ws)) ≡ put_pair (put_pairs m k (take i (pairs_of ws))) (k + 2 * i) (pair_of (get_or ws i d))
+-- one pair more
+pub put-more : (m : List ℕ) (k : ℕ) (ws : List (List ℤ)) (i : ℕ) → i < length ws → put_pairs m k (take (suc i) ws) ≡ put_pair (put_pairs m k (take i ws)) (k + 2 * i) (get_or ws i [])
 unfolding put_pairs
-put-more m k [] i d h = absurd (omega arith)
-put-more m k (w ∷ ws) zero d h = ap (λ (n : ℕ). put_pair m n (pair_of w)) (omega arith)
-put-more m k (w ∷ ws) (suc i) d h =
-    put-more (put_pair m k (pair_of w)) (k + 2) ws i d (omega arith)
-    ∙ ap (λ (n : ℕ). put_pair (put_pairs (put_pair m k (pair_of w)) (k + 2) (take i (pairs_of ws))) n (pair_of (get_or ws i d))) (omega arith)
+put-more m k [] i h = absurd (omega arith)
+put-more m k (q ∷ ws) zero h = ap (λ (n : ℕ). put_pair m n q) (omega arith)
+put-more m k (q ∷ ws) (suc i) h = put-more (put_pair m k q) (k + 2) ws i (omega arith) ∙ ap (λ (n : ℕ). put_pair (put_pairs (put_pair m k q) (k + 2) (take i ws)) n (get_or ws i [])) (omega arith)
 
 -- ---- what is kept
 
@@ -64,30 +60,27 @@ put-above m k j (p ∷ ps) h = put-above (put_pair m k p) (k + 2) j ps (omega ar
 
 -- ---- loaded again
 
--- both ends of a window fit 32 bits
-pub record Fitting (w : code.Window) : Type 0 where
-  pub low : SFits w32 w.low
-  pub high : SFits w32 w.high
+-- both ends of each pair fit 32 bits
+pub record Ends (ws : List (List ℤ)) : Type 0 where
+  pub low : (i : ℕ) → SFits w32 (get_or (get_or ws i []) 0 (pos 0))
+  pub high : (i : ℕ) → SFits w32 (get_or (get_or ws i []) 1 (pos 0))
 
-abbrev pub nought : code.Window
-nought = record { low = pos 0; high = pos 0 }
-
--- the window at k, where so many windows are put after it
-first : (m : List ℕ) (k : ℕ) (w : code.Window) (ps : List (List ℤ)) → k + 1 < length m → Fitting w → of_pair (pair_at (put_pairs (put_pair m k (pair_of w)) (k + 2) ps) k) ≡ of_window w
-first m k w ps h f =
-    let l = of_z w32 w.low in
-    let u = of_z w32 w.high in
-    let a : get_or (put_pair m k (pair_of w)) k 0 ≡ l = get_or-set_other (set m k l) (k + 1) k u 0 (λ e. omega arith) ∙ get_or-set_same m k l 0 (omega arith) in
-    let b : get_or (put_pair m k (pair_of w)) (k + 1) 0 ≡ u = get_or-set_same (set m k l) (k + 1) u 0 (simp length-set (omega arith)) in
+-- the pair at k, where so many pairs are put after it
+first : (m : List ℕ) (k : ℕ) (p : List ℤ) (ps : List (List ℤ)) → k + 1 < length m → SFits w32 (get_or p 0 (pos 0)) → SFits w32 (get_or p 1 (pos 0))
+    → of_pair (pair_at (put_pairs (put_pair m k p) (k + 2) ps) k) ≡ of_pair p
+first m k p ps h f g =
+    let l = of_z w32 (get_or p 0 (pos 0)) in
+    let u = of_z w32 (get_or p 1 (pos 0)) in
+    let a : get_or (put_pair m k p) k 0 ≡ l = get_or-set_other (set m k l) (k + 1) k u 0 (λ e. omega arith) ∙ get_or-set_same m k l 0 (omega arith) in
+    let b : get_or (put_pair m k p) (k + 1) 0 ≡ u = get_or-set_same (set m k l) (k + 1) u 0 (simp length-set (omega arith)) in
     ap₂ to
-    (ap (to_z w32) (put-below (put_pair m k (pair_of w)) (k + 2) k ps (omega arith) ∙ a) ∙ to_z-of_z f.low)
-    (ap (to_z w32) (put-below (put_pair m k (pair_of w)) (k + 2) (k + 1) ps (omega arith) ∙ b) ∙ to_z-of_z f.high)
+    (ap (to_z w32) (put-below (put_pair m k p) (k + 2) k ps (omega arith) ∙ a) ∙ to_z-of_z f)
+    (ap (to_z w32) (put-below (put_pair m k p) (k + 2) (k + 1) ps (omega arith) ∙ b) ∙ to_z-of_z g)
 
-pub put-load : (m : List ℕ) (k : ℕ) (ws : List code.Window) → k + 2 * length ws ≤ length m → ((i : ℕ) → i < length ws → Fitting (get_or ws i nought))
-    → of_pairs (pairs_at (put_pairs m k (pairs_of ws)) k (length ws)) ≡ of_windows ws
+pub put-load : (m : List ℕ) (k : ℕ) (ws : List (List ℤ)) → k + 2 * length ws ≤ length m → Ends ws → of_pairs (pairs_at (put_pairs m k ws) k (length ws)) ≡ of_pairs ws
 unfolding put_pairs pairs_at
-put-load m k [] h f = refl
-put-load m k (w ∷ ws) h f =
-    ap₂ (λ (v : Window) (vs : List Window). v ∷ vs)
-    (first m k w (pairs_of ws) (omega arith) (f 0 (omega arith)))
-    (put-load (put_pair m k (pair_of w)) (k + 2) ws (omega (arith, length-pair m k (pair_of w))) (λ i l. f (suc i) (omega arith)))
+put-load m k [] h e = refl
+put-load m k (p ∷ ps) h e =
+    ap₂ (λ (w : Window) (vs : List Window). w ∷ vs)
+    (first m k p ps (omega arith) (e.low 0) (e.high 0))
+    (put-load (put_pair m k p) (k + 2) ps (omega (arith, length-pair m k p)) (record { low = λ i. e.low (suc i); high = λ i. e.high (suc i) }))

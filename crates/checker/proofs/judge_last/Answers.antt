@@ -11,7 +11,7 @@ returns-in_err-keeps c =
     rw (passed _ c.from_residual.ensures.1)
     (record {
       is = λ p e.
-          let unset = at (c.unassigned.ensures.is p e.holds ∙ ap least e.means) c.in_err-keeps.ensures in
+          let unset = at ((rw c.as_slice.ensures at c.unassigned.ensures).is p e.holds ∙ ap least e.means) c.in_err-keeps.ensures in
           rw unset.breaks unset.said;
     })
 
@@ -22,7 +22,7 @@ returns-in_err-keeps-2 c =
     rw (passed _ c.from_residual-in_err-keeps-2.ensures.1)
     (record {
       is = λ p e.
-          let unset = nowhere (c.unassigned.ensures.is p e.holds ∙ ap least e.means) c.in_ok-keeps.ensures in
+          let unset = nowhere ((rw c.as_slice.ensures at c.unassigned.ensures).is p e.holds ∙ ap least e.means) c.in_ok-keeps.ensures in
           rw (unset, ← e.listed, counts.breaks) counts.said;
     })
 
@@ -33,7 +33,7 @@ returns-in_err-keeps-3 c =
     rw (passed _ c.from_residual-in_err-keeps-3.ensures.1)
     (record {
       is = λ p e.
-          let unset = nowhere (c.unassigned.ensures.is p e.holds ∙ ap least e.means) c.in_ok-keeps.ensures in
+          let unset = nowhere ((rw c.as_slice.ensures at c.unassigned.ensures).is p e.holds ∙ ap least e.means) c.in_ok-keeps.ensures in
           let turned = at (c.bad_pair.ensures ∙ reversed-so c.args.source.now.kinds c.args.source.now.values p e.shown) c.in_err-keeps-3.ensures in
           rw (unset, ← e.listed, counts, turned.breaks) turned.said;
     })
@@ -44,7 +44,10 @@ returns c =
     let counts = nowhere c.too_many.ensures c.in_ok-keeps-2.ensures in
     record {
       is = λ p e.
-          let unset = nowhere (c.unassigned.ensures.is p e.holds ∙ ap least e.means) c.in_ok-keeps.ensures in
+          let unset = nowhere ((rw c.as_slice.ensures at c.unassigned.ensures).is p e.holds ∙ ap least e.means) c.in_ok-keeps.ensures in
           let turned = nowhere (c.bad_pair.ensures ∙ reversed-so c.args.source.now.kinds c.args.source.now.values p e.shown) c.in_ok-keeps-3.ensures in
           rw (unset, ← e.listed, counts, turned, ← (c.bad_pair-2.ensures ∙ wide-so c.args.source.now.kinds c.args.source.now.values p e.shown)) c.keeps-4.ensures.said;
     }
+
+pub unassigned-requires : goal.unassigned-requires
+unassigned-requires c = rw c.as_slice.ensures c.requires.1

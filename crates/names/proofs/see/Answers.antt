@@ -31,17 +31,17 @@ module _ (same : ℕ → ℕ → Bool) (hs : List Head) (s : Scope) where
 
 pub returns-in-Parameter : goal.returns-in-Parameter
 unfolding on_name misnamed uncalled named
-returns-in-Parameter c = elim c.in-Parameter.is [ inl e ↦ rw e (with_nothing c.see_declaration.ensures) | inr e ↦ rw e (with_nothing c.see_declaration.ensures) ]
+returns-in-Parameter g c = elim c.in-Parameter.is [ inl e ↦ rw e (with_nothing c.see_declaration.ensures) | inr e ↦ rw e (with_nothing c.see_declaration.ensures) ]
 
 pub returns-in-Uses : goal.returns-in-Uses
 unfolding on_name misnamed uncalled named
-returns-in-Uses c = rw c.in-Uses.is (with_nothing c.see_variable.ensures)
+returns-in-Uses g c = rw c.in-Uses.is (with_nothing c.see_variable.ensures)
 
 pub returns-in-Calls : goal.returns-in-Calls
 unfolding on_name misnamed uncalled named
-returns-in-Calls c = rw c.in-Calls.is c.see_call.ensures
+returns-in-Calls g c = rw c.in-Calls.is c.see_call.ensures
 
 pub returns-in_default : goal.returns-in_default
-returns-in_default c =
+returns-in_default g c =
     let o = other (same_in c.args.source.now) _ _ c.args.event c.in_default.not-Parameter c.in_default.not-Declares c.in_default.not-Uses c.in_default.not-Calls in
     nothing o.0 o.1

@@ -9,7 +9,7 @@ use Rattle.semantics.specs.Program.{Window}
 use Rattle.semantics.specs.Search.{mirrored, decided, clipped}
 use Rattle.ints.specs.Meaning.{of_comparison}
 use Rattle.ints.proofs.Fits.{same_bits, other-bits}
-use Rattle.intervals.specs.Meaning.{of_window, of_windows}
+use Rattle.intervals.specs.Meaning.{of_window, of_pairs}
 use Rattle.narrowing.specs.Meaning.{range_of, variable_of}
 use Rattle.narrowing.proofs.Sides.{left-narrows, right-narrows, none-narrows, asked-left, asked-right}
 use Rattle.narrowing.proofs.narrowed.Goals as goal
@@ -17,7 +17,7 @@ use Rattle.narrowing.proofs.narrowed.Goals as goal
 pub narrow_side-requires : goal.narrow_side-requires
 narrow_side-requires c =
     let p = of_comparison c.args.c in
-    let ws = of_windows c.args.ws in
+    let ws = of_pairs c.args.ws in
     let l : SFits w32 c.range_of-w.result.low = search rules in
     let h : SFits w32 c.range_of-w.result.high = search rules in
     let d : decided p (range_of ws c.args.a) (of_window c.range_of-w.result) ≡ none = subst (λ (u : Window). decided p (range_of ws c.args.a) u ≡ none) (sym c.range_of-w.ensures) c.requires.undecided in
@@ -26,7 +26,7 @@ narrow_side-requires c =
 pub returns-then-w : goal.returns-then-w
 returns-then-w c =
     let p = of_comparison c.args.c in
-    let ws = of_windows c.args.ws in
+    let ws = of_pairs c.args.ws in
     let both : Window → Window → List Window = λ u t. clipped (mirrored p) (variable_of c.args.b) u (clipped p (variable_of c.args.a) t ws) in
     let l : SFits w32 c.range_of-w.result.low = search rules in
     let h : SFits w32 c.range_of-w.result.high = search rules in
@@ -38,7 +38,7 @@ returns-then-w c =
 pub narrow_side-requires-then-v : goal.narrow_side-requires-then-v
 narrow_side-requires-then-v c =
     let p = of_comparison c.args.c in
-    let ws = of_windows c.args.ws in
+    let ws = of_pairs c.args.ws in
     let l : SFits w32 c.range_of-w.result.low = search rules in
     let h : SFits w32 c.range_of-w.result.high = search rules in
     let f : SFits w32 c.range_of-v.result.low = search rules in
@@ -49,7 +49,7 @@ narrow_side-requires-then-v c =
 pub returns-then-v : goal.returns-then-v
 returns-then-v c =
     let p = of_comparison c.args.c in
-    let ws = of_windows c.args.ws in
+    let ws = of_pairs c.args.ws in
     let both : Window → Window → List Window = λ u t. clipped (mirrored p) (variable_of c.args.b) u (clipped p (variable_of c.args.a) t ws) in
     let l : SFits w32 c.range_of-w.result.low = search rules in
     let h : SFits w32 c.range_of-w.result.high = search rules in
@@ -62,7 +62,7 @@ returns-then-v c =
 pub returns : goal.returns
 returns c =
     let p = of_comparison c.args.c in
-    let ws = of_windows c.args.ws in
+    let ws = of_pairs c.args.ws in
     let both : Window → Window → List Window = λ u t. clipped (mirrored p) (variable_of c.args.b) u (clipped p (variable_of c.args.a) t ws) in
     let l : SFits w32 c.range_of-w.result.low = search rules in
     let h : SFits w32 c.range_of-w.result.high = search rules in

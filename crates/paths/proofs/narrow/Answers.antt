@@ -1,15 +1,16 @@
 use Prim.Native.Nat.{◌≤◌}
 use mathlib.Core.Path.{◌≡◌, ap, ◌∙◌}
 use mathlib.Core.List.{List}
-use Rattle.semantics.specs.Program.{Window}
 use native.Mathlib.Omega.{arith}
+use lib.IntN.{ℤ}
 use lib.ListN.{length}
 use Rattle.semantics.specs.Search.{decided}
 use Rattle.ints.specs.Meaning.{of_comparison}
+use Rattle.intervals.specs.Meaning.{of_pairs}
 use Rattle.narrowing.specs.Meaning.{range_of}
 use Rattle.machine.specs.Layout.{tables_place}
 use Rattle.machine.proofs.Tables.{room-same}
-use Rattle.paths.proofs.Narrowing.{loaded, side-placed, sides-undecided, narrowed_none, put_some, narrowed-so}
+use Rattle.paths.proofs.Narrowing.{ends, side-placed, sides-undecided, narrowed_none, put_some, narrowed-so}
 use borrow.Author.Rules.{rules}
 use Rattle.paths.proofs.narrow.Goals as goal
 
@@ -30,8 +31,8 @@ narrowed-requires c =
         side-placed c.args.mem.now c.args.k c.args.n c.requires.0 c.side-b.result c.args.w
             c.side-b.ensures,
       );
-      undecided = ap (λ (l : List Window). decided (of_comparison c.args.c) (range_of l c.side-a.result)
-          (range_of l c.side-b.result)) (loaded _ _ _ c.load-ws.ensures)
+      undecided = ap (λ (l : List (List ℤ)). decided (of_comparison c.args.c) (range_of (of_pairs l) c.side-a.result)
+          (range_of (of_pairs l) c.side-b.result)) c.load-ws.ensures
           ∙ sides-undecided c.args.mem.now c.args.k c.args.n c.requires.0 (of_comparison c.args.c) c.args.v c.args.w c.side-a.result
           c.side-b.result c.requires.1 c.side-a.ensures
           c.side-b.ensures;
@@ -48,8 +49,8 @@ all_ranges-requires c =
           c.side-b.result c.requires.1
           c.side-a.ensures
           c.side-b.ensures c.put.new.mem
-          c.load-ws.result c.narrowed.result l c.put.ensures.words c.put.ensures.loaded (loaded _ _ _ c.load-ws.ensures)
-          c.narrowed.ensures n,
+          c.load-ws.result c.narrowed.result l c.put.ensures c.load-ws.ensures
+          c.narrowed.ensures n (ends c.narrowed.result c.narrowed.type_inv.0 c.narrowed.type_inv.1.1),
     )
 
 pub returns : goal.returns
@@ -62,6 +63,7 @@ returns c =
     c.side-a.ensures
     c.side-b.ensures
     c.put.new.mem c.load-ws.result c.narrowed.result l
-    c.put.ensures.words c.put.ensures.loaded (loaded _ _ _ c.load-ws.ensures)
+    c.put.ensures c.load-ws.ensures
     c.narrowed.ensures n
+    (ends c.narrowed.result c.narrowed.type_inv.0 c.narrowed.type_inv.1.1)
     c.all_ranges.new.mem (c.all_ranges.auto.mem ∙ c.put.auto.mem) c.all_ranges.ensures

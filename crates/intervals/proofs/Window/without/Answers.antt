@@ -49,4 +49,4 @@ returns-else-self-k-2 c =
     let h : SFits w32 c.args.self.high = search rules in
     let d = other-bits c.args.self.low c.args.k l c.ranges.k c.if-self-k.false in
     let e = other-bits c.args.self.high c.args.k h c.ranges.k c.if-self-k-2.false in
-    simp (ne-kept (of_window c.args.self) c.args.k d e)
+    simp (to_z-of_z l, to_z-of_z h, ne-kept (of_window c.args.self) c.args.k d e)

@@ -5,19 +5,19 @@ use Rattle.scopes.proofs.scope.Scopes.enter.Goals as goal
 
 pub returns-in-Function : goal.returns-in-Function
 unfolding entered
-returns-in-Function c = rw c.in-Function.is c.begin_function.ensures
+returns-in-Function g c = rw c.in-Function.is c.begin_function.ensures
 
 pub returns-in-Opens : goal.returns-in-Opens
 unfolding entered
-returns-in-Opens c = rw c.in-Opens.is c.open_block.ensures
+returns-in-Opens g c = rw c.in-Opens.is c.open_block.ensures
 
 pub returns-in-Closes : goal.returns-in-Closes
 unfolding entered
-returns-in-Closes c = rw c.in-Closes.is c.close_block.ensures
+returns-in-Closes g c = rw c.in-Closes.is c.close_block.ensures
 
 pub returns-in_default : goal.returns-in_default
-returns-in_default c = stays _ _ c.in_default.not-Function c.in_default.not-Parameter c.in_default.not-Declares c.in_default.not-Opens c.in_default.not-Closes
+returns-in_default g c = stays _ _ c.in_default.not-Function c.in_default.not-Parameter c.in_default.not-Declares c.in_default.not-Opens c.in_default.not-Closes
 
 pub returns-in-Parameter : goal.returns-in-Parameter
 unfolding entered
-returns-in-Parameter c = elim c.in-Parameter.is [ inl e ↦ rw e c.declare.ensures | inr e ↦ rw e c.declare.ensures ]
+returns-in-Parameter g c = elim c.in-Parameter.is [ inl e ↦ rw e c.declare.ensures | inr e ↦ rw e c.declare.ensures ]

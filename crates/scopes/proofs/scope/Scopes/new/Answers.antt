@@ -3,4 +3,4 @@ use Rattle.scopes.proofs.scope.Scopes.new.Goals as goal
 
 pub returns : goal.returns
 unfolding blocks_of
-returns c = rw (c.new.ensures, c.new-2.ensures)
+returns g c = rw (c.new.ensures, c.new-2.ensures)

@@ -6,11 +6,11 @@ use Rattle.scopes.proofs.Blocks.{length-blocks, opened}
 use Rattle.scopes.proofs.scope.Scopes.open_block.Goals as goal
 
 pub push-requires : goal.push-requires
-push-requires c =
+push-requires g c =
     let I = c.self.inside in
     let e : length c.args.self.now.blocks ≡ length I.starts.items = ap (λ (s : Scope). length s.blocks) (sym c.self.view_is) ∙ length-blocks (map as_declared I.declarations.items) (reverse I.starts.items) ∙ length-reverse I.starts.items in
-    let h : length I.starts.items < 4096 = omega (arith, e, c.requires) in
+    let h : length I.starts.items < g.row.ROOM = omega (arith, e, c.requires) in
     (omega arith, h)
 
 pub returns : goal.returns
-returns c = rw (sym c.self.view_is, c.push.ensures.items, c.len.ensures.value) (opened c.self.inside.declarations.items c.self.inside.starts.items c.self.inside.next)
+returns g c = rw (sym c.self.view_is, c.push.ensures.items, c.len.ensures.value) (opened c.self.inside.declarations.items c.self.inside.starts.items c.self.inside.next)

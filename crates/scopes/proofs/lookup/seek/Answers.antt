@@ -1,7 +1,7 @@
 use Rattle.std.proofs.Common.{refl, sym, ◌∙◌}
 use Rattle.scopes.proofs.Blocks.{declaration}
 use Rattle.scopes.proofs.Seeking.{begins, ends, misses, hits, leaves}
-use Rattle.scopes.proofs.lookup.lookup.Goals as goal
+use Rattle.scopes.proofs.lookup.seek.Goals as goal
 
 pub loop-k-init : goal.loop-k-init
 loop-k-init c = begins _ _ _ _ c.loop-block.invariant c.loop-block-test.true refl

@@ -7,7 +7,7 @@ use Rattle.syntax.specs.contracts.node.NodeKind.{the_type}
 use Rattle.events.proofs.Counting.{rest-step, rest-none}
 use Rattle.events.proofs.Nodes.{other}
 use Rattle.assignment.proofs.Counting.{counts-parameters}
-use Rattle.assignment.proofs.parameters.Goals as goal
+use Rattle.assignment.proofs.Walk.parameters.Goals as goal
 
 pub returns-then-ne : goal.returns-then-ne
 returns-then-ne c = record { is = λ a h. rest-none counts-parameters (other {k = kind.MoreParams} (differs_true the_type c.node-node.result.kind kind.MoreParams (sym c.if-ne.ensures))) c.node-node.ensures (c.loop-node.invariant.1 a h) }
