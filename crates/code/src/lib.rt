@@ -47,50 +47,41 @@ pub enum Entry {
     Return,
 }
 
-// How many entries there is room for: as many as a text's tokens need.
-pub const ENTRIES: usize = 2052;
-
 // How many functions a program has at most.
 pub const FUNCTIONS: usize = 16;
 
 // Where the functions begin that a program has not: the entry where a run fails.
 pub const NOWHERE: usize = 2;
 
-// A code: its entries, and where each function begins.
+// A code: its entries, and where each function begins. A clause sees it as the code that the machine works.
 #[derive(Drop)]
-pub struct Code {
-    entries: [Entry; ENTRIES],
-    count: usize,
-    starts: [usize; FUNCTIONS],
+pub struct Code<'a> {
+    entries: &'a [Entry],
+    starts: &'a [usize; FUNCTIONS],
 }
 
-impl Model for Code {
+impl<'a> Model for Code<'a> {
     ghost Value = { Told };
 
-    ghost view = { λ c. record { entries = map as_entry (take c.count c.entries); starts = c.starts } };
+    ghost view = { λ c. record { entries = map as_entry c.entries.now; starts = c.starts.now } };
 
-    ghost invariant = { λ c. (c.count ≤ 2052) × (length c.entries ≡ 2052) × (length c.starts ≡ 16) };
+    ghost invariant = { λ c. (length c.entries.now < 65536) × (length c.starts.now ≡ 16) };
 }
 
-impl Code {
-    // A code with no entries and no functions.
-    pub fn new() -> Code
-        ensures entries { result.entries ≡ [] }
-        ensures starts { result.starts ≡ replicate 16 2 }
+impl<'a> Code<'a> {
+    pub fn new(entries: &'a [Entry], starts: &'a [usize; FUNCTIONS]) -> Code<'a>
+        requires { length entries.now < 65536 }
+        ensures { result ≡ record { entries = map as_entry entries.now; starts = starts.now } }
     {
-        Code {
-            entries: [Entry::Fail; ENTRIES],
-            count: 0,
-            starts: [NOWHERE; FUNCTIONS],
-        }
+        Code { entries, starts }
     }
 
     // How many entries there are.
     pub fn len(&self) -> usize
         ensures value { result ≡ length self.now.entries }
-        ensures few { result ≤ 2052 }
+        ensures few { result < 65536 }
     {
-        self.count
+        self.entries.len()
     }
 
     // Entry i.
@@ -107,6 +98,54 @@ impl Code {
         ensures { result ≡ get_or self.now.starts g 2 }
     {
         self.starts[g]
+    }
+}
+
+// How many entries there is room for in a draft: as many as a text's tokens need.
+pub const ENTRIES: usize = 2052;
+
+// A code that is being made. A clause sees it as a code too.
+#[derive(Drop)]
+pub struct Draft {
+    entries: [Entry; ENTRIES],
+    count: usize,
+    starts: [usize; FUNCTIONS],
+}
+
+impl Model for Draft {
+    ghost Value = { Told };
+
+    ghost view = { λ c. record { entries = map as_entry (take c.count c.entries); starts = c.starts } };
+
+    ghost invariant = { λ c. (c.count ≤ 2052) × (length c.entries ≡ 2052) × (length c.starts ≡ 16) };
+}
+
+impl Draft {
+    // A code with no entries and no functions.
+    pub fn new() -> Draft
+        ensures entries { result.entries ≡ [] }
+        ensures starts { result.starts ≡ replicate 16 2 }
+    {
+        Draft {
+            entries: [Entry::Fail; ENTRIES],
+            count: 0,
+            starts: [NOWHERE; FUNCTIONS],
+        }
+    }
+
+    // How many entries there are.
+    pub fn len(&self) -> usize
+        ensures value { result ≡ length self.now.entries }
+        ensures few { result ≤ 2052 }
+    {
+        self.count
+    }
+
+    // The code so far.
+    pub fn code(&self) -> Code<'_>
+        ensures { result ≡ self.now }
+    {
+        Code::new(&self.entries[..self.count], &self.starts)
     }
 
     // Adds an entry behind the others.

@@ -12,7 +12,7 @@ ghost use Rattle.code.specs.Meaning.{as_entry};
 ghost use Rattle.compiler.specs.Compile.{Ready, Compiled};
 ghost use Rattle.compiler.specs.Pass.{Resolved as Told, operation_of, jump_of, Functions, EndRoom, End, Room, Written, OwnRoom, OwnWritten, RoomP, Built};
 
-use code::{Address, Code, Entry};
+use code::{Address, Draft, Entry};
 use events::arity;
 use ints::{Comparison, Operation};
 use std::marker::Model;
@@ -143,7 +143,7 @@ impl<'a> Resolved<'a> {
     }
 
     // The code of an expression, a condition or arguments.
-    fn expression(&self, i: usize, code: &mut Code)
+    fn expression(&self, i: usize, code: &mut Draft)
         requires { Room 0 self.now.nodes i self.now.values self.now.slots (length code.old.entries) }
         ensures { Written self.now.nodes i self.now.values self.now.slots code.old code.new }
     {
@@ -183,7 +183,7 @@ impl<'a> Resolved<'a> {
     }
 
     // The code of a free declaration with its own pair, whose first token is `token`: the two ends, with or without a minus, and then the declaration.
-    fn own(&self, token: usize, low: usize, high: usize, code: &mut Code)
+    fn own(&self, token: usize, low: usize, high: usize, code: &mut Draft)
         requires { OwnRoom self.now.values self.now.slots (length code.old.entries) token low high }
         ensures { OwnWritten self.now.values self.now.slots code.old code.new token low high }
     {
@@ -195,7 +195,7 @@ impl<'a> Resolved<'a> {
     }
 
     // The code of a statement, of statements, or of these in braces.
-    fn statement(&self, i: usize, code: &mut Code)
+    fn statement(&self, i: usize, code: &mut Draft)
         requires { Room 1 self.now.nodes i self.now.values self.now.slots (length code.old.entries) }
         ensures { Written self.now.nodes i self.now.values self.now.slots code.old code.new }
     {
@@ -276,7 +276,7 @@ impl<'a> Resolved<'a> {
     }
 
     // The code of a program, and where each of its functions begins.
-    fn program(&self, i: usize, code: &mut Code)
+    fn program(&self, i: usize, code: &mut Draft)
         requires { RoomP self.now.nodes i self.now.values self.now.slots (length code.old.entries) }
         ensures { Built self.now.nodes i self.now.values self.now.slots code.old code.new }
     {
@@ -301,12 +301,12 @@ pub fn compile(
     source: &Source,
     slots: &[u32],
     main: usize,
-    code: &mut Code,
+    code: &mut Draft,
 )
     requires { Ready nodes.now root source.now.values slots.now main }
     ensures { Compiled nodes.now root source.now.values slots.now main code.new }
 {
-    *code = Code::new();
+    *code = Draft::new();
     code.push(Entry::Call {
         function: main,
         count: 0,

@@ -11,7 +11,7 @@ ghost use Rattle.list.specs.Parts.{ground_of, leaves};
 ghost use Rattle.list.specs.Code.{Translates, Searches};
 
 use checker::tables::Tables;
-use code::Code;
+use code::{Code, Draft};
 use intervals::Window;
 use search::Answered;
 use syntax::refusal::{Reason, Refusal};
@@ -61,7 +61,7 @@ pub fn refusal(low: i32, high: i32, steps: u32, words: usize) -> Option<Reason>
 }
 
 // Puts the code of a text in place of what stood there.
-fn code_of(text: &[u8], code: &mut Code) -> Result<(), Refusal>
+fn code_of(text: &[u8], code: &mut Draft) -> Result<(), Refusal>
     ensures { Translates text.now code.new result (checked text.now) }
 {
     let mut tables = Tables::new();
@@ -111,7 +111,7 @@ pub fn list(
     if let Some(reason) = refusal(terms.low, terms.high, terms.steps, scratch.len()) {
         return Err(Refusal { reason, place: 0 });
     }
-    let mut code = Code::new();
-    code_of(text, &mut code)?;
-    Ok(explore(&code, terms, rows, scratch))
+    let mut draft = Draft::new();
+    code_of(text, &mut draft)?;
+    Ok(explore(&draft.code(), terms, rows, scratch))
 }

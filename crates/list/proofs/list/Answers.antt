@@ -29,4 +29,4 @@ pub returns : goal.returns
 returns c =
     let l : SFits w32 c.args.terms.low = search rules in
     let h : SFits w32 c.args.terms.high = search rules in
-    list-searched _ _ _ _ _ _ _ _ (rw (to_z-of_z l, to_z-of_z h) at c.in_default.ensures) c.in_ok-code_of.ensures c.explore.ensures
+    list-searched _ _ _ _ _ _ _ _ (rw (to_z-of_z l, to_z-of_z h) at c.in_default.ensures) c.in_ok-code_of.ensures (rw c.code.ensures at c.explore.ensures)

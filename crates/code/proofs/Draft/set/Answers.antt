@@ -6,7 +6,7 @@ use lib.Seq.{take-set-lt}
 use Rattle.std.proofs.lemmas.List.{map-set, length-map, length-take-le}
 use Rattle.simulation.specs.Code.{Code}
 use Rattle.code.specs.Meaning.{as_entry}
-use Rattle.code.proofs.Code.set.Goals as goal
+use Rattle.code.proofs.Draft.set.Goals as goal
 
 pub returns-clause-entries : goal.returns-clause-entries
 returns-clause-entries c =
