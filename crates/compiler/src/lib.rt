@@ -98,6 +98,7 @@ impl<'a> Resolved<'a> {
     }
 
     // An end of a pair whose first token is i: its number, or the one behind its minus, negated.
+    // `minus` is a number and no bool, as a node has it.
     fn end(&self, i: usize, minus: usize) -> i32
         requires { EndRoom self.now.values i minus }
         ensures { End self.now.values i minus result }
@@ -126,6 +127,7 @@ impl<'a> Resolved<'a> {
     }
 
     // The count of the functions at node i.
+    // A loop of its own: it follows a chain of nodes.
     fn functions(&self, i: usize) -> usize
         requires { Rooted prog self.now.nodes i }
         ensures { Functions self.now.nodes i result }
