@@ -20,6 +20,7 @@ use syntax::node::{Node, NodeKind, Nodes};
 use syntax::source::Source;
 
 // The entry of a node that takes two operands, or ends an argument, where the right operand or the argument has so many entries.
+#[tactic(auto, unfolding(crate::specs::Pass::operation_of))]
 fn operation(k: NodeKind, c: usize, over: u32) -> Entry
     requires { c < 6 }
     ensures { as_entry result ≡ operation_of (node_number k) c over }
@@ -34,6 +35,7 @@ fn operation(k: NodeKind, c: usize, over: u32) -> Entry
 }
 
 // The flag that jumps over the right side of `&&` or `||`.
+#[tactic(auto, unfolding(crate::specs::Pass::jump_of))]
 fn jump_over(k: NodeKind) -> bool
     ensures { result ≡ jump_of (node_number k) }
 {
