@@ -119,6 +119,7 @@ impl<'a> Walk<'a> {
     }
 
     // How many parameters stand at node i.
+    // A loop of its own: it follows a chain of nodes.
     fn parameters(&self, i: usize) -> usize
         requires { Rooted params (words_of self.now.nodes.now) i }
         ensures { Counted (words_of self.now.nodes.now) i result }
@@ -198,6 +199,7 @@ impl<'a> Walk<'a> {
     }
 
     // The names that a statement reads, and what is assigned after it.
+    // A set and a token, and no `After`, go in: behind a condition it would be made anew from one of two sets.
     #[cycle(flow_sequence)]
     fn flow(&self, i: usize, set: [bool; GROUP], best: Option<usize>) -> After
         requires { PartAt OfStmt (words_of self.now.nodes.now) i }

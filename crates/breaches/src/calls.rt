@@ -26,6 +26,7 @@ fn miscount(source: &Source, heads: &Heads, event: Event, best: Option<usize>) -
 }
 
 // The least of the called names in some events whose call has a wrong count of arguments, by the functions.
+// A loop of its own, as for depth: a scan that is lent a closure would have a law of it to prove.
 pub fn miscalls(source: &Source, events: &Events, heads: &Heads) -> Option<usize>
     ensures { result ≡ least (on (miscounted (same_in source.now) heads.now) events.now) }
 {

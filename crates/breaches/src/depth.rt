@@ -23,6 +23,7 @@ fn deeper(event: Event, best: Option<usize>) -> Option<usize>
 }
 
 // The least of the first tokens of the things in some events that are too deep.
+// A loop in each rule, and no scan that is lent a closure: the loop is short, and each rule would have to prove a law of its closure.
 pub fn too_deep(events: &Events) -> Option<usize>
     ensures { result ≡ least (too_deep events.now) }
 {

@@ -20,6 +20,7 @@ fn reached(event: Event, best: Option<usize>) -> Option<usize>
 }
 
 // The least of the closing braces of the bodies in some events that can reach their end.
+// A loop of its own, as for depth: a scan that is lent a closure would have a law of it to prove.
 pub fn open_ends(events: &Events) -> Option<usize>
     ensures { result ≡ least (open_ends events.now) }
 {

@@ -23,6 +23,7 @@ fn main_with(source: &Source, head: Head, best: Option<usize>) -> Option<usize>
 }
 
 // The least of the names of those functions that are main and have parameters.
+// A loop of its own, as for depth: a scan that is lent a closure would have a law of it to prove.
 fn mains_with(source: &Source, heads: &Heads) -> Option<usize>
     ensures { result ≡ least (with_parameters (mains (main_in source.now) heads.now)) }
 {

@@ -14,6 +14,7 @@ use syntax::token::TokenKind;
 use text_rules::broken::lesser;
 
 // What a pair must not be: its low end above its high end, which is rule 18, or of over 4,096 values, which is rule 19.
+// An enum and no function lent: the two rules are one definition, by `wide_rule`.
 #[derive(Clone, Copy, PartialEq, Eq, Debug)]
 pub enum PairRule {
     Reversed,

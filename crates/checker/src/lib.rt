@@ -112,6 +112,7 @@ fn judge_last(
 }
 
 // What the rules say of a text with these events, whose tree stands at node `root`.
+// Lent one by one and not as an `Analysis`: heads and slots are filled on the way, and clauses say what they hold before.
 fn judge(
     source: &Source,
     nodes: &Nodes,

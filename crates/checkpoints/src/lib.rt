@@ -81,6 +81,7 @@ fn put_numbers(mem: &mut [u32], h: [u32; NUMBERS], w: usize)
 }
 
 // The numbers of a point, in a row.
+// Words and no struct: they go into C's memory.
 fn numbers_of(p: Point) -> [u32; NUMBERS]
     requires { WordSized p }
     ensures { result ≡ numbers_of p }
@@ -147,6 +148,7 @@ fn clear(mem: &mut [u32], n: usize)
 }
 
 // Copies n pairs of the marks from w on to the words from x on, each s words behind the one before.
+// Not one function with `save_row`: the marks are the source here and the target there, and it would take two places and two steps. So with frames and pairs.
 fn restore_row(mem: &mut [u32], x: usize, s: usize, n: usize, w: usize)
     requires { Row mem.old x s n × Room mem.old (w + n) }
     ensures { RowBack mem.old mem.new x s n w }

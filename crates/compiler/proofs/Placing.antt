@@ -20,7 +20,7 @@ use Rattle.compiler.specs.Compile.{Compiled}
 
 -- ---- numbers
 
-pub low-number : (v : ℕ) → v < 2147483648 → to_z w32 v ≡ pos v
+low-number : (v : ℕ) → v < 2147483648 → to_z w32 v ≡ pos v
 low-number v h = ap (λ (b : Bool). sel b (pos v) (negsuc (2 ^ 32 - suc v))) (lt-ltb v 2147483648 h)
 
 pub number_fits : (v : ℕ) → v < 2147483648 → to_z w32 (low32 (pos v)) ≡ pos v

@@ -20,6 +20,7 @@ use syntax::node::{Node, NodeKind, Nodes};
 use syntax::source::Source;
 
 // The entry of a node that takes two operands, or ends an argument, where the right operand or the argument has so many entries.
+#[tactic(auto, unfolding(crate::specs::Pass::operation_of))]
 fn operation(k: NodeKind, c: usize, over: u32) -> Entry
     requires { c < 6 }
     ensures { as_entry result ≡ operation_of (node_number k) c over }
@@ -34,6 +35,7 @@ fn operation(k: NodeKind, c: usize, over: u32) -> Entry
 }
 
 // The flag that jumps over the right side of `&&` or `||`.
+#[tactic(auto, unfolding(crate::specs::Pass::jump_of))]
 fn jump_over(k: NodeKind) -> bool
     ensures { result ≡ jump_of (node_number k) }
 {
@@ -98,6 +100,7 @@ impl<'a> Resolved<'a> {
     }
 
     // An end of a pair whose first token is i: its number, or the one behind its minus, negated.
+    // `minus` is a number and no bool, as a node has it.
     fn end(&self, i: usize, minus: usize) -> i32
         requires { EndRoom self.now.values i minus }
         ensures { End self.now.values i minus result }
@@ -126,6 +129,7 @@ impl<'a> Resolved<'a> {
     }
 
     // The count of the functions at node i.
+    // A loop of its own: it follows a chain of nodes.
     fn functions(&self, i: usize) -> usize
         requires { Rooted prog self.now.nodes i }
         ensures { Functions self.now.nodes i result }

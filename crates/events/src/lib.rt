@@ -12,6 +12,7 @@ use syntax::node::{NodeKind, Nodes};
 pub mod event;
 
 // The first token of the expression at node i.
+// A loop of its own: it follows a chain of nodes.
 fn first_token(nodes: &Nodes, i: usize) -> usize
     requires { Rooted expr nodes.now i }
     ensures { First nodes.now i result }
@@ -27,6 +28,7 @@ fn first_token(nodes: &Nodes, i: usize) -> usize
 }
 
 // The count of the arguments at node i.
+// A loop of its own: it follows a chain of nodes. Parameters and functions are counted apart: their trees are of other sorts.
 pub fn arity(nodes: &Nodes, i: usize) -> usize
     requires { Rooted args nodes.now i }
     ensures { Count nodes.now i result }

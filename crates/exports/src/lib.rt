@@ -38,6 +38,7 @@ pub extern "C" fn plans_check(text: &[u8], answer: &mut [u32])
 
 // Remarks: answer[0] and answer[1] as for check, answer[2] the count of offsets, which ascend; 0 if refused.
 // With an answer of fewer than three words, nothing is written anywhere.
+// Word by word, as in `plans_write`: a function for three words would have a definition of its own for three lines.
 #[unsafe(no_mangle)]
 pub extern "C" fn plans_remarks(text: &[u8], offsets: &mut [u16], answer: &mut [u32])
     ensures { both offsets.new answer.new ≡ remarks_out text.now offsets.old answer.old }
@@ -72,6 +73,7 @@ fn put_words(answer: &mut [u32], number: u32, place: u32, ending: u32, rows: u32
 }
 
 // The number of an ending.
+// A function and no `From`: the enum is another crate's, and the numbers are C's.
 fn ending_number(close: Ending) -> u32
     ensures { result ≡ ending_word (close_of close) }
 {
@@ -137,6 +139,7 @@ fn rows_on_page(words: usize) -> usize
 }
 
 // The ending with this number, if one has it.
+// A function and no `TryFrom`: the enum is another crate's, and the numbers are C's.
 fn ending_of(number: u32) -> Option<Ending>
     ensures { foot_of result ≡ foot_at number }
 {

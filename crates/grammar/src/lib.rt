@@ -78,6 +78,7 @@ fn sign(k: TokenKind) -> Option<NodeKind>
 }
 
 // The comparison's number by its mark.
+// A number and no enum: it becomes a node's third number, as `comparison_of` has it.
 fn comparison(k: TokenKind) -> Option<usize>
     ensures { result ≡ comparison_of (kind_number k) }
 {
@@ -93,6 +94,7 @@ fn comparison(k: TokenKind) -> Option<usize>
 }
 
 // An expression: terms with + and - between, left to right.
+// The readers of this cycle are apart, which is the form named for them: `more_expression` and `more_term` are no one function.
 #[cycle(arguments_bracketed_expression_more_arguments_more_expression_more_term_named_operand_term)]
 fn expression(source: &Source, at: usize, table: &mut Table) -> Result<Read, usize>
     requires { Ready source.now.kinds table.old.nodes.now at table.old.count }
@@ -284,6 +286,7 @@ fn conjunction(source: &Source, at: usize, table: &mut Table) -> Result<Read, us
 }
 
 // What follows the conjunction at node left.
+// Not one function with `more_condition`: the reader within and the definition that is kept (`more_conj`, `more_cond`) are others.
 fn more_conjunction(
     source: &Source,
     at: usize,

@@ -23,6 +23,7 @@ use machine::{Run, layout};
 use paths::Point;
 
 // An operand: the two words of its cell, and where the temporaries end without it.
+// Words and no `Value`: they are copied as they stand in the memory.
 #[derive(Drop)]
 struct Operand {
     kind: u32,
@@ -46,6 +47,7 @@ pub struct Passed {
 }
 
 // The newest temporary, taken.
+// A reader of its own beside that of `machine`, as `take` and `pair` are: here values stay words.
 fn pop(mem: &[u32], run: Run) -> Operand
     requires { Ready mem.now run }
     ensures { Popped mem.now run (value_as result.kind result.word) result.top }

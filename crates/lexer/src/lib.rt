@@ -27,6 +27,7 @@ enum Class {
 }
 
 // What stands at a place of the text: a blank byte, a byte that begins no token, or a token.
+// An enum of its own: a blank byte and one that begins no token are both no token.
 #[derive(Drop)]
 enum Piece {
     Blank,
@@ -274,6 +275,7 @@ fn is_large(kind: TokenKind, value: u32) -> bool
 }
 
 // The tokens of a text: how many there are, the end among them.
+// Three slices and not one of a struct: `Source` reads each apart.
 pub fn lex(
     text: &[u8],
     kinds: &mut [TokenKind],
@@ -292,6 +294,7 @@ pub fn lex(
     let mut at = 0;
     let mut n = 0;
     let mut large = None;
+    // A loop of its own: the step is a piece's size.
     while at < text.len() {
         match piece_at(text, at) {
             Piece::Blank => at += 1,

@@ -32,6 +32,7 @@ fn find(s: &[u8], b: u8) -> Option<usize>
 }
 
 // The place where a byte first stands, the length where it stands nowhere.
+// The length and no Option where it stands nowhere: the definition `place` says so.
 pub fn place(s: &[u8], b: u8) -> usize
     ensures { (result ≡ place_of b s.now) × (result ≤ length s.now) }
 {
@@ -39,6 +40,7 @@ pub fn place(s: &[u8], b: u8) -> usize
 }
 
 // The number that one to ten digits stand for.
+// By hand and not by `parse`, which takes a plus, and zeros beyond ten digits.
 fn magnitude(digits: &[u8]) -> Option<u64>
     ensures value { result ≡ magnitude_of digits.now }
     ensures bound { IfSome result (λ n. n < 10000000000) }
@@ -216,6 +218,7 @@ pub fn put_rows(out: &mut [u8], at: usize, rows: &[i32]) -> usize
 }
 
 // Offsets, a blank before each.
+// Not one function with `put_values`: a generic one would ask for a law of the conversion, and the loop is short.
 fn put_offsets(out: &mut [u8], at: usize, offsets: &[u16]) -> usize
     ensures { Put out.old at (spaced (map pos offsets.now)) out.new result × (result ≤ at + 12 * length offsets.now) }
 {

@@ -42,6 +42,7 @@ fn is_wide(low: i32, high: i32) -> bool
 }
 
 // The first of list's own grounds for a refusal, where scratch has this many words.
+// Numbers and no `Terms`: a job line is asked about too, which has no skip and no budget.
 pub fn refusal(low: i32, high: i32, steps: u32, words: usize) -> Option<Reason>
     ensures { ground_of result ≡ ground words low high steps }
 {

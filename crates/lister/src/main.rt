@@ -2,6 +2,7 @@
 #![tactic(auto)]
 
 // Says what failed, where something did.
+// Not one function with the other programs: what reads, what answers, and the sizes of both buffers differ.
 fn list(rt: &HostRuntime) -> Result<(), &'static str> {
     let mut buffer = [0u8; reading::ENOUGH];
     let read = reading::read_input(&mut rt.stdin(), &mut buffer).map_err(

@@ -1,4 +1,5 @@
 // The kinds of nodes and tests in the memory: the same as the definitions of specs/Kinds.
+// Numbers and no enum: the memory is C's, and each is in one of its words.
 
 // A node that is a free variable.
 pub const FREE: u32 = 0;

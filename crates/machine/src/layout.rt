@@ -1,4 +1,5 @@
 // Where things stand in the lent memory: the same as the definitions of specs/Layout.
+// Places of words and no struct: the memory is one slice, which C lends.
 
 // At most 32 calls nest, and a path has at most eight unknowns.
 pub const DEPTH: usize = 32;

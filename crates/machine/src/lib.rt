@@ -1,4 +1,5 @@
 // The machine of `simulation`, over lent memory.
+// The memory is a slice and no struct with an invariant: C lends it, and how much of it is in use changes with each entry (`Room`).
 #![tactic(auto)]
 
 ghost use Rattle.std.specs.Prelude.{◌≡◌, ℕ, suc, ◌+◌, ◌-◌, ◌*◌, ◌<◌, ◌≤◌, length, get_or};
@@ -33,6 +34,7 @@ pub struct Cell {
 }
 
 // The machine's state, beside the memory: the entry to be worked next, the flag, where the temporaries of the function that runs begin and end, how many functions wait for it, and how many nodes there are.
+// No invariant bounds `pc`, so clauses do: a jump may lead past the code.
 #[derive(Clone, Copy)]
 pub struct Run {
     pub pc: usize,
@@ -111,6 +113,7 @@ pub struct Both {
 }
 
 // The cell at a word.
+// Words and no enum: the memory is C's, and a cell is two of its words.
 fn load(mem: &[u32], at: usize) -> Cell
     requires { at + 1 < length mem.now }
     ensures { Holds mem.now at result.value }
@@ -141,6 +144,7 @@ fn put(mem: &mut [u32], at: usize, cell: Cell)
 }
 
 // Adds a node, by its three words.
+// Words and no enum: the memory is C's.
 fn node(mem: &mut [u32], nodes: usize, k: u32, x: u32, y: u32)
     requires { Room mem.old (nodes + 1) }
     ensures { Noded mem.old mem.new nodes (node_as k x y) }
@@ -210,6 +214,7 @@ fn pop(mem: &[u32], run: Run) -> Took
 }
 
 // What a variable of the function that runs holds.
+// The bound of an address stands in clauses and in no type: `Address` is one struct for all crates.
 fn variable(mem: &[u32], run: Run, a: Address) -> Value
     requires { Ready mem.now run × (a.0 < frame_cells) }
     ensures { Holds mem.now (variable_place run.depth a.0) result }

@@ -94,6 +94,7 @@ fn see_call(
 }
 
 // One event: what breaks the rule there, and what its name means.
+// Lent one by one and not as a struct: one with the slots, which change, would have to say that the others stay the same.
 fn see<const ROOM: usize>(
     source: &Source,
     heads: &[Head],

@@ -72,6 +72,7 @@ fn put_row(out: &mut [u8], at: usize, row: &[i32]) -> usize
 }
 
 // The lines of rows.
+// A loop of its own beside that of `lines`: a row is put in another way, and a loop that is lent a closure would have a law of it to prove.
 fn put_rows(out: &mut [u8], at: usize, rows: &[i32]) -> usize
     ensures { Put out.old at (rows_bytes (rows_of rows.now)) out.new result }
 {
@@ -160,6 +161,7 @@ pub fn put_pages(out: &mut [u8], rows: &[i32], close: Ending) -> usize
     let mut p = 0;
     let mut number: u32 = 1;
     let mut rest = rows;
+    // A loop of its own: the step is a page, and the last one has the ending.
     while ROWS < rest.len() / 10 {
         let (page, more) = rest.split_at(10 * ROWS);
         p = put_page(out, p, number, page, None);

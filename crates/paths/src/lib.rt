@@ -90,6 +90,7 @@ impl Point {
 }
 
 // A turn: the path goes on, and the turn is a move or not; or the path has ended.
+// An enum of its own, as named for this place: more outcomes than Option or Result have.
 #[derive(Drop)]
 pub enum Turned {
     On(bool, Point),
@@ -130,6 +131,7 @@ fn node_range(mem: &[u32], n: usize, i: usize) -> Window
 }
 
 // The range of a cell, by its two words.
+// Words and no enum: the memory is C's, and a cell is two of its words.
 fn cell_range(mem: &[u32], n: usize, kind: u32, x: u32) -> Window
     requires { Room mem.now n }
     ensures { of_window result ≡ range_in (ranges_in mem.now n) (cell_read_as kind x) }
@@ -224,6 +226,7 @@ fn side(mem: &[u32], k: usize, n: usize, v: Value) -> Side
 }
 
 // The two words of a value's cell.
+// A number and no bool: it goes into a word of C's memory.
 fn open_bit(v: Value) -> u32
     ensures { result ≡ bit v }
 {

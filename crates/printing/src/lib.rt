@@ -42,6 +42,7 @@ fn digit(n: u32) -> u8
 }
 
 // A number in decimal.
+// By hand and not by `write!`: what lies past the slice's end is counted too.
 pub fn put_natural(out: &mut [u8], at: usize, n: u32) -> usize
     ensures { Put out.old at (natural n) out.new result }
 {

@@ -1,6 +1,7 @@
 // Reads inputs of the lister, which a byte 1 separates, and prints what the lister prints for each, on pages where a byte 2 stands before the input.
 #![tactic(auto)]
 
+// Not one function with `print_sheet`: a generic one would take the size of the buffer and what fills it.
 fn print_output(rt: &impl Print, input: &[u8]) {
     let mut out = [0u8; respond::OUTPUT];
     let n = respond::respond(input, &mut out);

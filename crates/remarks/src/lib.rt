@@ -82,6 +82,7 @@ fn reach(analysis: &Analysis, main: usize, reached: &mut [u32])
 }
 
 // Writes the places of the names of those functions that are not reached, in the order of the text, and answers how many they are.
+// The count stands beside the loop: only some of the functions are written, and the slice is C's.
 fn write(source: &Source, heads: &[Head], reached: &[u32], offsets: &mut [u16]) -> usize
     requires { (length heads.now ≤ length offsets.old) × Fits source.now.places (map as_head heads.now) }
     ensures { WroteOffsets (offsets_from (unmarked reached.now) source.now.places 0 (map as_head heads.now)) offsets.old offsets.new result }

@@ -19,6 +19,7 @@ pub const OUTPUT: usize = 110039;
 pub const SHEET: usize = 87480;
 
 // The two ways to print a plan list.
+// An enum and no function lent: what is promised of both is one clause, by `printed_of` and `size_of`.
 #[derive(Clone, Copy, PartialEq, Eq, Debug)]
 enum Layout {
     Lines,

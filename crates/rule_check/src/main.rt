@@ -2,6 +2,7 @@
 #![tactic(auto)]
 
 // Says what failed, where something did.
+// Not one function with the other programs: what reads, what answers, and the sizes of both buffers differ.
 fn check(rt: &HostRuntime) -> Result<(), &'static str> {
     let mut buffer = [0u8; text_input::ENOUGH];
     let read = text_input::read_text(&mut rt.stdin(), &mut buffer).map_err(

@@ -171,6 +171,7 @@ fn round(
 }
 
 // The whole search, path after path, on a job's program, window and step limit: its rows are written from the start of the slice.
+// `Filled` stands in clauses and not in the type: a `Window` may be empty, and its functions take such a one too.
 pub fn run(
     code: &Code,
     mem: &mut [u32],

@@ -1,4 +1,5 @@
 // The kinds of tests one by one: the comparison, and which of its two sides are open.
+// Numbers and no enum: the memory is C's, and a test's kind is one of its words.
 use machine::kinds;
 
 // Whether a side is open.

@@ -51,6 +51,7 @@ pub struct Plan {
 }
 
 // Settings that do not meet the tests were passed over, as the last free variable went up, each a move, with so many moves left: the present one meets them; or the present one is passed over too, and that variable is at its window's high end; or there is no move left.
+// Three outcomes: more than Option or Result have.
 #[derive(Drop)]
 pub enum Swept {
     Here(u32),
@@ -59,6 +60,7 @@ pub enum Swept {
 }
 
 // Settings that do not meet the tests were passed over, each a move, with so many moves left: the present one meets them; or there is none left; or there is no move left.
+// Three outcomes: more than Option or Result have.
 #[derive(Drop)]
 pub enum Sought {
     Met(u32),
@@ -78,6 +80,7 @@ fn value(mem: &[u32], k: usize, i: usize) -> i32
 }
 
 // The number of a cell, by its two words, where n nodes have theirs; 0, where its node is not among them.
+// Words and no enum: the memory is C's, and a cell is two of its words.
 fn number(mem: &[u32], n: usize, kind: u32, x: u32) -> i32
     requires { Room mem.now n }
     ensures { result ≡ number_in (numbers_in mem.now n) (cell_read_as kind x) }
@@ -279,6 +282,7 @@ fn is_free(mem: &[u32], i: usize, j: usize) -> bool
 }
 
 // The first of n nodes that is free variable i; n, where none is.
+// n and no Option where none is: then no node goes up in `rise`, since n is not before `first`.
 fn free_node(mem: &[u32], i: usize, n: usize) -> usize
     requires { Room mem.now n }
     ensures { FreeNode mem.now i n result }
@@ -312,6 +316,7 @@ fn depends(mem: &[u32], a: usize, j: usize) -> bool
 }
 
 // The first node behind node a, of n, that may differ where node a does; n, where none may.
+// n and no Option where none may: then the nodes from there to the end are none.
 fn first_behind(mem: &[u32], a: usize, n: usize) -> usize
     requires { Room mem.now n }
     ensures { FirstBehind mem.now a n result }
@@ -568,6 +573,7 @@ fn found(
 }
 
 // All settings of k free variables in their windows tried at a return.
+// Three numbers and no struct: they are a point's, and `seek` takes the plan's end in place of the first.
 pub fn trials(
     mem: &mut [u32],
     nodes: usize,

@@ -46,6 +46,7 @@ pub enum NodeKind {
 }
 
 // A node: its kind, the number of a token, and three numbers, which are those of its children first.
+// Three numbers for every kind and no enum with fields: a clause sees each node as five words (`words_of`).
 #[derive(Clone, Copy, PartialEq, Eq, Debug)]
 pub struct Node {
     pub kind: NodeKind,
@@ -59,6 +60,7 @@ pub struct Node {
 pub const NODES: usize = 4098;
 
 // A table of nodes, in which a node's children stand before it. A clause sees the words of the nodes, five for each.
+// Children by their numbers and not in boxes: nothing is allocated.
 #[derive(Drop)]
 pub struct Nodes {
     nodes: [Node; NODES],

@@ -7,6 +7,7 @@ use crate::token::TokenKind;
 use std::marker::Model;
 
 // A text with the kinds, places and values of its tokens: a token is given by its number, and the value of a name is its size.
+// Three slices and not one of a struct: the definitions have a list of each.
 #[derive(Drop)]
 pub struct Source<'a> {
     text: &'a [u8],

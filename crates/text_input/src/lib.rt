@@ -10,6 +10,7 @@ use std::io::Read;
 pub const ENOUGH: usize = 2049;
 
 // Reads until what was read is enough, the buffer is full, the input ends or a read fails: how many bytes stand at the front of the buffer, and whether a read failed.
+// A pair and no Result alone: what was read before a read failed is worked too.
 pub fn fill<F: Fn(&[u8]) -> bool>(
     input: &mut impl Read,
     buffer: &mut [u8],
@@ -19,6 +20,7 @@ pub fn fill<F: Fn(&[u8]) -> bool>(
     ensures { result.0 ≤ length buffer.new }
 {
     let mut n = 0;
+    // A loop of its own: the step is what a read brings.
     while n < buffer.len() && !enough(&buffer[..n]) {
         match input.read(&mut buffer[n..]) {
             Ok(0) => break,

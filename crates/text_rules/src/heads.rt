@@ -1,17 +1,18 @@
 // The functions of a text: of each its name, and how many parameters it has.
-ghost use Rattle.std.specs.Prelude.{◌≡◌, ◌≤◌, ◌<◌, List, [], ◌∷◌, ◌++◌, length, map, take, take_while, position, find};
+ghost use Rattle.std.specs.Prelude.{◌≡◌, ◌≤◌, ◌<◌, List, [], ◌∷◌, ◌++◌, length, map, take_while, position, find};
 ghost use Rattle.events.specs.Read.{as_event};
 ghost use Rattle.text_rules.specs.Spelling.{same_in};
 ghost use Rattle.text_rules.specs.Rules as R;
 ghost use Rattle.text_rules.specs.Answers.{as_head, is_parameter};
 
 use crate::spelling::same_name;
+use arrayvec::ArrayVec;
 use events::event::{Event, Events};
 use std::marker::Model;
 use syntax::source::Source;
 
 // A function: its name's token, and how many parameters it has.
-#[derive(Clone, Copy, PartialEq, Eq, Debug)]
+#[derive(Clone, Copy, PartialEq, Eq, Default, Debug)]
 pub struct Head {
     pub name: usize,
     pub arity: usize,
@@ -23,16 +24,13 @@ pub const HEADS: usize = 4096;
 // Functions in their order. A clause sees the list of them.
 #[derive(Drop)]
 pub struct Heads {
-    list: [Head; HEADS],
-    count: usize,
+    list: ArrayVec<Head, HEADS>,
 }
 
 impl Model for Heads {
     ghost Value = { List R.Head };
 
-    ghost view = { λ t. map as_head (take t.count t.list) };
-
-    ghost invariant = { λ t. (t.count ≤ 4096) × (length t.list ≡ 4096) };
+    ghost view = { λ t. map as_head t.list.items };
 }
 
 impl Heads {
@@ -41,8 +39,7 @@ impl Heads {
         ensures { result ≡ [] }
     {
         Heads {
-            list: [Head { name: 0, arity: 0 }; HEADS],
-            count: 0,
+            list: ArrayVec::new(),
         }
     }
 
@@ -51,7 +48,7 @@ impl Heads {
         ensures heads { map as_head result.now ≡ self.now }
         ensures few { length self.now ≤ 4096 }
     {
-        &self.list[..self.count]
+        self.list.as_slice()
     }
 
     // Adds a function behind the others.
@@ -59,15 +56,14 @@ impl Heads {
         requires { length self.old < 4096 }
         ensures { self.new ≡ self.old ++ as_head head ∷ [] }
     {
-        self.list[self.count] = head;
-        self.count += 1;
+        self.list.push(head);
     }
 
     // Takes all functions out.
     fn clear(&mut self)
         ensures { self.new ≡ [] }
     {
-        self.count = 0;
+        self.list.clear();
     }
 }
 

@@ -15,6 +15,7 @@ fn first_main(source: &Source, list: &[Head]) -> Option<usize>
 }
 
 // The number of the first function that is main; how many there are if none is.
+// The count and no Option where none is: `main_of` says so, and `resolved` rests on it.
 pub fn main_number(source: &Source, heads: &Heads) -> usize
     ensures { result ≡ main_of (main_in source.now) heads.now }
 {

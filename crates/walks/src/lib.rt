@@ -93,6 +93,7 @@ fn keep(code: &Code, mem: &mut [u32], p: Point, s: Stack) -> Stack
 }
 
 // A path from the point that it begins at up to its end; none, where the budget was spent on the way. Each move costs one of the budget.
+// Code, memory and window are lent one by one: a struct with the memory, which changes, would have to say that the code stays the same.
 fn walk(
     code: &Code,
     mem: &mut [u32],

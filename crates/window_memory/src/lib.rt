@@ -13,6 +13,7 @@ fn pair_at(mem: &[u32], at: usize) -> [i32; 2]
 }
 
 // The windows of a path, from the sixteen words at a place.
+// A literal and no loop: a loop would start from eight pairs that are none of the path's.
 pub fn load(mem: &[u32], at: usize) -> [[i32; 2]; 8]
     requires { at + 16 ≤ length mem.now }
     ensures { result ≡ pairs_at mem.now at 8 }

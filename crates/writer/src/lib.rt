@@ -103,6 +103,7 @@ impl Pen<'_> {
     }
 
     // The sign of the comparison with the number o, with its blanks.
+    // A number and no enum, as a node has it: an enum would be made of it to be matched once.
     fn comparison(&mut self, o: usize)
         ensures { Puts self.old self.new (comparison_sign o) }
     {
@@ -234,6 +235,7 @@ impl Pen<'_> {
     }
 
     // The end of a pair whose first token is i, which has a minus unless `minus` is 0.
+    // `minus` is a number and no bool, as a node has it.
     fn end(&mut self, source: &Source, i: usize, minus: usize)
         requires { i < 4294967296 }
         ensures { Puts self.old self.new (end_bytes (value_in source.now) i minus) }

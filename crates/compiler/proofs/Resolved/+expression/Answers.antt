@@ -13,10 +13,6 @@ use Rattle.compiler.proofs.Resolved.+expression.Goals as goal
 
 -- `expression`: for each kind of node, what its calls ask, and that the code of its parts is its code.
 
-pub node-node-requires : goal.node-node-requires
-node-node-requires t c =
-    omega (arith, c.requires.rooted.room, c.requires.rooted.few)
-
 pub number-requires : goal.number-requires
 number-requires t c =
     ((number-node (word c.args.self.now.values) (word c.args.self.now.slots) c.requires.tokens c.node-node.ensures c.in-Number.is c.requires.rooted.holds).own c.requires.sound).1

@@ -8,10 +8,6 @@ use Rattle.compiler.proofs.Resolved.+statement.Goals as goal
 
 -- `statement`: for each kind of node, what its calls ask, and that the code of its parts is its code.
 
-pub node-node-requires : goal.node-node-requires
-node-node-requires t c =
-    omega (arith, c.requires.rooted.room, c.requires.rooted.few)
-
 pub push-requires : goal.push-requires
 push-requires t c =
     let v = empty-node (word c.args.self.now.values) (word c.args.self.now.slots) c.requires.tokens c.node-node.ensures c.in-Empty.is c.requires.rooted.holds in
