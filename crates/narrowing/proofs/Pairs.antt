@@ -2,18 +2,11 @@
 use Prim.Native.Nat.{ℕ, zero, suc, ◌<◌}
 use mathlib.Core.Path.{◌≡◌, refl, sym, ap, ◌∙◌, subst}
 use mathlib.Core.List.{List, [], ◌∷◌, ◌++◌}
-use native.Mathlib.Omega.{arith}
-use lib.ListN.{get_or, set, take, length, length-map}
+use lib.ListN.{set, take, length, length-map}
 use lib.Seq.{take-suc-set}
 use lib.IntN.{ℤ}
 use Rattle.semantics.specs.Program.{Window}
-use Rattle.semantics.specs.Search.{all32}
 use Rattle.intervals.specs.Meaning.{of_pair, of_pairs}
-
-pub pairs-at : (ps : List (List ℤ)) (i : ℕ) → i < length ps → get_or (of_pairs ps) i all32 ≡ of_pair (get_or ps i [])
-pairs-at [] i h = absurd (omega arith)
-pairs-at (p ∷ ps) zero h = refl
-pairs-at (p ∷ ps) (suc i) h = pairs-at ps i (omega arith)
 
 pub pairs_set : (ps : List (List ℤ)) (i : ℕ) (p : List ℤ) → of_pairs (set ps i p) ≡ set (of_pairs ps) i (of_pair p)
 pairs_set [] i p = refl
