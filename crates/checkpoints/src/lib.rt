@@ -16,6 +16,7 @@ use paths::Point;
 pub const NUMBERS: usize = 9;
 
 // How many pairs of words are live at a point, where so many cells of a frame are in use.
+// The cells are a number and no type with an invariant: `restore` takes any number up to sixteen, and goes on to do so.
 fn live_pairs(p: Point, cells: usize) -> usize
     requires { Small p × (cells ≤ frame_cells) }
     ensures { result ≡ live_pairs cells p }

@@ -21,6 +21,7 @@ struct Read {
 }
 
 // The table of nodes, and how many are written. It holds no text: a reader that lent one too would have to say that the text stays the same.
+// The count stands here and not in `Nodes`, which keeps its length (`kept`).
 #[derive(Drop)]
 struct Table<'a> {
     nodes: &'a mut Nodes,
