@@ -25,22 +25,18 @@ pub fn seek(source: &Source, declarations: &[Declaration], starts: &[usize], i: 
     ensures small { or_zero (slot_of result) < 2 ^ 32 }
 {
     let mut compared = 0;
+    let mut found = None;
     let mut end = declarations.len();
-    for block in (0..starts.len()).rev() {
+    'blocks: for block in (0..starts.len()).rev() {
         let start = starts[block];
         for k in (start..end).rev() {
             compared += 1;
             if same_name(source, declarations[k].name, i) {
-                return Sought {
-                    found: Some(Address(declarations[k].slot as usize)),
-                    compared,
-                };
+                found = Some(Address(declarations[k].slot as usize));
+                break 'blocks;
             }
         }
         end = start;
     }
-    Sought {
-        found: None,
-        compared,
-    }
+    Sought { found, compared }
 }

@@ -1,25 +1,29 @@
 use Rattle.std.proofs.Common.{refl, sym, ◌∙◌}
+use native.Mathlib.Omega.{arith}
 use Rattle.scopes.proofs.Blocks.{declaration}
 use Rattle.scopes.proofs.Seeking.{begins, ends, misses, hits, leaves}
 use Rattle.scopes.proofs.lookup.seek.Goals as goal
 
 pub loop-k-init : goal.loop-k-init
-loop-k-init c = begins _ _ _ _ c.loop-block.invariant c.loop-block-test.true refl
+loop-k-init c = (begins _ _ _ _ c.blocks-2.invariant.0 c.blocks-2-test.true refl, c.blocks-2.invariant.1)
 
 pub loop-k-preserved : goal.loop-k-preserved
-loop-k-preserved c = misses _ _ _ _ c.loop-k.invariant c.loop-k-test.true (declaration 0 0) (sym c.same_name.ensures ∙ c.if-same_name.false)
+loop-k-preserved c = (misses _ _ _ _ c.loop-k.invariant.0 c.loop-k-test.true (declaration 0 0) (sym c.same_name.ensures ∙ c.if-same_name.false), c.loop-k.invariant.1)
 
-pub loop-block-preserved : goal.loop-block-preserved
-loop-block-preserved c = ends _ _ _ _ c.loop-k.invariant c.loop-k-test.false
+pub blocks-2-preserved : goal.blocks-2-preserved
+blocks-2-preserved c = (ends _ _ _ _ c.loop-k.invariant.0 c.loop-k-test.false, c.loop-k.invariant.1)
 
 pub returns-then-same_name-clause-found : goal.returns-then-same_name-clause-found
-returns-then-same_name-clause-found c = (hits _ _ _ _ c.loop-k.invariant c.loop-k-test.true (declaration 0 0) (sym c.same_name.ensures ∙ c.if-same_name.true)).finds
+returns-then-same_name-clause-found c = (hits _ _ _ _ c.loop-k.invariant.0 c.loop-k-test.true (declaration 0 0) (sym c.same_name.ensures ∙ c.if-same_name.true)).finds
 
 pub returns-then-same_name-clause-compared : goal.returns-then-same_name-clause-compared
-returns-then-same_name-clause-compared c = (hits _ _ _ _ c.loop-k.invariant c.loop-k-test.true (declaration 0 0) (sym c.same_name.ensures ∙ c.if-same_name.true)).counts
+returns-then-same_name-clause-compared c = (hits _ _ _ _ c.loop-k.invariant.0 c.loop-k-test.true (declaration 0 0) (sym c.same_name.ensures ∙ c.if-same_name.true)).counts
 
-pub returns-clause-found : goal.returns-clause-found
-returns-clause-found c = (leaves _ _ _ _ c.loop-block.invariant c.loop-block-test.false).finds
+pub returns-after-blocks-2-clause-found : goal.returns-after-blocks-2-clause-found
+returns-after-blocks-2-clause-found c = rw c.blocks-2.invariant.1 (leaves _ _ _ _ c.blocks-2.invariant.0 c.blocks-2-test.false).finds
 
-pub returns-clause-compared : goal.returns-clause-compared
-returns-clause-compared c = (leaves _ _ _ _ c.loop-block.invariant c.loop-block-test.false).counts
+pub returns-after-blocks-2-clause-compared : goal.returns-after-blocks-2-clause-compared
+returns-after-blocks-2-clause-compared c = (leaves _ _ _ _ c.blocks-2.invariant.0 c.blocks-2-test.false).counts
+
+pub returns-after-blocks-2-clause-small : goal.returns-after-blocks-2-clause-small
+returns-after-blocks-2-clause-small c = rw c.blocks-2.invariant.1 (omega arith)
