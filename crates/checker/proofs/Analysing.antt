@@ -6,20 +6,18 @@ use mathlib.Core.Bool.{true, false}
 use mathlib.Core.List.{List, [], ◌∷◌, ◌++◌, map-append}
 use native.Mathlib.Omega.{arith}
 use lib.ListN.{length, get_or, take, length-take, length-map}
-use lib.Seq.{take-suc, length-sets}
+use lib.Seq.{take-suc}
 use lib.Dec.{eqb}
 use Rattle.syntax.specs.Token.{k_end}
-use Rattle.syntax.specs.Refusals.{number_of}
 use Rattle.syntax.specs.declared.refusal.Refusal.{Refusal}
 use Rattle.lexer.specs.Lex as L
 use Rattle.lexer.specs.Lex.{Token, Lexing, lexed}
-use Rattle.lexer.specs.Parts as W
 use Rattle.lexer.specs.Parts.{Lexes, stored}
 use Rattle.lexer.proofs.Theorems.{Ended, the_end, before-end, lexed-tokens, end-last, count, stored-length, stored-kinds, stored-places}
 use Rattle.grammar.specs.Text.{Tokens}
 use Rattle.events.specs.Event.{Event}
 use Rattle.text_rules.specs.Rules.{Head}
-use Rattle.checker.specs.Check.{Verdict, accepted, refused, kinds, values, Source, source, source_of, checked_tokens, checked}
+use Rattle.checker.specs.Check.{Verdict, kinds, values, Source, source, source_of, checked_tokens, checked}
 use Rattle.checker.specs.Sizes.{TOKENS}
 use Rattle.checker.specs.Analysis.{Reads, Settles, Analyses}
 use Rattle.checker.specs.Analysis as N
@@ -77,16 +75,6 @@ module _ {text ks ps vs ks' ps' vs' : List ℕ} {n : ℕ} (x : Lexes text ks ps 
   pub few-told : n ≤ TOKENS
   few-told = omega (arith, few-tokens text (stored n ks' ps' vs') x.answer, stored-length n ks' ps' vs')
 
-  -- the slices keep their lengths
-  pub kinds-long : length ks ≡ TOKENS → length ks' ≡ TOKENS
-  kinds-long e = ap length x.kinds ∙ length-sets ks 0 (W.kinds_of (W.written text)) ∙ e
-
-  pub places-long : length ps ≡ TOKENS → length ps' ≡ TOKENS
-  places-long e = ap length x.places ∙ length-sets ps 0 (W.places_of (W.written text)) ∙ e
-
-  pub values-long : length vs ≡ TOKENS → length vs' ≡ TOKENS
-  values-long e = ap length x.values ∙ length-sets vs 0 (W.values_of (W.written text)) ∙ e
-
   pub told : n ≤ length ks' → n ≤ length ps' → n ≤ length vs' → Reads text (Ok (source text (take n ks') (take n ps') (take n vs'))) (lexed text)
   told h i j = rw x.answer (rw (← stored-kinds n ks' ps' vs' h, ← stored-places n ks' ps' vs' i, ← stored-values n ks' ps' vs' j) N.Reads.has)
 
@@ -132,11 +120,3 @@ settled {text} {a} x h = rw (is-checked x) (go h)
 pub refused-so : {text : List ℕ} {r : Refusal} {a : Lexing} → Reads text (Err r) a → lexed text ≡ a → Analyses text (Err r) (checked text)
 unfolding checked
 refused-so N.Reads.refuses e = rw (e, checked) N.Analyses.rejects
-
--- what an analysis says of its text
-module _ {text : List ℕ} where
-  pub says-refused : {r : Refusal} {v : Verdict} → Analyses text (Err r) v → refused (number_of r.reason) r.place ≡ v
-  says-refused N.Analyses.rejects = refl
-
-  pub says-accepted : {a : Analysis} {v : Verdict} → Analyses text (Ok a) v → accepted ≡ v
-  says-accepted (N.Analyses.has i e w) = refl

@@ -18,6 +18,7 @@ use text_rules::mains::main_number;
 use text_rules::spelling::word;
 
 // How many functions have begun after one event more.
+#[tactic(auto, unfolding(crate::specs::Remarks::begun))]
 fn begin(f: usize, event: Event) -> usize
     requires { f < 9223372036854775808 }
     ensures { result ≡ begun f (as_event event) }
@@ -41,6 +42,7 @@ fn unless_reached(reached: &[u32], f: usize, callee: Option<usize>) -> Option<us
 }
 
 // The function that one event calls, if the present function is reached and it is not.
+#[tactic(auto, unfolding(crate::specs::Remarks::called_by, crate::specs::Steps::fresh))]
 fn newly_called(analysis: &Analysis, reached: &[u32], f: usize, event: Event) -> Option<usize>
     ensures { result ≡ fresh reached.now
         (called_by (same_in analysis.now.source) analysis.now.heads.now f (as_event event)) }
