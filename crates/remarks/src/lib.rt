@@ -104,6 +104,7 @@ fn list(analysis: &Analysis, offsets: &mut [u16]) -> usize
     requires { Fair analysis.now.source analysis.now.heads.now × (16 ≤ length offsets.old) }
     ensures { WroteOffsets (offsets_by analysis.now.source analysis.now.events.now analysis.now.heads.now) offsets.old offsets.new result }
 {
+    // Words and no bools: the edit chain_of_one_call gives a function a third mark.
     let mut reached = [0u32; 16];
     let main = main_number(&analysis.source, analysis.heads);
     reach(analysis, main, &mut reached);
