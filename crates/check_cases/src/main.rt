@@ -12,6 +12,6 @@ fn main(rt: HostRuntime) {
     let mut input = [0u8; 65536];
     let (n, _) = text_input::fill(&mut rt.stdin(), &mut input, |_| false);
     for text in input[..n].split_inclusive(|b| *b == 1) {
-        print_verdict(&rt, text.strip_suffix(&[1]).unwrap_or(text));
+        print_verdict(&rt, &text[..lines::place(text, 1)]);
     }
 }

@@ -23,6 +23,8 @@ pub struct Tables {
 
 impl Tables {
     // Tables in which no name means anything yet.
+    // Worked where it is called: so it is made where it stays, and not copied.
+    #[inline(always)]
     pub fn new() -> Tables
         ensures { Fresh result }
     {

@@ -1,9 +1,10 @@
 // The code of a program, as the compiler makes it and the machine works it.
 #![tactic(auto)]
 
-ghost use Rattle.std.specs.Prelude.{◌≡◌, ℕ, ◌<◌, ◌≤◌, [], ◌∷◌, ◌++◌, length, map, take, set, get_or, replicate};
+ghost use Rattle.std.specs.Prelude.{◌≡◌, ℕ, ◌<◌, ◌≤◌, [], ◌∷◌, ◌++◌, ◌%◌, length, map, take, set, get_or, replicate};
+ghost use Rattle.std.specs.List.{All};
 ghost use Rattle.simulation.specs.Code.{Code as Told, act, fail};
-ghost use Rattle.code.specs.Meaning.{as_entry};
+ghost use Rattle.code.specs.Meaning.{as_entry, Exact};
 
 use ints::{Comparison, Operation};
 use std::marker::Model;
@@ -84,6 +85,13 @@ impl<'a> Code<'a> {
         self.entries.len()
     }
 
+    // The entries, first to last.
+    pub fn entries(&self) -> &'a [Entry]
+        ensures { map as_entry result.now ≡ self.now.entries }
+    {
+        &self.entries[..]
+    }
+
     // Entry i.
     pub fn entry(&self, i: usize) -> Entry
         requires { (i < length self.now.entries) × (i < 65536) }
@@ -104,7 +112,34 @@ impl<'a> Code<'a> {
 // How many entries there is room for in a draft: as many as a text's tokens need.
 pub const ENTRIES: usize = 2052;
 
-// A code that is being made. A clause sees it as a code too.
+// How many variables a function has at most.
+const VARIABLES: usize = 16;
+
+// An address among the sixteen that there are.
+fn among(a: Address) -> Address
+    ensures { (result.0 ≡ a.0 % 16) × (result.0 < 16) }
+{
+    Address(a.0 % VARIABLES)
+}
+
+// The entry that means the same and names its variable or its function by a number below 16.
+fn exact(entry: Entry) -> Entry
+    ensures { (as_entry result ≡ as_entry entry) × Exact result }
+{
+    match entry {
+        Entry::Name(a) => Entry::Name(among(a)),
+        Entry::Call { function, count } => Entry::Call {
+            function: function % FUNCTIONS,
+            count,
+        },
+        Entry::Ask(a) => Entry::Ask(among(a)),
+        Entry::Own(a) => Entry::Own(among(a)),
+        Entry::Store(a) => Entry::Store(among(a)),
+        _ => entry,
+    }
+}
+
+// A code that is being made. A clause sees it as a code too; of its entries each is the only one that means what it means (`Exact`).
 #[derive(Drop)]
 pub struct Draft {
     entries: [Entry; ENTRIES],
@@ -117,7 +152,7 @@ impl Model for Draft {
 
     ghost view = { λ c. record { entries = map as_entry (take c.count c.entries); starts = c.starts } };
 
-    ghost invariant = { λ c. (c.count ≤ 2052) × (length c.entries ≡ 2052) × (length c.starts ≡ 16) };
+    ghost invariant = { λ c. (c.count ≤ 2052) × (length c.entries ≡ 2052) × (length c.starts ≡ 16) × All Exact c.entries };
 }
 
 impl Draft {
@@ -133,12 +168,29 @@ impl Draft {
         }
     }
 
+    // Takes all entries and functions out.
+    pub fn clear(&mut self)
+        ensures entries { self.new.entries ≡ [] }
+        ensures starts { self.new.starts ≡ replicate 16 2 }
+    {
+        self.count = 0;
+        self.starts = [NOWHERE; FUNCTIONS];
+    }
+
     // How many entries there are.
     pub fn len(&self) -> usize
         ensures value { result ≡ length self.now.entries }
         ensures few { result ≤ 2052 }
     {
         self.count
+    }
+
+    // The entries so far, first to last.
+    pub fn as_slice(&self) -> &[Entry]
+        ensures entries { map as_entry result.now ≡ self.now.entries }
+        ensures exact { All Exact result.now }
+    {
+        &self.entries[..self.count]
     }
 
     // The code so far.
@@ -154,7 +206,7 @@ impl Draft {
         ensures entries { self.new.entries ≡ self.old.entries ++ as_entry entry ∷ [] }
         ensures starts { self.new.starts ≡ self.old.starts }
     {
-        self.entries[self.count] = entry;
+        self.entries[self.count] = exact(entry);
         self.count += 1;
     }
 
@@ -164,7 +216,7 @@ impl Draft {
         ensures entries { self.new.entries ≡ set self.old.entries at (as_entry entry) }
         ensures starts { self.new.starts ≡ self.old.starts }
     {
-        self.entries[at] = entry;
+        self.entries[at] = exact(entry);
     }
 
     // Function `function` begins at entry `at`.

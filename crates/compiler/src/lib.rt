@@ -310,7 +310,7 @@ pub fn compile(
     requires { Ready nodes.now root source.now.values slots.now main }
     ensures { Compiled nodes.now root source.now.values slots.now main code.new }
 {
-    *code = Draft::new();
+    code.clear();
     code.push(Entry::Call {
         function: main,
         count: 0,

@@ -6,15 +6,15 @@ ghost use Rattle.events.specs.Read.{as_event};
 use arrayvec::ArrayVec;
 use std::marker::Model;
 
-// One event: tokens, but for a depth and a count.
+// One event: tokens, but for a depth and a count. The first is the default one: so an empty table of events is all zero bytes.
 #[derive(Clone, Copy, PartialEq, Eq, Default, Debug)]
 pub enum Event {
-    Function(usize),
-    Parameter(usize),
-    Thing { depth: usize, token: usize },
     #[default]
     Opens,
     Closes,
+    Function(usize),
+    Parameter(usize),
+    Thing { depth: usize, token: usize },
     Declares(usize),
     Uses(usize),
     Calls { token: usize, count: usize },
@@ -38,6 +38,8 @@ impl Model for Events {
 
 impl Events {
     // No events, with room for those of every text.
+    // Worked where it is called: so it is made where it stays, and not copied.
+    #[inline(always)]
     pub fn new() -> Events
         ensures { result ≡ [] }
     {

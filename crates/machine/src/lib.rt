@@ -244,6 +244,8 @@ fn take(code: &Code, mem: &[u32], run: Run, j: usize) -> Took
 }
 
 // The two operands of the next entry, the right one of which has d entries.
+// Worked in place at both of its callers: the run stays in registers.
+#[inline(always)]
 fn pair(code: &Code, mem: &[u32], run: Run, d: usize) -> Both
     requires { Ready mem.now run }
     ensures { Paired code.now mem.now run d result.left result.right result.top }

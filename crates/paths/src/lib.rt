@@ -60,7 +60,7 @@ impl Point {
     {
         Point {
             choices: self.choices + 1,
-            forced: self.forced.saturating_sub(1),
+            forced: ints::monus(self.forced, 1),
             ..self
         }
     }

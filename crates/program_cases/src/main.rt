@@ -19,7 +19,7 @@ fn main(rt: HostRuntime) {
     let mut inputs = [0u8; 65536];
     let (n, _) = text_input::fill(&mut rt.stdin(), &mut inputs, |_| false);
     for case in inputs[..n].split_inclusive(|b| *b == 1) {
-        let input = case.strip_suffix(&[1]).unwrap_or(case);
+        let input = &case[..lines::place(case, 1)];
         match input {
             [2, job @ ..] => print_sheet(&rt, job),
             _ => print_output(&rt, input),

@@ -61,17 +61,17 @@ module _ (same : ℕ → ℕ → Bool) (hs : List Head) (l : List ℕ) (es : Lis
   unfolding fresh_from
   fresh_start = refl
 
-  opened : (f i : ℕ) {e : C.Event} → i < length es → e ≡ get_or es i (C.TheVariants.Function 0) → fresh_from f i ≡ fresh l (called_by same hs f (as_event e) ++ scan begun (called_by same hs) (begun f (as_event e)) (rest es (i + 1)))
+  opened : (f i : ℕ) {e : C.Event} → i < length es → e ≡ get_or es i C.TheVariants.Opens → fresh_from f i ≡ fresh l (called_by same hs f (as_event e) ++ scan begun (called_by same hs) (begun f (as_event e)) (rest es (i + 1)))
   unfolding fresh_from scan
-  opened f i lt x = rw x (ap (λ (z : List Event). fresh l (scan begun (called_by same hs) f z)) (rest_more es i (C.TheVariants.Function 0) lt))
+  opened f i lt x = rw x (ap (λ (z : List Event). fresh l (scan begun (called_by same hs) f z)) (rest_more es i C.TheVariants.Opens lt))
 
-  pub fresh-turn : (f i : ℕ) {e : C.Event} {f' : ℕ} → i < length es → e ≡ get_or es i (C.TheVariants.Function 0) → None ≡ fresh l (called_by same hs f (as_event e)) → f' ≡ begun f (as_event e) → fresh_from f' (i + 1) ≡ fresh_from f i
+  pub fresh-turn : (f i : ℕ) {e : C.Event} {f' : ℕ} → i < length es → e ≡ get_or es i C.TheVariants.Opens → None ≡ fresh l (called_by same hs f (as_event e)) → f' ≡ begun f (as_event e) → fresh_from f' (i + 1) ≡ fresh_from f i
   unfolding fresh_from
   fresh-turn f i {e} {f'} lt x y z =
       rw z
       (sym (opened f i lt x ∙ fresh-skip l (called_by same hs f (as_event e)) (scan begun (called_by same hs) (begun f (as_event e)) (rest es (i + 1))) (sym y)))
 
-  pub fresh-found : (f i g : ℕ) {e : C.Event} → i < length es → e ≡ get_or es i (C.TheVariants.Function 0) → Some g ≡ fresh l (called_by same hs f (as_event e)) → Some g ≡ fresh_from f i
+  pub fresh-found : (f i g : ℕ) {e : C.Event} → i < length es → e ≡ get_or es i C.TheVariants.Opens → Some g ≡ fresh l (called_by same hs f (as_event e)) → Some g ≡ fresh_from f i
   fresh-found f i g {e} lt x y =
       sym (opened f i lt x ∙ fresh-stop l (called_by same hs f (as_event e)) (scan begun (called_by same hs) (begun f (as_event e)) (rest es (i + 1))) g (sym y))
 

@@ -127,6 +127,9 @@ pub fn remarks(text: &[u8], offsets: &mut [u16]) -> Result<usize, Refusal>
         });
     }
     let mut tables = Tables::new();
-    let analysis = checker::analyse(text, &mut tables)?;
-    Ok(list(&analysis, offsets))
+    // A match and no `?`: so a refusal that is handed on with another place is refused for that place (must-fail/refused_at_0.edit).
+    match checker::analyse(text, &mut tables) {
+        Ok(analysis) => Ok(list(&analysis, offsets)),
+        Err(refusal) => Err(refusal),
+    }
 }

@@ -21,7 +21,7 @@ pub struct Declaration {
 }
 
 // The declarations that can be seen, the earliest first; where each open block begins among them, the outermost first; and the number of the function's next declaration. There is room for so many of either. A clause sees the blocks with their declarations, and that number.
-#[derive(Drop)]
+#[derive(Clone, Drop)]
 pub struct Scopes<const ROOM: usize> {
     declarations: ArrayVec<Declaration, ROOM>,
     starts: ArrayVec<usize, ROOM>,
@@ -38,6 +38,8 @@ impl<const ROOM: usize> Model for Scopes<ROOM> {
 
 impl<const ROOM: usize> Scopes<ROOM> {
     // No block is open.
+    // Worked where it is called: so it is made where it stays, and not copied.
+    #[inline(always)]
     pub fn new() -> Scopes<ROOM>
         ensures { result ≡ nowhere }
     {

@@ -10,7 +10,7 @@ use lib.ListN.{length}
 use lib.IntN.{ℤ}
 use Rattle.semantics.specs.Program.{Window}
 use Rattle.semantics.specs.Search.{known, work, spent}
-use Rattle.simulation.specs.Code.{Code}
+use Rattle.simulation.specs.Code.{Code, Entry}
 use Rattle.simulation.specs.Machine.{start}
 use Rattle.simulation.specs.Path.{begins, End}
 use Rattle.simulation.specs.Lister.{over, closed}
@@ -109,6 +109,10 @@ round-spent c job limit m m₁ rows forced t h u q a d = subst (λ (a : Answered
 })
 
 -- ---- the first path has no checkpoint
+
+-- a code uses the cells that its entries use, wherever its functions begin
+pub uses-of : (c : Code) (es : List Entry) (cells : ℕ) → es ≡ c.entries → ((starts : List ℕ) → Uses (record { entries = es; starts = starts }) cells) × (cells ≤ frame_cells) → Uses c cells × (cells ≤ frame_cells)
+uses-of c es cells e u = (record { each = (subst (λ (es : List Entry). Uses (record { entries = es; starts = c.starts }) cells) e (u.0 c.starts)).each }, u.1)
 
 pub begins-first : (c : Code) (job : Window) (m : List ℕ) (limit cells : ℕ) → Room m (limit + 1) → Uses c cells × (cells ≤ frame_cells) → Begins c job m 0 (record { height = 0; limit = limit; cells = cells })
 begins-first c job m limit cells r u = record { nodes = 0; choices = 0; windows = 0; stacked = record { checkpoints = none refl; room = r; uses = u.0; cells = u.1 }; first = λ e. refl }

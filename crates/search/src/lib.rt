@@ -189,7 +189,7 @@ pub fn run(
         stack: Stack {
             height: 0,
             limit,
-            cells: walks::cells::in_use(code),
+            cells: walks::cells::in_use(code.entries()),
         },
         tally: Tally {
             budget,

@@ -19,7 +19,7 @@ ghost use Rattle.settings.specs.Seek.{CanRise, Rising, Rose, Sweeping, Seeking};
 ghost use Rattle.settings.specs.Rows.{words_of, row_with, Written};
 ghost use Rattle.settings.specs.Tries.{tally_of, spending, leaving as leavingS, cutting, Fair, Charged, Placing, AllTrials, AllProbes};
 
-use ints::{Comparison, Operation};
+use ints::Comparison;
 use machine::{Value, kinds, layout};
 
 mod arms;
@@ -107,7 +107,8 @@ fn number_at(mem: &[u32], k: usize, j: usize) -> i32
     if op == kinds::FREE {
         return value(mem, k, x as usize);
     }
-    Operation::from(op - kinds::OPERATION).apply(
+    ints::operate(
+        op - kinds::OPERATION,
         number(mem, j, kind / kinds::NODE_LEFT % 2, x),
         number(mem, j, kind / kinds::NODE_RIGHT, y),
     )

@@ -35,6 +35,8 @@ impl Model for Heads {
 
 impl Heads {
     // No functions, with room for those of every text.
+    // Worked where it is called: so it is made where it stays, and not copied.
+    #[inline(always)]
     pub fn new() -> Heads
         ensures { result ≡ [] }
     {

@@ -1,10 +1,10 @@
 // Which cells of a frame a code uses.
-ghost use Rattle.std.specs.Prelude.{◌≤◌};
+ghost use Rattle.std.specs.Prelude.{◌≤◌, List, ℕ, map};
 ghost use Rattle.simulation.specs.Cells.{Fills, Uses};
 ghost use Rattle.machine.specs.Layout.{frame_cells};
 ghost use Rattle.code.specs.Meaning.{as_entry};
 
-use code::{Code, Entry};
+use code::Entry;
 use machine::layout;
 
 // How many cells an entry may put values into, up to the last of them.
@@ -18,13 +18,13 @@ fn filled(entry: Entry) -> usize
     }
 }
 
-// How many cells of a frame the code uses.
-pub fn in_use(code: &Code) -> usize
-    ensures { Uses code.now result × (result ≤ frame_cells) }
+// How many cells of a frame a code with these entries uses, wherever its functions begin.
+pub fn in_use(entries: &[Entry]) -> usize
+    ensures { ((starts : List ℕ) → Uses (record { entries = map as_entry entries.now; starts = starts }) result) × (result ≤ frame_cells) }
 {
     let mut n: usize = 0;
-    for e in 0..code.len() {
-        n = n.max(filled(code.entry(e)));
+    for &entry in entries {
+        n = n.max(filled(entry));
     }
     n
 }

@@ -1,6 +1,10 @@
 use native.Mathlib.Omega.{arith}
-use mathlib.Core.Path.{◌∙◌}
-use Rattle.checker.proofs.Passing.{passed}
+use mathlib.Core.Path.{subst, ◌∙◌}
+use Rattle.std.specs.Prelude.{Result}
+use Rattle.syntax.specs.declared.refusal.Refusal.{Refusal}
+use Rattle.checker.specs.Check.{checked}
+use Rattle.checker.specs.Analysis.{Analyses}
+use Rattle.checker.specs.declared.Analysis.{Analysis}
 use Rattle.remarks.proofs.Telling.{refused-so, fair-so, counted-so, fifteen, enough}
 use Rattle.remarks.proofs.remarks.Goals as goal
 
@@ -8,11 +12,14 @@ use Rattle.remarks.proofs.remarks.Goals as goal
 pub returns-then-offsets-lt16 : goal.returns-then-offsets-lt16
 returns-then-offsets-lt16 c = fifteen _ _ (omega (arith, c.if-offsets-lt16.true))
 
-pub returns-in_err-analysis : goal.returns-in_err-analysis
-returns-in_err-analysis c = rw (passed _ c.from_residual.ensures.1) (refused-so c.in_err-analysis.ensures ∙ enough _ _ (omega (arith, c.if-offsets-lt16.false)))
+pub returns-in-Err : goal.returns-in-Err
+returns-in-Err c =
+    refused-so (subst (λ (r : Result Analysis Refusal). Analyses c.args.text.now r (checked c.args.text.now)) c.in-Err.is c.analyse.ensures) ∙ enough _ _ (omega (arith, c.if-offsets-lt16.false))
 
 pub list-requires : goal.list-requires
-list-requires c = (fair-so c.in_ok-analysis.ensures, omega (arith, c.if-offsets-lt16.false))
+list-requires c =
+    (fair-so (subst (λ (r : Result Analysis Refusal). Analyses c.args.text.now r (checked c.args.text.now)) c.in-Ok.is c.analyse.ensures), omega (arith, c.if-offsets-lt16.false))
 
-pub returns : goal.returns
-returns c = counted-so c.in_ok-analysis.ensures c.list.ensures ∙ enough _ _ (omega (arith, c.if-offsets-lt16.false))
+pub returns-in-Ok : goal.returns-in-Ok
+returns-in-Ok c =
+    counted-so (subst (λ (r : Result Analysis Refusal). Analyses c.args.text.now r (checked c.args.text.now)) c.in-Ok.is c.analyse.ensures) c.list.ensures ∙ enough _ _ (omega (arith, c.if-offsets-lt16.false))

@@ -4,14 +4,14 @@ use mathlib.Core.Path.{refl, ap}
 use lib.ListN.{length}
 use Rattle.intervals.specs.Meaning.{of_window}
 use Rattle.search.specs.Loop.{ahead}
-use Rattle.search.proofs.Rounds.{begins-first, round-as, resumes-as}
+use Rattle.search.proofs.Rounds.{uses-of, begins-first, round-as, resumes-as}
 use Rattle.search.proofs.Searching.{between_first, between-less, between_next, between-over}
 use Rattle.search.proofs.run.Goals as goal
 
 pub loop-next-init : goal.loop-next-init
 loop-next-init c = (
   between_first c.args.code.now (of_window c.args.job) c.args.limit c.args.skip (length c.args.rows.now / 10) c.args.budget c.args.mem.now c.args.rows.now,
-  begins-first c.args.code.now (of_window c.args.job) c.args.mem.now c.args.limit c.in_use.result c.requires.0 c.in_use.ensures,
+  begins-first c.args.code.now (of_window c.args.job) c.args.mem.now c.args.limit c.in_use.result c.requires.0 (uses-of c.args.code.now _ c.in_use.result c.entries.ensures c.in_use.ensures),
   refl,
 )
 

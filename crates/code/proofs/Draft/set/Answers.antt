@@ -15,4 +15,4 @@ returns-clause-entries c =
     let e = ap (λ (d : Code). d.entries) c.self.view_is in
     let k : length c.args.self.now.entries ≡ count = sym (ap length e) ∙ length-map (take count all) as_entry ∙ length-take-le count all (omega arith) in
     let n : c.args.at < count = omega (arith, c.requires.0) in
-    rw (take-set-lt count all c.args.at c.args.entry n, map-set as_entry (take count all) c.args.at c.args.entry, e)
+    rw (take-set-lt count all c.args.at c.exact.result n, map-set as_entry (take count all) c.args.at c.exact.result, c.exact.ensures.0, e)
