@@ -77,6 +77,16 @@ impl<'a> Code<'a> {
         Code { entries, starts }
     }
 
+    // The same code, in a struct of its own.
+    pub fn copied(&self) -> Code<'a>
+        ensures { result ≡ self.now }
+    {
+        Code {
+            entries: self.entries,
+            starts: self.starts,
+        }
+    }
+
     // How many entries there are.
     pub fn len(&self) -> usize
         ensures value { result ≡ length self.now.entries }

@@ -1,7 +1,7 @@
 -- Turn after turn.
 use Rattle.std.specs.Prelude.{Option, Some, None}
 use mathlib.Core.Path.{◌≡◌, refl, sym, ap, ap₂, ◌∙◌, subst}
-use mathlib.Core.Bool.{Bool, true, false}
+use mathlib.Core.Bool.{Bool}
 use mathlib.Core.List.{List}
 use Prim.Native.Nat.{ℕ, zero, suc, ◌-◌, ◌≤◌, ◌<◌}
 use native.Mathlib.Omega.{arith}
@@ -12,8 +12,7 @@ use Rattle.machine.specs.Memory.{machine_at}
 use Rattle.paths.specs.declared.Point.{Point}
 use Rattle.paths.specs.Point.{state_at, Going}
 use Rattle.paths.proofs.Keeping.{nearer-of}
-use Rattle.known_steps.specs.declared.Next.{Next}
-use Rattle.known_steps.specs.Turns.{Paces, silent, step, Made, Turns, none, more, OneOrTwo, once, twice, One, one, no, next_of, moves}
+use Rattle.known_steps.specs.Turns.{Paces, silent, step, Made, Turns, none, more, OneOrTwo, once, twice, One, one, no, moves}
 
 -- ---- one turn
 
@@ -29,12 +28,6 @@ module _ (c : Code) (m m' : List ℕ) (p : Point) (floor : ℕ) where
 
   pub one-nothing : {r : Option Point} → One c m m' p floor r → r ≡ None → m' ≡ m
   one-nothing h e = no-is (subst (One c m m' p floor) e h)
-
-pub next_on : (r : Next) → r.on ≡ true → next_of r ≡ Some r.point
-next_on r e = ap (λ (b : Bool). elim b [ true ↦ Some r.point | false ↦ None ]) e
-
-pub next_off : (r : Next) → r.on ≡ false → next_of r ≡ None
-next_off r e = ap (λ (b : Bool). elim b [ true ↦ Some r.point | false ↦ None ]) e
 
 -- after a turn the end is nearer
 pub nearer : (c : Code) (m m' : List ℕ) (p q : Point) → Going m p → Made c m m' p q → turns_left c (machine_at m' q.run) (state_at m' q) < turns_left c (machine_at m p.run) (state_at m p)

@@ -1,5 +1,5 @@
 -- Turns of a path, one after another.
-use Rattle.std.specs.Prelude.{ℕ, zero, suc, ◌+◌, ◌-◌, ◌≤◌, ◌<◌, ◌≡◌, Bool, true, false, List, eqb, get_or, Option, Some, None}
+use Rattle.std.specs.Prelude.{ℕ, zero, suc, ◌+◌, ◌-◌, ◌≤◌, ◌<◌, ◌≡◌, Bool, false, List, eqb, get_or, Option, Some, None}
 use Rattle.std.proofs.Math.ListN as lists
 use Rattle.semantics.specs.Int.{Op}
 use Rattle.semantics.specs.Program.{Window}
@@ -11,7 +11,6 @@ use Rattle.machine.specs.Memory.{cell_read_as, cell_at, machine_at}
 use Rattle.paths.specs.declared.Point.{Point}
 use Rattle.paths.specs.Point.{state_at, Going, Stays}
 use Rattle.paths.specs.Turn.{Onward}
-use Rattle.known_steps.specs.declared.Next.{Next}
 
 -- a turn without a step is no move; one with a step is a move where no outcome is forced
 pub data Paces (p : Point) (move : Bool) (q : Point) : Type 0 where
@@ -53,10 +52,6 @@ pub record Result (c : Code) (m : List ℕ) (p : Point) (v : ℕ) : Type 0 where
 pub data One (c : Code) (m m' : List ℕ) (p : Point) (floor : ℕ) : Option Point → Type 0 where
   one : {q : Point} → OneOrTwo c m m' p q → floor ≤ q.steps → One c m m' p floor (Some q)
   no : m' ≡ m → One c m m' p floor None
-
--- the point after the turn that was made, if one was
-abbrev pub next_of : Next → Option Point
-next_of r = elim r.on [ true ↦ Some r.point | false ↦ None ]
 
 -- ---- what the moves cost
 

@@ -15,7 +15,7 @@ ghost use Rattle.machine.specs.declared.Value.TheVariants.{Known};
 ghost use Rattle.paths.specs.declared.Point as point;
 ghost use Rattle.paths.specs.Point.{Going};
 ghost use Rattle.known_steps.specs.Cells.{value_as};
-ghost use Rattle.known_steps.specs.Turns.{Turns, Made, OneOrTwo, Result, One, next_of, moves, Passes};
+ghost use Rattle.known_steps.specs.Turns.{Turns, Made, OneOrTwo, Result, One, moves, Passes};
 
 use code::{Address, Code, Entry};
 use ints::{Comparison, Operation};
@@ -37,14 +37,6 @@ struct Operands {
     left: u32,
     right: u32,
     top: usize,
-}
-
-// Whether a turn was made, and the point after it.
-// A struct and no Option: in a struct the point stays in registers from turn to turn, and in an Option it goes through memory at each.
-#[derive(Drop)]
-pub struct Next {
-    pub on: bool,
-    pub point: Point,
 }
 
 // The point after turns, and what is left of the budget.
@@ -83,21 +75,23 @@ fn take(code: &Code, mem: &[u32], run: Run, j: usize) -> Operand
     if j == 0 || code.len() < j {
         return pop(mem, run);
     }
-    match code.entry(j - 1) {
-        Entry::Number(z) => Operand {
+    // Two questions and no match: a match asks first whether it is any other entry.
+    let entry = code.entry(j - 1);
+    if let Entry::Name(a) = entry {
+        let at = layout::FRAME * run.depth + layout::CELL * (a.0 % layout::CELLS);
+        Operand {
+            kind: mem[at],
+            word: mem[at + 1],
+            top: run.top,
+        }
+    } else if let Entry::Number(z) = entry {
+        Operand {
             kind: 0,
             word: ints::word(z),
             top: run.top,
-        },
-        Entry::Name(a) => {
-            let at = layout::FRAME * run.depth + layout::CELL * (a.0 % layout::CELLS);
-            Operand {
-                kind: mem[at],
-                word: mem[at + 1],
-                top: run.top,
-            }
         }
-        _ => pop(mem, run),
+    } else {
+        pop(mem, run)
     }
 }
 
@@ -192,17 +186,19 @@ fn assign(code: &Code, mem: &mut [u32], p: Point, v: u32) -> Point
 
 // An operation, if its values are known, and the assignment behind it.
 #[tactic(auto, using(crate::proofs::Making::no_turn))]
-fn work(code: &Code, mem: &mut [u32], p: Point, floor: usize, op: Operation, d: usize) -> Next
+fn work(
+    code: &Code,
+    mem: &mut [u32],
+    p: Point,
+    floor: usize,
+    op: Operation,
+    d: usize,
+) -> Option<Point>
     requires { Going mem.old p × (p.run.pc < 65536) × (as_entry (Operate op d) ≡ get_or code.now.entries p.run.pc (act fail)) × (floor < p.steps) }
-    ensures { One code.now mem.old mem.new p floor (next_of result) }
+    ensures { One code.now mem.old mem.new p floor result }
 {
     let run = p.run;
-    let Some(b) = pair(code, mem, run, d) else {
-        return Next {
-            on: false,
-            point: p,
-        };
-    };
+    let b = pair(code, mem, run, d)?;
     let v = operate(op, b.left, b.right);
     put(mem, layout::TEMPORARIES + layout::STRIDE * b.top, 0, v);
     let next = p.spend(Run {
@@ -210,34 +206,30 @@ fn work(code: &Code, mem: &mut [u32], p: Point, floor: usize, op: Operation, d: 
         top: b.top + 1,
         ..run
     });
-    Next {
-        on: true,
-        point: assign(code, mem, next, v),
-    }
+    Some(assign(code, mem, next, v))
 }
 
 // A comparison, if its values are known.
 #[tactic(auto, using(crate::proofs::Making::no_turn))]
-fn compare(code: &Code, mem: &[u32], p: Point, floor: usize, c: Comparison, d: usize) -> Next
+fn compare(
+    code: &Code,
+    mem: &[u32],
+    p: Point,
+    floor: usize,
+    c: Comparison,
+    d: usize,
+) -> Option<Point>
     requires { Going mem.now p × (p.run.pc < 65536) × (as_entry (Compare c d) ≡ get_or code.now.entries p.run.pc (act fail)) × (floor < p.steps) }
-    ensures { One code.now mem.now mem.now p floor (next_of result) }
+    ensures { One code.now mem.now mem.now p floor result }
 {
     let run = p.run;
-    let Some(b) = pair(code, mem, run, d) else {
-        return Next {
-            on: false,
-            point: p,
-        };
-    };
-    Next {
-        on: true,
-        point: p.spend(Run {
-            pc: run.pc + 1,
-            flag: holds(c, b.left, b.right),
-            top: b.top,
-            ..run
-        }),
-    }
+    let b = pair(code, mem, run, d)?;
+    Some(p.spend(Run {
+        pc: run.pc + 1,
+        flag: holds(c, b.left, b.right),
+        top: b.top,
+        ..run
+    }))
 }
 
 // An assignment.
@@ -262,67 +254,40 @@ fn store(code: &Code, mem: &mut [u32], p: Point, a: Address) -> Point
 
 // One turn, if it is one of these and leaves no fewer steps than the floor.
 #[tactic(auto, using(crate::proofs::Making::no_turn))]
-fn one(code: &Code, mem: &mut [u32], p: Point, floor: usize) -> Next
+fn one(code: &Code, mem: &mut [u32], p: Point, floor: usize) -> Option<Point>
     requires { Going mem.old p × (floor ≤ p.steps) }
-    ensures { One code.now mem.old mem.new p floor (next_of result) }
+    ensures { One code.now mem.old mem.new p floor result }
 {
     let run = p.run;
     if code.len() <= run.pc {
-        return Next {
-            on: false,
-            point: p,
-        };
+        return None;
     }
     match code.entry(run.pc) {
-        Entry::Number(_) | Entry::Name(_) | Entry::Argument(_) => Next {
-            on: true,
-            point: p.proceed(Run {
-                pc: run.pc + 1,
-                ..run
-            }),
-        },
+        Entry::Number(_) | Entry::Name(_) | Entry::Argument(_) => Some(p.proceed(Run {
+            pc: run.pc + 1,
+            ..run
+        })),
         Entry::Operate(op, d) if floor < p.steps => work(code, mem, p, floor, op, d as usize),
         Entry::Compare(c, d) if floor < p.steps => compare(code, mem, p, floor, c, d as usize),
-        Entry::Constant(flag) => Next {
-            on: true,
-            point: p.proceed(run.flagged(flag)),
-        },
-        Entry::Jump { flag, over } => Next {
-            on: true,
-            point: p.proceed(Run {
-                pc: run.landing(flag, over as usize),
-                ..run
-            }),
-        },
-        Entry::Skip(over) => Next {
-            on: true,
-            point: p.proceed(Run {
-                pc: run.pc + 1 + over as usize,
-                ..run
-            }),
-        },
-        Entry::Again(back) if floor < p.steps => Next {
-            on: true,
-            point: p.spend(Run {
-                pc: run.pc.saturating_sub(back as usize),
-                ..run
-            }),
-        },
-        Entry::Begin if floor < p.steps => Next {
-            on: true,
-            point: p.spend(Run {
-                pc: run.pc + 1,
-                ..run
-            }),
-        },
-        Entry::Store(a) => Next {
-            on: true,
-            point: store(code, mem, p, a),
-        },
-        _ => Next {
-            on: false,
-            point: p,
-        },
+        Entry::Constant(flag) => Some(p.proceed(run.flagged(flag))),
+        Entry::Jump { flag, over } => Some(p.proceed(Run {
+            pc: run.landing(flag, over as usize),
+            ..run
+        })),
+        Entry::Skip(over) => Some(p.proceed(Run {
+            pc: run.pc + 1 + over as usize,
+            ..run
+        })),
+        Entry::Again(back) if floor < p.steps => Some(p.spend(Run {
+            pc: run.pc.saturating_sub(back as usize),
+            ..run
+        })),
+        Entry::Begin if floor < p.steps => Some(p.spend(Run {
+            pc: run.pc + 1,
+            ..run
+        })),
+        Entry::Store(a) => Some(store(code, mem, p, a)),
+        _ => None,
     }
 }
 
@@ -332,14 +297,10 @@ fn make(code: &Code, mem: &mut [u32], begins: Point, floor: usize) -> Point
     ensures { Turns code.now mem.old begins mem.new result × Going mem.new result × (floor ≤ result.steps) }
 {
     let mut p = begins;
-    loop {
-        let next = one(code, mem, p, floor);
-        if next.on {
-            p = next.point;
-        } else {
-            return p;
-        }
+    while let Some(next) = one(code, mem, p, floor) {
+        p = next;
     }
+    p
 }
 
 // How many steps must be left where the budget pays for the moves.

@@ -230,16 +230,20 @@ fn take(code: &Code, mem: &[u32], run: Run, j: usize) -> Took
     if j == 0 || code.len() < j {
         return pop(mem, run);
     }
-    match code.entry(j - 1) {
-        Entry::Number(z) => Took {
-            value: Value::Known(z),
-            top: run.top,
-        },
-        Entry::Name(a) => Took {
+    // Two questions and no match: a match asks first whether it is any other entry.
+    let entry = code.entry(j - 1);
+    if let Entry::Name(a) = entry {
+        Took {
             value: variable(mem, run, Address(a.0 % layout::CELLS)),
             top: run.top,
-        },
-        _ => pop(mem, run),
+        }
+    } else if let Entry::Number(z) = entry {
+        Took {
+            value: Value::Known(z),
+            top: run.top,
+        }
+    } else {
+        pop(mem, run)
     }
 }
 

@@ -37,3 +37,6 @@ with_nothing {a} {ms} {p} {q} s = record { least = subst (λ (x : List ℕ). q �
 pub nothing : {a : List ℕ} {ms : List Meaning} {p : Option ℕ} {slots : List ℕ} → a ≡ [] → ms ≡ [] → Seen a ms p slots p slots
 unfolding least_with noted
 nothing e f = record { least = rw e; written = rw f }
+
+-- a list that ends in nothing
+pub ruleset ends = append-nil

@@ -95,6 +95,7 @@ fn see_call(
 
 // One event: what breaks the rule there, and what its name means.
 // Lent one by one and not as a struct: one with the slots, which change, would have to say that the others stay the same.
+#[tactic(auto, using(crate::proofs::Seeing::ends), unfolding(crate::specs::Steps::noted, text_rules::specs::Answers::least_with, text_rules::specs::Names::misnamed, text_rules::specs::Names::named, text_rules::specs::Names::uncalled, text_rules::specs::Scopes::on_name))]
 fn see<const ROOM: usize>(
     source: &Source,
     heads: &[Head],

@@ -7,8 +7,9 @@ ghost use Rattle.scopes.specs.Answers.{slot_of, or_zero};
 
 use crate::scope::Declaration;
 use code::Address;
+use lexer::same_bytes;
 use syntax::source::Source;
-use text_rules::spelling::same_name;
+use text_rules::spelling::spelling;
 
 // What a lookup finds, and how many declarations it has compared.
 #[derive(Drop)]
@@ -24,6 +25,8 @@ pub fn seek(source: &Source, declarations: &[Declaration], starts: &[usize], i: 
     ensures compared { result.compared ≡ N.compared (same_in source.now) (N.seen (blocks_of (map as_declared declarations.now) (reverse starts.now))) i }
     ensures small { or_zero (slot_of result) < 2 ^ 32 }
 {
+    // Read once, and not at each declaration.
+    let sought = spelling(source, i);
     let mut compared = 0;
     let mut found = None;
     let mut end = declarations.len();
@@ -31,7 +34,7 @@ pub fn seek(source: &Source, declarations: &[Declaration], starts: &[usize], i: 
         let start = starts[block];
         for k in (start..end).rev() {
             compared += 1;
-            if same_name(source, declarations[k].name, i) {
+            if same_bytes(spelling(source, declarations[k].name), sought) {
                 found = Some(Address(declarations[k].slot as usize));
                 break 'blocks;
             }

@@ -94,6 +94,7 @@ fn keep(code: &Code, mem: &mut [u32], p: Point, s: Stack) -> Stack
 
 // A path from the point that it begins at up to its end; none, where the budget was spent on the way. Each move costs one of the budget.
 // Code, memory and window are lent one by one: a struct with the memory, which changes, would have to say that the code stays the same.
+#[inline(always)]
 fn walk(
     code: &Code,
     mem: &mut [u32],
@@ -151,6 +152,22 @@ fn walk(
     }
 }
 
+// The same with a copy of the code: what is read through a reference to the caller's is read anew after each word that is written.
+fn walk_copied(
+    code: &Code,
+    mem: &mut [u32],
+    job: Window,
+    begins: Point,
+    stack: Stack,
+    budget: u32,
+) -> Option<Ended>
+    requires { Stands code.now (of_window job) mem.old begins stack × Filled (of_window job) }
+    ensures { Walking code.now (of_window job) stack.limit budget (machine_at mem.old begins.run) (state_at mem.old begins) mem.new result }
+{
+    let copy = code.copied();
+    walk(&copy, mem, job, begins, stack, budget)
+}
+
 // The checkpoints with at most i choices.
 fn drop_after(mem: &[u32], s: Stack, i: usize) -> Stack
     requires { Room mem.now s.height × (s.cells ≤ frame_cells) }
@@ -198,8 +215,8 @@ pub fn run_path(
     let s = drop_after(mem, stack, forced.saturating_sub(1));
     if s.height == 0 {
         let p = first(mem, s.limit, forced);
-        return walk(code, mem, job, p, s, budget);
+        return walk_copied(code, mem, job, p, s, budget);
     }
     let q = checkpoints::restore(mem, s.cells, s.height, forced);
-    walk(code, mem, job, q, s, budget)
+    walk_copied(code, mem, job, q, s, budget)
 }

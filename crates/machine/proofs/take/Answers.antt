@@ -3,4 +3,4 @@ use Rattle.machine.proofs.take.Goals as goal
 
 pub returns-in-Name : goal.returns-in-Name
 returns-in-Name c =
-    taking-name c.args.code.now c.args.mem.now c.args.run c.args.j c.entry.result c.if-j-eq0.false c.entry.ensures c.variable.result c.in-Name.a c.requires c.variable.ensures c.in-Name.is
+    taking-name c.args.code.now c.args.mem.now c.args.run c.args.j c.entry-entry.result c.if-j-eq0.false c.entry-entry.ensures c.variable.result c.in-Name.a c.requires c.variable.ensures c.in-Name.is

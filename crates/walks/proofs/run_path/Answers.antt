@@ -3,8 +3,8 @@ use Rattle.walks.proofs.Beginning.{checkpoints-left, uses-left, cells_left, room
 use Rattle.walks.proofs.run_path.Goals as goal
 
 -- src/lib.rt:177:9
-pub walk-requires : goal.walk-requires
-walk-requires c =
+pub walk_copied-requires : goal.walk_copied-requires
+walk_copied-requires c =
     let x = c.args.code.now in
     let job = of_window c.args.job in
     let room = room-left x job c.args.mem.now c.args.forced c.args.stack c.requires.0 c.saturating_sub.result c.saturating_sub.ensures c.drop_after-s.result c.drop_after-s.ensures in
@@ -20,7 +20,7 @@ returns-then-s-eq0 c =
     let room = room-left x job c.args.mem.now c.args.forced c.args.stack c.requires.0 c.saturating_sub.result c.saturating_sub.ensures c.drop_after-s.result c.drop_after-s.ensures in
     let uses = uses-left x job c.args.mem.now c.args.forced c.args.stack c.requires.0 c.saturating_sub.result c.saturating_sub.ensures c.drop_after-s.result c.drop_after-s.ensures in
     let cells = cells_left x job c.args.mem.now c.args.forced c.args.stack c.requires.0 c.saturating_sub.result c.saturating_sub.ensures c.drop_after-s.result c.drop_after-s.ensures in
-    first_walks x job c.args.mem.now c.first-p.new.mem c.drop_after-s.result c.first-p.result.run c.args.forced c.first-p.ensures.0 c.first-p.auto.mem room uses cells c.if-s-eq0.true c.first-p.result c.first-p.ensures.1 c.args.stack.limit c.args.budget c.walk.new.mem c.walk.result c.drop_after-s.ensures.limit c.walk.ensures
+    first_walks x job c.args.mem.now c.first-p.new.mem c.drop_after-s.result c.first-p.result.run c.args.forced c.first-p.ensures.0 c.first-p.auto.mem room uses cells c.if-s-eq0.true c.first-p.result c.first-p.ensures.1 c.args.stack.limit c.args.budget c.walk_copied.new.mem c.walk_copied.result c.drop_after-s.ensures.limit c.walk_copied.ensures
 
 -- src/lib.rt:179:9
 pub restore-q-requires : goal.restore-q-requires
@@ -36,8 +36,8 @@ restore-q-requires c =
     (ends-here x job c.args.mem.now c.drop_after-s.result c.args.forced c.requires.0.nodes c.requires.0.windows some ms room uses cells l, cells, space-here x job c.args.mem.now c.drop_after-s.result c.args.forced c.requires.0.nodes c.requires.0.windows some ms room uses cells l)
 
 -- src/lib.rt:180:5
-pub walk-requires-2 : goal.walk-requires-2
-walk-requires-2 c =
+pub walk_copied-requires-2 : goal.walk_copied-requires-2
+walk_copied-requires-2 c =
     let x = c.args.code.now in
     let job = of_window c.args.job in
     let room = room-left x job c.args.mem.now c.args.forced c.args.stack c.requires.0 c.saturating_sub.result c.saturating_sub.ensures c.drop_after-s.result c.drop_after-s.ensures in
@@ -59,4 +59,4 @@ returns c =
     let ms = checkpoints-left x job c.args.mem.now c.args.forced c.args.stack c.requires.0 c.saturating_sub.result c.saturating_sub.ensures c.drop_after-s.result c.drop_after-s.ensures in
     let some = some-forced x job c.args.mem.now c.args.forced c.args.stack c.requires.0 c.saturating_sub.result c.saturating_sub.ensures c.drop_after-s.result c.drop_after-s.ensures c.if-s-eq0.false in
     let l = some_left x job c.args.mem.now c.args.forced c.args.stack c.requires.0 c.saturating_sub.result c.saturating_sub.ensures c.drop_after-s.result c.drop_after-s.ensures c.if-s-eq0.false in
-    again_walks x job c.args.mem.now c.drop_after-s.result c.args.forced c.requires.0.nodes c.requires.0.windows some ms room uses cells l c.restore-q.new.mem c.restore-q.result c.restore-q.auto.mem c.restore-q.ensures c.args.stack.limit c.args.budget c.walk-2.new.mem c.walk-2.result c.drop_after-s.ensures.limit c.walk-2.ensures
+    again_walks x job c.args.mem.now c.drop_after-s.result c.args.forced c.requires.0.nodes c.requires.0.windows some ms room uses cells l c.restore-q.new.mem c.restore-q.result c.restore-q.auto.mem c.restore-q.ensures c.args.stack.limit c.args.budget c.walk_copied-2.new.mem c.walk_copied-2.result c.drop_after-s.ensures.limit c.walk_copied-2.ensures
